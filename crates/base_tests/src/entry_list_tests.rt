@@ -49,7 +49,7 @@ fn all_come_back(alloc: Global) -> Option<bool> {
     Some(first.is_empty() && given.len() == 6 && read)
 }
 
-/// Entries of each kind are packed, put behind others, handed out, and unpacked at their places.
+/// Entries of each kind are packed, put behind others, returned, and unpacked at their places.
 #[test]
 fn what_was_entered_comes_back(rt: HostRuntime) {
     assert!(rt; all_come_back(rt.alloc()) == Some(true));

@@ -1,4 +1,4 @@
-//! Worked reads and searches, and 100,000 that are told what is false.
+//! Worked reads and searches, and 100,000 that get false replies.
 mod lying;
 
 use crate::words::{key, record, stamp, tag};
@@ -106,7 +106,7 @@ fn readers_ask_for_what_is_missing(rt: HostRuntime) {
     }
 }
 
-/// What a search is told: the keys that a partition found, or of `x` what its GET is replied.
+/// What a search gets: the keys that a partition found, or of `x` what its GET is replied.
 #[derive(Clone, Copy)]
 enum Heard {
     Found(u32, Option<&'static str>),
@@ -115,7 +115,7 @@ enum Heard {
 
 type Row = (Heard, &'static str);
 
-/// How a search of two partitions is told of `x` alone, and reads it.
+/// How a search of two partitions hears of `x` alone, and reads it.
 const FINDS_X: [Row; 5] = [
     (Heard::Read(Told::Initial), "Ignored"),
     (Heard::Found(0, Some("x")), "Wait"),

@@ -18,7 +18,7 @@ fn send_once(table: &mut Table, ticket: u64) -> Option<u64> {
     table.send(message).ok()
 }
 
-/// Whether the message with this ticket is sent, and has this row: it is sent again where a growth was refused, which changes nothing.
+/// Whether the message with this ticket is sent, and has this row: it is sent again where an allocation failed, which changes nothing.
 fn sends(table: &mut Table, ticket: u64) -> bool {
     match send_once(table, ticket) {
         Some(row) => row == ticket,
@@ -40,7 +40,7 @@ fn reserve_once(table: &mut Table, n: u32) -> bool {
     table.sent() + u64::from(n) <= Table::MAX_ROWS && table.reserve(n).is_ok()
 }
 
-/// Makes room for `n` more: again where a growth was refused, which changes nothing.
+/// Makes room for `n` more: again where an allocation failed, which changes nothing.
 fn reserve(table: &mut Table, n: u32) -> bool {
     reserve_once(table, n) || reserve_once(table, n)
 }

@@ -129,7 +129,7 @@ fn all_come_back(alloc: Global) -> Option<bool> {
     Some(list.is_empty() && are_calls(&given, &calls) && are_replies(&told, &replies))
 }
 
-/// Calls and replies of every form are packed, handed out, and unpacked at their places.
+/// Calls and replies of every form are packed, returned, and unpacked at their places.
 #[test]
 fn what_was_packed_comes_back(rt: HostRuntime) {
     assert!(rt; all_come_back(rt.alloc()) == Some(true));

@@ -13,7 +13,7 @@ fn item(name: &str) -> Option<Item> {
     })
 }
 
-/// A writer of `x` and `y` under 1.1 in a store of two partitions, where `x` is at home at 0 and `y` at 1.
+/// A writer of `x` and `y` under 1.1 in a store of two partitions, where `x` belongs to 0 and `y` at 1.
 fn writer_of_x_and_y() -> Option<Writer> {
     let stamp = Stamp::new(1, 1)?;
     if stamp == Stamp::ZERO {

@@ -4,7 +4,7 @@ use stamps::Visits;
 use std::alloc::Global;
 
 /// Keys and the tags that they get in turn, in an index of so many keys; whether each was taken; and how many keys then stand under the
-/// tags `red` and `blue`, and which are told.
+/// tags `red` and `blue`, and which are reported.
 const ROWS: [(u32, &str, &str, &str); 10] = [
     (4, "x#red", "+", "1 x 0"),
     (4, "x#red x#blue", "++", "0 1 x"),
@@ -44,7 +44,7 @@ fn set(index: &mut TagIndex, item: &str) -> Option<bool> {
     Some(true)
 }
 
-/// Sets tags, and answers whether each was taken or not as it is told.
+/// Sets tags, and answers whether each was taken or not as it is reported.
 fn are_set(index: &mut TagIndex, items: &str, taken: &str) -> Option<bool> {
     for (item, wanted) in items.split(' ').zip(taken.chars()) {
         if set(index, item)? != (wanted == '+') {
@@ -54,7 +54,7 @@ fn are_set(index: &mut TagIndex, items: &str, taken: &str) -> Option<bool> {
     Some(true)
 }
 
-/// Adds how many keys stand under a tag, and those that are told, if each of them was looked at once.
+/// Adds how many keys stand under a tag, and those that are reported, if each of them was looked at once.
 fn tell(alloc: Global, index: &TagIndex, mark: &str, told: &mut String) -> Option<()> {
     let mut visits = Visits::new();
     let found = index.under_counted(&tag(mark)?, &mut visits);

@@ -36,7 +36,7 @@ keys_found parts keys e = let each = each_found same_text IsKey key_at key_is pa
 keys_again : (keys : List (List ℕ)) → AllByRecursion IsKey keys → each_at key_at keys ≡ Some keys
 keys_again keys h = ap (each_at key_at) (sym (same_keys keys)) ∙ each_again same_text IsKey key_at key_is keys h
 
--- keys that were joined are parted where they were joined
+-- keys that were joined are separated where they were joined
 split_keys : (key : List ℕ) (keys : List (List ℕ)) → AllByRecursion IsKey (key ∷ keys) → slice_split (λ b. eqb b 44) (keys_text (key ∷ keys)) ≡ key ∷ keys
 split_keys key [] h = slice_split_none (λ b. eqb b 44) key (All-from_recursion (λ b. eqb b 44 ≡ false) key (Lacks-allowed is_name_byte 44 refl key h.0.all_allowed))
 split_keys key (next ∷ keys) h =

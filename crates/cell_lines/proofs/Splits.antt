@@ -33,7 +33,7 @@ split_first-some byte (x ∷ xs) zero lt h e = rw e refl
 split_first-some byte (x ∷ xs) (suc at) lt h e =
     rw (not_true (eqb x byte) (h 0 (omega arith)), split_first-some byte xs at (omega arith) (λ k l. h (suc k) (omega arith)) e) refl
 
--- a text that was joined is parted where it was joined
+-- a text that was joined is separated where it was joined
 pub split_first-joined : (byte : ℕ) (xs ys : List ℕ) → Lacks byte xs → split_first byte (xs ++ byte ∷ ys) ≡ Some (xs, ys)
 unfolding split_first
 split_first-joined byte [] ys h = let e : eqb byte byte ≡ true = eq-eqb byte byte refl in rw e refl
@@ -52,7 +52,7 @@ pub chosen : {A : Type 0} (b : Bool) (x : A) (o : Option A) (y : A) → cond b (
 chosen true x o y e = inl (refl, cc)
 chosen false x o y e = inr (refl, e)
 
--- what was parted was joined
+-- what was separated was joined
 pub split_first-parts : (byte : ℕ) (xs front back : List ℕ) → split_first byte xs ≡ Some (front, back) → IsParted byte xs front back
 unfolding split_first
 split_first-parts byte [] front back e = absurd cc
@@ -68,7 +68,7 @@ split_first-parts byte (x ∷ xs) front back e =
           (record { parts = ap (λ (t : List ℕ). x ∷ t) r.parts; lacks = (h.0, r.lacks) })
     ]
 
--- a text without the byte is not parted
+-- a text without the byte is not separated
 pub split_first-lacks : (byte : ℕ) (xs : List ℕ) → Lacks byte xs → split_first byte xs ≡ None
 unfolding split_first
 split_first-lacks byte [] h = refl
@@ -82,7 +82,7 @@ chosen_none : {A : Type 0} (b : Bool) (x : A) (o : Option A) → cond b (Some x)
 chosen_none true x o e = absurd cc
 chosen_none false x o e = (refl, e)
 
--- a text that is not parted lacks the byte
+-- a text that is not separated lacks the byte
 pub lacks_from : (byte : ℕ) (text : List ℕ) → split_first byte text ≡ None → Lacks byte text
 unfolding split_first
 lacks_from byte [] e = tt

@@ -76,7 +76,7 @@ version_text r = r.key ++ at_sign ∷ (stamp_text r.stamp ++ tag_text r.tag)
 abbrev pub record_text : Record → List ℕ
 record_text r = version_text r ++ equals ∷ r.value
 
--- KEYS, parted by commas
+-- KEYS, separated by commas
 abbrev pub keys_text : List (List ℕ) → List ℕ
 keys_text = join_with_byte comma
 

@@ -84,7 +84,7 @@ pub fn read_value(text: &[u8]) -> Option<Value>
     Value::read(text)
 }
 
-/// 1 to 16 keys in byte order, each once, parted by commas.
+/// 1 to 16 keys in byte order, each once, separated by commas.
 pub(crate) fn read_writes(text: &[u8]) -> Option<WriteSet>
     ensures { result ≡ writes_at text.now }
 {

@@ -235,7 +235,7 @@ module _ (limits : List Limits) (given : List (ℕ × ℕ × Epoch)) where
           made journal.0 (journal_is rows partition tenant row row_is ∙ journal.1)
           (at_answer journal.0 answers there (onward partition tenant row.items answers journal.0 row_joined journal.1))
 
-  -- what a journal is made of tells its events
+  -- what a journal is made of reports its events
   same_events : (its : Limits) (own : List Epoch) (left : Epoch) (one two : Journal) → IsJoined its own left one → IsJoined its own left two → one.events.items ≡ two.events.items
   same_events its own left one two (ordered, same, start, account) (ordered', same', start', account') =
       let order = same_order (room_for its) own ordered ordered' left same same' start start' in

@@ -15,7 +15,7 @@ pub struct Closed {
     pub journals: Vec<Vec<Journal>>,
     /// For each partition how many events its journals have; those of earlier epochs are not counted.
     pub counts: Vec<Counts>,
-    /// The transcripts that were handed in. Entries that a seat handed out before are not in them.
+    /// The transcripts that were handed in. Entries that a seat returned before are not in them.
     pub transcripts: Vec<Transcript>,
 }
 

@@ -1,4 +1,4 @@
-//! Epochs and entries that were handed out before, put before what is left.
+//! Epochs and entries that were returned before, put before what is left.
 
 mod adding;
 mod filling;

@@ -1,4 +1,4 @@
-//! What a hub leaves when it is closed: journals, counts and transcripts; and the parts of these that were handed out
+//! What a hub leaves when it is closed: journals, counts and transcripts; and the parts of these that were returned
 //! before, put before the rest.
 #![tactic(auto)]
 

@@ -148,7 +148,7 @@ pub fault_weaker : (A B : Type 0) → (A → B) → (fault : ProgramFault) → I
 fault_weaker A B f fault (inl p) = inl (p.0, f p.1)
 fault_weaker A B f fault (inr memory) = inr memory
 
--- what is told of a fault is told of the result that has it
+-- what is reported of a fault is reported of the result that has it
 pub fault_on : (result : Result Asked ProgramFault) (fault : ProgramFault) (A B : Type 0) → IsErrAnd result (λ e. e ≡ fault)
     → IsWordsFault A fault → (A → B) → IfErr result (IsWordsFault B)
 fault_on (Ok asked) fault A B is h f = tt
@@ -156,7 +156,7 @@ fault_on (Err e) fault A B is h f = fault_weaker A B f e (subst (IsWordsFault A)
 
 -- ---- numbers
 
--- what is told of a number that is read
+-- what is reported of a number that is read
 pub record IsReadBy {E : Type 0} (gives : List ℕ → Result ℕ E → Type 0) (found : Found) (name : List ℕ) (result : Option ℕ) : Type 0 where
   pub none : one_text found name ≡ None → result ≡ None
   pub value : (text : List ℕ) → one_text found name ≡ Some text → ReadsOne gives text result

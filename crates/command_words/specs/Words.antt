@@ -149,7 +149,7 @@ load_command = with_rules (new_app (codes "load"))
 abbrev pub with_required : App → App
 with_required app = record app { top = record app.top { subcommand_required = true } }
 
--- which has a version, that `--version` tells
+-- which has a version, that `--version` reports
 abbrev pub with_version : App → App
 with_version app = record app { top = record app.top { has_version = true } }
 

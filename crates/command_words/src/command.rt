@@ -12,7 +12,7 @@ use clap::builder::ValueParser;
 use clap::{Arg, ArgAction, Command};
 use std::alloc::{AllocError, Global};
 
-/// Which program it is, as `ramp --version` tells.
+/// Which program it is, as `ramp --version` reports.
 const VERSION: &str = "0.1.0";
 
 const ABOUT: &str = "A key-value store of many tenants with read atomic transactions.";

@@ -25,7 +25,7 @@ pub struct EntryList {
     room: usize,
 }
 
-// What lies in it is let go here, so that no crate above proves it anew.
+// What lies in it is released here, so that no crate above proves it anew.
 impl Drop for EntryList {
     fn drop(self) {
         let EntryList {

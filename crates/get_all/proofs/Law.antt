@@ -25,7 +25,7 @@ use Rattle.get_all.proofs.Orderly.{first_orderly, second_orderly}
 use Rattle.get_all.proofs.New.{new_orderly}
 use Rattle.get_all.proofs.Whole.{unfractured}
 
--- what a read or a search tells at its end
+-- what a read or a search reports at its end
 abbrev pub IsTold : Move → Type 0
 IsTold (Reads readings) = Unit {0}
 IsTold (Lists readings) = Unit {0}
@@ -66,7 +66,7 @@ module _ (keys : List Key) (taken : List Message) (message : Message) (ord : IsO
   keeps (Get key (Some s)) (Some (ToGet reply)) e f wanted fine = cc
   keeps call reply e f wanted fine = cc
 
-  -- what is told is told of all that was read, which is unfractured: of round one,
+  -- what is reported is reported of all that was read, which is unfractured: of round one,
   first_told : (a b c : Bool) (calls : List Outgoing) (tells told : Move) → IsTold told → cond a (Fails IsTorn []) (cond (not b) Waits (cond c tells (Asks calls))) ≡ told
       → (a ≡ false) × (c ≡ true) × (tells ≡ told)
   first_told true b c calls tells told t h = absurd (subst IsTold (sym h) t)

@@ -142,7 +142,7 @@ module _ (setup : Setup) (tag : Tag) (taken : List Message) (message : Message) 
             (record { tagged = tagged ∙ s.tagged; parts = parts ∙ s.parts; ended = over ∙ sym ended; holds = λ open_yet. contrary (has_ended setup more) ended open_yet })
             (ended ∙ sym (ap is_last torn))
 
-        -- what is added to what was told
+        -- what is added to what was reported
         module _ (awaited : list_any (awaits p) f.asked ≡ true) (fits : IsFound found) (honest : strays ≡ false) (added : Finder)
             (asked : added.asked ≡ map (with_told p) f.asked) (total : added.total ≡ min (f.total + found.count) 17)
             (keys : added.total ≤ 16 → added.keys ≡ f.keys ++ found.keys) (unread : added.reads ≡ f.reads) where

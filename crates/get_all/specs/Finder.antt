@@ -24,7 +24,7 @@ use Rattle.get_all.specs.declared.finder.FindMove.{FindMove}
 use Rattle.get_all.specs.declared.finder.FindMove.TheVariants.{Wait, Begin, Ask, List as Listing, Restart, TooMany}
 use Rattle.get_all.specs.declared.finder.FindMove.TheVariants.{Torn, Ignored}
 
--- the move that a finder's answer tells, None where the reply is ignored
+-- the move that a finder's answer reports, None where the reply is ignored
 abbrev pub told : Setup → FindMove → Option Move
 told setup Wait = Some Waits
 told setup (Begin keys) = Some (Begins (first_calls setup keys))
@@ -35,7 +35,7 @@ told setup TooMany = Some (Fails AreTooMany [])
 told setup Torn = Some (Fails IsTorn [])
 told setup Ignored = None
 
--- what a search tells of an answer of its reader: of what is read the items of the tag
+-- what a search reports of an answer of its reader: of what is read the items of the tag
 abbrev pub listed : Tag → ReadMove → FindMove
 listed tag WaitRead = Wait
 listed tag (AskRead late) = Ask late

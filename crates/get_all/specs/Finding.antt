@@ -54,7 +54,7 @@ find_answer setup tag taken message =
 abbrev pub taken_with : Setup → List Message → Message → List Message
 taken_with setup taken message = cond (is_wanted setup taken message) (taken ++ message ∷ []) taken
 
--- the message tells what was found under a tag at the partition
+-- the message reports what was found under a tag at the partition
 pub record IsTold (partition : ℕ) (told : Findings) (message : Message) : Type 0 where
   pub tag : Tag
   pub call : message.call ≡ Found tag

@@ -27,7 +27,7 @@ use Rattle.get_all.specs.declared.reader.ReadMoveKind.TheVariants.{Ignored as Ig
 abbrev pub ask_for : Setup → Late → Outgoing
 ask_for setup late = record { partition = home setup late.key; call = Get late.key (Some late.stamp) }
 
--- the move that a reader's answer tells, None where the reply is ignored
+-- the move that a reader's answer reports, None where the reply is ignored
 abbrev pub told : Setup → (List Reading → Move) → ReadMove → Option Move
 told setup tells Wait = Some Waits
 told setup tells (Ask late) = Some (Asks (map (ask_for setup) late))
@@ -36,7 +36,7 @@ told setup tells (Restart key floor) = Some (Restarts key floor)
 told setup tells Torn = Some (Fails IsTorn [])
 told setup tells Ignored = None
 
--- what a turn of this reader tells, with what it asks for or read
+-- what a turn of this reader reports, with what it asks for or read
 abbrev pub told_by : Reader → ReadMoveKind → ReadMove
 told_by reader WaitKind = Wait
 told_by reader AskKind = Ask (late_by reader.slots)
@@ -80,7 +80,7 @@ pub record StandsFor (keys : List Key) (reader : Reader) (taken : List Message) 
   pub ended : reader.has_ended ≡ has_ended keys taken
   pub holds : has_ended keys taken ≡ false → HoldsShown keys reader taken
 
--- what is told by an answer that ends a read whole
+-- what is reported by an answer that ends a read whole
 abbrev pub IfRead : ReadMove → (List Reading → Type 0) → Type 0
 IfRead Wait P = Unit {0}
 IfRead (Ask late) P = Unit {0}

@@ -17,7 +17,7 @@ use Rattle.plain_store.specs.Rounds.{round_one_complete, round_two_complete, lat
 use Rattle.plain_store.specs.Rounds.{reading_of, readings, is_false_first, is_false_second}
 use Rattle.plain_store.specs.Moves.{Move, Reads, read_move, is_answered}
 
--- whether a reply ends the read: it is false on its face, or what it was asked for was collected
+-- whether a reply ends the read: it is inconsistent, or what it was asked for was collected
 abbrev pub is_last_reply : List Message → Call → Option Reply → Bool
 is_last_reply replies (Get key None) (Some (ToGet reply)) = is_false_first key reply
 is_last_reply replies (Get key (Some stamp)) (Some (ToGet (Version version))) =
@@ -46,7 +46,7 @@ is_wanted keys taken message =
     not (has_ended keys taken)
     && (is_of_read keys taken message.call message.reply && not (is_answered taken message.partition message.call))
 
--- what the read does once the message is offered to it; None where it is ignored. tells: how the answer is told
+-- what the read does once the message is offered to it; None where it is ignored. `tells`: how the answer is reported
 abbrev pub read_answer : Setup → List Key → (List Reading → Move) → List Message → Message → Option Move
 read_answer setup keys tells taken message =
     cond (is_wanted keys taken message)
@@ -83,7 +83,7 @@ IsUnfractured keys replies =
     → contains_key version.writes other ≡ true
     → version.stamp ≤ stamp_read keys replies other
 
--- what is told of a whole read is what the replies showed, unfractured
+-- what is reported of a whole read is what the replies showed, unfractured
 pub record ReadsWhole (keys : List Key) (replies : List Message) (told : List Reading) : Type 0 where
   pub shown : told ≡ readings keys replies
   pub unfractured : IsUnfractured keys replies

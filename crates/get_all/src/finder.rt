@@ -28,13 +28,13 @@ pub enum FindMove {
     Restart(Key, Stamp),
     /// More than 16 items were found.
     TooMany,
-    /// The reply was false on its face.
+    /// The reply was inconsistent.
     Torn,
     /// Nobody waited for the reply.
     Ignored,
 }
 
-/// The client's side of FIND: each partition tells which items stand under a tag, and these are then read as by
+/// The client's side of FIND: each partition reports which items stand under a tag, and these are then read as by
 /// a `Reader`. Of each partition the first reply counts.
 #[derive(Drop)]
 pub struct Finder {
@@ -55,7 +55,7 @@ pub struct Finder {
     ghost keys_counted: { length keys ≤ total },
 }
 
-/// Whether each key is at home at the partition.
+/// Whether each key belongs to the partition.
 fn are_at_home(keys: &[Key], partition: u32, parts: u32) -> bool
     requires { IsParts parts }
     ensures { result ≡ list_all (λ key. home_of key parts == partition) keys.now }
@@ -160,7 +160,7 @@ impl Finder {
         self.reader.reset(keys)
     }
 
-    /// Hands the reply to the GET of this key in round 1 or 2 to the read that its reader is lent to, as
+    /// Hands the reply to the GET of this key in round 1 or 2 to the read that its reader is borrowed by, as
     /// `Reader::take_kind` does.
     pub fn take_kind_alone(&mut self, key: &Key, round: u8, reply: &ReadReply) -> ReadMoveKind
         ensures first { (keys : List Key) (taken : List Message) (message : Message) → round ≡ 1 → StandsForRead keys self.old.reader taken
@@ -173,14 +173,14 @@ impl Finder {
         self.reader.take_kind(key, round, reply)
     }
 
-    /// The versions that round two of that read asks for, as `Reader::late_keys` tells them.
+    /// The versions that round two of that read asks for, as `Reader::late_keys` reports them.
     pub fn late_keys_alone(&self) -> LateKeys
         ensures { result ≡ late_by self.now.reader.slots }
     {
         self.reader.late_keys()
     }
 
-    /// Puts what that read gave into the place that is lent, as `Reader::readings` tells it.
+    /// Puts what that read gave into the caller's buffer, as `Reader::readings` reports it.
     pub fn readings_alone_into(&self, place: &mut Readings)
         ensures { place.new ≡ readings_by self.now.reader.slots }
     {
@@ -269,7 +269,7 @@ impl Finder {
         FindMove::Begin(found)
     }
 
-    /// Tells what the reader answered.
+    /// Reports what the reader answered.
     fn tell(&mut self, answer: ReadMove) -> FindMove
         ensures answer { result ≡ listed self.old.tag answer }
         ensures ended { self.new ≡ record self.old { has_ended = self.old.has_ended || is_last answer } }

@@ -307,7 +307,7 @@ impl ReadProgress {
         late
     }
 
-    /// Puts what is read, in the order given, into the place that is lent.
+    /// Puts what is read, in the order given, into the caller's buffer.
     pub(crate) fn readings_into(&self, place: &mut Readings)
         ensures { place.new ≡ readings_by self.now }
     {

@@ -18,7 +18,7 @@ pub enum ReadMove {
     Read(Readings),
     /// The version that was asked for lies below this floor of its key: a new read may find a later one.
     Restart(Key, Stamp),
-    /// The reply was false on its face.
+    /// The reply was inconsistent.
     Torn,
     /// Nobody waited for the reply.
     Ignored,
@@ -36,7 +36,7 @@ pub enum ReadMoveKind {
     Read,
     /// The version that was asked for lies below this floor of its key: a new read may find a later one.
     Restart(Key, Stamp),
-    /// The reply was false on its face.
+    /// The reply was inconsistent.
     Torn,
     /// Nobody waited for the reply.
     Ignored,
@@ -160,7 +160,7 @@ impl Reader {
         readings
     }
 
-    /// Does what `readings` does, and writes it into the place that is lent.
+    /// Does what `readings` does, and writes it into the caller's buffer.
     pub fn readings_into(&self, place: &mut Readings)
         ensures { place.new ≡ readings_by self.now.slots }
     {

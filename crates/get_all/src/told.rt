@@ -80,7 +80,7 @@ impl AskedList {
         self.0.as_slice()
     }
 
-    /// Whether what this partition tells is the first that it tells.
+    /// Whether what this partition reports is the first that it reports.
     pub(crate) fn await_told(&self, partition: u32) -> bool
         ensures { result ≡ list_any (awaits partition) self.now }
     {

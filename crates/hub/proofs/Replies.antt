@@ -187,7 +187,7 @@ if_tells (Writes stamp items) move P Q so is = tells_stamp stamp move (P []) (Q 
 if_tells (Gets keys) move P Q so is = if_reads move P Q so is
 if_tells (Finds tag) move P Q so is = if_lists move P Q so is
 
--- nothing was told of what is ignored
+-- nothing was reported of what is ignored
 ignored_tells : (asked : Asked) (P : List Reading → Type 0) → IfTells asked Ignored P
 ignored_tells (Writes stamp items) P = tt
 ignored_tells (Gets keys) P = tt
@@ -369,7 +369,7 @@ reads-begun name parts own Drawn request asked session started after entries mor
     may : MayBegin asked
     may = may_begin session request asked own begins passes
 
-    -- what was told from the beginning on
+    -- what was reported from the beginning on
     whole : (setup : Setup) → IsShown setup asked [] started.running → IfSays asked answer (IsToldOf name setup asked entries more)
     whole setup fresh =
         let P : Option Answer → Type 0 = λ o. Reads name setup asked entries entries started.running o in
@@ -396,7 +396,7 @@ reads-begun name parts own Drawn request asked session started after entries mor
         let P : Asked → Type 0 = λ a. IfSays a answer (IsToldOf name setup a entries more) in
         subst P begins (whole setup (shown setup is may))
 
--- a refusal tells no reading, and no stamp
+-- a refusal reports no reading, and no stamp
 pub reads-refused : (name : SeatName) (parts : ℕ) (Drawn : Stamp → Type 0) (request : SeatRequest) (refusal : Refusal) (answer : Answer) (start entries : List Entry) → answer ≡ says.Refused refusal
     → IsToldFor name parts Drawn request answer start entries
 reads-refused name parts Drawn (ask.Put items) refusal answer start entries is =
@@ -406,7 +406,7 @@ reads-refused name parts Drawn (ask.Get keys) refusal answer start entries is =
 reads-refused name parts Drawn (ask.Find tag) refusal answer start entries is = λ setup same.
     let P : Answer → Type 0 = λ a. IfListed a (IsListOf name setup tag start entries) in subst P (sym is) tt
 
--- and what an operation answers is what it read, for all else tells a fault
+-- and what an operation answers is what it read, for all else reports a fault
 pub reads-run : (name : SeatName) (parts : ℕ) (Drawn : Stamp → Type 0) (told : Result (Unit {0}) Fault) (request : SeatRequest) (start begun entries after : List Entry) (entered answer : Answer)
     → OnOk told (IsToldFor name parts Drawn request entered begun entries) → begun ≡ start → OnOk told (answer ≡ entered) → IfErr told (λ f. answer ≡ says.Refused (refusal_of f))
     → after ≡ entries → IsToldFor name parts Drawn request answer start after

@@ -144,7 +144,7 @@ makes_room parts own (ask.Get keys) asked begins may =
     ap (most_calls parts) begins ∙ few_keys keys.now (subst MayBegin begins may)
 makes_room parts own (ask.Find tag) asked begins may = ap (most_calls parts) begins
 
--- an open session tells how many calls are waited for
+-- an open session reports how many calls are waited for
 pub open_retry : (session : ClientSession) → session.is_open ≡ true → (told : Result ℕ Refusal) → IfErr told (λ refusal. test_open session ≡ Err refusal) → IsOk told
 open_retry session open_now (Ok count) refused = refl
 open_retry session open_now (Err refusal) refused = let none : Ok tt ≡ Err refusal = sym (ap (λ b. cond b (Ok tt) (Err Stopped)) open_now) ∙ refused in absurd cc

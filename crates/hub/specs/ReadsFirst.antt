@@ -23,7 +23,7 @@ IsEntered act old answer new =
     × Follows (begun_entries old act) (Some answer) new.entries)
     ⊎ ((is_unrecorded answer ≡ true) × IsLeftBy act answer old new)
 
--- The keys were read: what is told answers replies that this operation entered.
+-- The keys were read: what is reported answers replies that this operation entered.
 pub record IsReadBy (keys : List Key) (old : SeatView) (answer : Answer) (new : SeatView) : Type 0 where
   pub entered : IsEntered (Get old.name.client keys) old answer new
   pub read : IfRead answer (IsReadOf old.name keys (begun_entries old (Get old.name.client keys)) new.entries)

@@ -36,7 +36,7 @@ admission_test register tenant known most =
     (cond (cond (is_known known) false (nat_le most (clients_of register tenant))) (Some ClientsFull)
     (cond (nat_le (2 ^ 62) register.seats || nat_lt (2 ^ 62) (tickets_of known)) (Some RowsUsed) None))
 
--- the refusals of a client of a tenant that is there: 12, 24, 26, and 30 where a growth was refused
+-- the refusals of a client of a tenant that is there: 12, 24, 26, and 30 where an allocation failed
 abbrev pub is_unopened : Refusal → Bool
 is_unopened Busy = true
 is_unopened ClientsFull = true

@@ -68,7 +68,7 @@ AreAmong name asked (message ∷ messages) (entry ∷ entries) =
     (IsReplyIn name asked message entry × AreAmong name asked messages entries)
     ⊎ AreAmong name asked (message ∷ messages) entries
 
--- What is told answers replies that were entered after these entries, in their order: those that the session took.
+-- What is reported answers replies that were entered after these entries, in their order: those that the session took.
 -- Answers: those before the last, and the last
 pub record IsFromReplies (name : SeatName) (asked : Asked) (start entries : List Entry)
     (Answers : List Message → Message → Type 0) : Type 0 where
@@ -100,26 +100,26 @@ abbrev pub IsToldOf : SeatName → Setup → Asked → List Entry → List Entry
 IsToldOf name setup asked start entries told =
     IsFromReplies name asked start entries (λ taken last. IsAnswerTo setup asked taken last told)
 
--- what is said of an answer that tells what was read; a read lists nothing
+-- what is said of an answer that reports what was read; a read lists nothing
 abbrev pub IfRead : Answer → (List Reading → Type 0) → Type 0
 IfRead (Read told) P = P told
 IfRead (Listed told) P = ⊥
 IfRead answer P = Unit {0}
 
--- and of one that tells what was found; a search reads nothing
+-- and of one that reports what was found; a search reads nothing
 abbrev pub IfListed : Answer → (List Reading → Type 0) → Type 0
 IfListed (Read told) P = ⊥
 IfListed (Listed told) P = P told
 IfListed answer P = Unit {0}
 
--- what is said of the stamp of an answer that tells that a write is done; a write reads and lists nothing
+-- what is said of the stamp of an answer that reports that a write is done; a write reads and lists nothing
 abbrev pub IfDone : Answer → (Stamp → Type 0) → Type 0
 IfDone (Done stamp) P = P stamp
 IfDone (Read told) P = ⊥
 IfDone (Listed told) P = ⊥
 IfDone answer P = Unit {0}
 
--- by what was asked; a write that is done tells its own stamp, and no reading
+-- by what was asked; a write that is done reports its own stamp, and no reading
 abbrev pub IfSays : Asked → Answer → (List Reading → Type 0) → Type 0
 IfSays (Writes own items) answer P = IfDone answer (λ stamp. (stamp ≡ own) × P [])
 IfSays (Gets keys) answer P = IfRead answer P

@@ -76,7 +76,7 @@ spare (Some place) = 5
 
 -- ---- what an operation enters
 
--- an answer as a seat tells it, which names no rows of an end
+-- an answer as a seat reports it, which names no rows of an end
 abbrev pub at_seat : Answer → Answer
 at_seat (Ended refusal rows) = Ended refusal None
 at_seat answer = answer

@@ -340,7 +340,7 @@ impl<'a, G> Dispatcher<'a, G> {
         all
     }
 
-    /// Does what is due at a partition once its lock is let go.
+    /// Does what is due at a partition once its lock is released.
     fn follow_up<R: Wait>(&mut self, rt: &R, desk: &Shard, due: FollowUp)
         ensures sent { self.new.sent ≡ self.old.sent }
         ensures calls { (self.new.calls ≡ self.old.calls) × (self.new.queued ≡ self.old.queued) }

@@ -45,7 +45,7 @@ impl<'a, G: Gate> Seat<'a, G> {
         answer
     }
 
-    /// As `put_newest`, with the answer written into the place that is lent.
+    /// As `put_newest`, with the answer written into the caller's buffer.
     pub fn put_newest_into<R: Wait>(&mut self, rt: &R, items: &[Item], answer: &mut Answer)
         ensures answered { is_unrecorded answer.new ≡ false → last_answer self.new.entries ≡ Some answer.new }
         ensures both { IsReadAndWritten items.now self.old answer.new self.new }
@@ -67,7 +67,7 @@ impl<'a, G: Gate> Seat<'a, G> {
         self.put_all_into(rt, items, answer);
     }
 
-    /// Reads the keys of these items, and writes the answer of that into the place that is lent.
+    /// Reads the keys of these items, and writes the answer of that into the caller's buffer.
     fn read_first<R: Wait>(&mut self, rt: &R, items: &[Item], answer: &mut Answer)
         ensures read { IsReadBy (keys_written items.now) self.old answer.new self.new }
         ensures stopped { (answer.new ≡ Answer.Refused Refusal.Stopped) ↔ (self.old.stopped ≡ true) }

@@ -71,7 +71,7 @@ fn tell_ended(refusal: Refusal, answer: &mut Answer)
     *answer = Answer::Ended(refusal, None);
 }
 
-/// Writes the answer that a move ends an operation with into the place that is lent. An end names no rows.
+/// Writes the answer that a move ends an operation with into the caller's buffer. An end names no rows.
 fn tell_end(taken: &MoveKind, readings: &Readings, answer: &mut Answer)
     requires { is_last (moved taken.now readings.now) ≡ true }
     ensures exact { (rows : Told) → answer.new ≡ at_seat (answer_of (moved taken.now readings.now) rows) }
@@ -165,7 +165,7 @@ impl<'a, G: Gate> RunningOperation<'a, G> {
         Ok(())
     }
 
-    /// Runs the operation that was prepared, and writes its answer into the place that is lent. It takes at most so many
+    /// Runs the operation that was prepared, and writes its answer into the caller's buffer. It takes at most so many
     /// replies. Where the session refuses it, that is its answer.
     ///
     /// It fails with the first fault of a worker, after which nothing is entered any more. A call that did not go out, which is

@@ -97,7 +97,7 @@ impl Register {
         ensures seats { self.new.seats ≡ self.old.seats }
         ensures next { IfOk result (λ admission. admission ≡ next_session self.old.seats (known_of self.old tenant client) base) }
         ensures room { OnOk result (HasRoomFor self.new tenant client) }
-        // It is refused exactly by the first of the tests that it does not pass, or else for want of memory.
+        // It is refused exactly by the first of the tests that it does not pass, or else for an allocation failure.
         ensures refused { (refusal : Why) → admission_test self.old tenant (known_of self.old tenant client) limits.now.clients ≡ Some refusal → result ≡ Err refusal }
         ensures passed { admission_test self.old tenant (known_of self.old tenant client) limits.now.clients ≡ None → IfErr result (λ e. e ≡ Refusal.OutOfMemory) }
         ensures refusals { IfErr result (λ e. is_unopened e ≡ true) }

@@ -132,7 +132,7 @@ impl<'a, G: Gate> Seat<'a, G> {
         answer
     }
 
-    /// As `put_all`, with the answer written into the place that is lent.
+    /// As `put_all`, with the answer written into the caller's buffer.
     pub fn put_all_into<R: Wait>(&mut self, rt: &R, items: &[Item], answer: &mut Answer)
         ensures answered { is_unrecorded answer.new ≡ false → last_answer self.new.entries ≡ Some answer.new }
         ensures recorded { is_unrecorded answer.new ≡ false → Follows (self.old.entries ++ Entry.Began (Put self.old.name.client items.now) ∷ []) (Some answer.new) self.new.entries }
@@ -154,8 +154,8 @@ impl<'a, G: Gate> Seat<'a, G> {
 
     /// Reads the keys, and returns when all calls were answered. The refusals are those of `put_all`.
     ///
-    /// What it tells is the reader's answer to replies that this operation entered, whatever they are, each given to just the
-    /// call that was answered by it: each version that it tells was in one of them, and it shows no write in part among those
+    /// What it reports is the reader's answer to replies that this operation entered, whatever they are, each given to just the
+    /// call that was answered by it: each version that it reports was in one of them, and it shows no write in part among those
     /// whose write sets they told.
     pub fn get_all<R: Wait>(&mut self, rt: &R, keys: &[Key]) -> Answer
         ensures answered { is_unrecorded result ≡ false → last_answer self.new.entries ≡ Some result }
@@ -177,7 +177,7 @@ impl<'a, G: Gate> Seat<'a, G> {
         answer
     }
 
-    /// As `get_all`, with the answer written into the place that is lent.
+    /// As `get_all`, with the answer written into the caller's buffer.
     pub fn get_all_into<R: Wait>(&mut self, rt: &R, keys: &[Key], answer: &mut Answer)
         ensures answered { is_unrecorded answer.new ≡ false → last_answer self.new.entries ≡ Some answer.new }
         ensures recorded { is_unrecorded answer.new ≡ false → Follows (self.old.entries ++ Entry.Began (GetAll self.old.name.client keys.now) ∷ []) (Some answer.new) self.new.entries }
@@ -221,7 +221,7 @@ impl<'a, G: Gate> Seat<'a, G> {
         answer
     }
 
-    /// As `find`, with the answer written into the place that is lent.
+    /// As `find`, with the answer written into the caller's buffer.
     pub fn find_into<R: Wait>(&mut self, rt: &R, tag: Tag, answer: &mut Answer)
         ensures answered { is_unrecorded answer.new ≡ false → last_answer self.new.entries ≡ Some answer.new }
         ensures recorded { is_unrecorded answer.new ≡ false → Follows (self.old.entries ++ Entry.Began (Find self.old.name.client tag) ∷ []) (Some answer.new) self.new.entries }
@@ -254,7 +254,7 @@ impl<'a, G: Gate> Seat<'a, G> {
         seat.end(rt)
     }
 
-    /// Ends the session, and answers its transcript. Entries that were handed out are not in it.
+    /// Ends the session, and answers its transcript. Entries that were returned are not in it.
     pub fn end<R: Wait>(self, rt: &R) -> Transcript
         ensures entries { result.entries.items ≡ self.entry.entries }
         ensures name { IsNamed result self.entry.name }
@@ -276,7 +276,7 @@ impl<'a, G: Gate> Seat<'a, G> {
         }
     }
 
-    /// Runs an operation, takes at most so many replies, and writes its answer into the place that is lent.
+    /// Runs an operation, takes at most so many replies, and writes its answer into the caller's buffer.
     fn run<R: Wait>(&mut self, rt: &R, request: &SeatRequest<'_>, takes: usize, answer: &mut Answer)
         ensures answered { is_unrecorded answer.new ≡ false → last_answer self.new.entries ≡ Some answer.new }
         ensures recorded { is_unrecorded answer.new ≡ false → Follows (self.old.entries ++ Entry.Began (act_of self.old.name.client request.now) ∷ []) (Some answer.new) self.new.entries }

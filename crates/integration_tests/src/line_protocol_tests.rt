@@ -1,4 +1,4 @@
-//! Lines in and out, by worked rows.
+//! Lines in and out, by golden tests.
 use crate::tables::{is_answer, is_reply};
 use bytes::BytesMut;
 use line_protocol::{
@@ -162,7 +162,7 @@ fn shown_call(alloc: Global, call: &Call) -> Result<String, AllocError> {
     }
 }
 
-/// What the tenant at this place is told to do.
+/// What the tenant at this place is asked to do.
 fn shown_step(alloc: Global, tenant: u32, act: &Act) -> Result<String, AllocError> {
     match act {
         Act::Hello(client, base) => format!(in alloc; "{tenant} hello {client} {base:?}"),

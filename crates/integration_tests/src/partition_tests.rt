@@ -1,4 +1,4 @@
-//! Calls of two tenants to one shelf, by worked rows: `t` is the first tenant, `u` the second.
+//! Calls of two tenants to one shelf, by golden tests: `t` is the first tenant, `u` the second.
 use crate::tables::{is_reply, no_parts};
 use line_protocol::read_cell_line;
 use partition::Shelf;

@@ -1,4 +1,4 @@
-//! Lines as they are wanted: in a table a row is `WHAT IS ASKED => WHAT IS ANSWERED`, both as they are spelled.
+//! Lines as they are expected: in a table a row is `WHAT IS ASKED => WHAT IS ANSWERED`, both as they are spelled.
 use bytes::BytesMut;
 use line_protocol::{LINE_LIMIT, write_answer, write_reply};
 use plain_store::{Answer, Call, ReadReply, Reply};

@@ -65,7 +65,7 @@ fn reply_of(text: &str) -> Option<Reply> {
     }
 }
 
-/// Whether the call goes to the partition and asks for what is told so.
+/// Whether the call goes to the partition and asks for what is said so.
 fn is_call(call: &Message, wanted: &str) -> bool {
     let (place, line) = wanted.split_once(' ').unwrap_or((wanted, ""));
     match read_cell_line(line.as_bytes()) {
@@ -125,7 +125,7 @@ impl Played {
         }
     }
 
-    /// Whether this is told where the call that is held gets the reply.
+    /// Whether this is reported where the call that is held gets the reply.
     fn takes(&mut self, alloc: Global, reply: &str, wanted: &str) -> Option<bool> {
         let _named = no_parts();
         let message = replied(self.held, reply_of(reply))?;
@@ -167,7 +167,7 @@ impl Played {
         }
     }
 
-    /// A hello: again where a growth was refused, which changes nothing.
+    /// A hello: again where an allocation failed, which changes nothing.
     fn hello(&mut self, client: Client, base: Counter) -> Answer {
         let mut ready = self.sessions.hello(client, base);
         if ready == Err(Refusal::OutOfMemory)

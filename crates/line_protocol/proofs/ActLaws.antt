@@ -48,7 +48,7 @@ pub parted : (text : List ℕ) → text ≡ (part_at 32 text).0 ++ spaced (parts
 unfolding part_at
 parted text = parted-by text (split_first 32 text) refl
 
--- the words after the first, as they are parted
+-- the words after the first, as they are separated
 abbrev pub after_first : List (List ℕ) → Option (List ℕ)
 after_first [] = None
 after_first (word ∷ words) = Some (word ++ spaced words)

@@ -131,7 +131,7 @@ stays_too_long Partial bytes held piece e v h = absurd cc
 stays_too_long Whole bytes held piece e v h = absurd cc
 stays_too_long Spent bytes held piece e v h = absurd cc
 
--- what waits is handed out before more is taken
+-- what waits is returned before more is taken
 pub waits : (stage : LineState) (bytes held : List ℕ) → stage ≡ Whole → at_stage stage bytes ≡ held → list_any (λ b. eqb b 10) held ≡ true
 waits Whole bytes held e v = rw (← v) (any-terminated bytes [])
 waits _ bytes held e v = absurd cc
@@ -139,7 +139,7 @@ waits _ bytes held e v = absurd cc
 pub too_long_held : (stage : LineState) (bytes held : List ℕ) → stage ≡ TooLong → at_stage stage bytes ≡ held → AreHeld stage bytes → IsTooLong held
 too_long_held stage bytes held e v h = let t = stays_too_long stage bytes held [] e v h in rw append-nil at t.0
 
--- ---- what is taken is a front of the piece
+-- ---- what is taken is a prefix of the piece
 
 pub record IsFront (front piece : List ℕ) : Type 0 where
   pub is : take (length front) piece ≡ front

@@ -28,7 +28,7 @@ reading_text reading = reading.item.key ++ at_sign ∷ (stamp_text reading.stamp
 abbrev pub readings_text : List Reading → List ℕ
 readings_text = words_text reading_text
 
--- parted by spaces
+-- separated by spaces
 abbrev pub parted_readings_text : List Reading → List ℕ
 parted_readings_text [] = []
 parted_readings_text (reading ∷ readings) = reading_text reading ++ readings_text readings

@@ -1,4 +1,4 @@
--- What `Lines` holds: the bytes that it took and has not handed out.
+-- What `Lines` holds: the bytes that it took and has not returned.
 use Rattle.std.specs.Prelude.{◌≡◌, ◌≢◌, ◌⊎◌, ℕ, ◌+◌, ◌<◌, ◌≤◌, List, [], ◌++◌, length, take, Option, Some, None}
 use Rattle.std.specs.Prelude.{Result, Ok, Err, ◌==◌, if◌then◌else◌, vec_capacity}
 use Rattle.std.specs.Borrow.{Bor}
@@ -25,7 +25,7 @@ JoinsHeld old bytes new = new ≡ old ++ bytes
 abbrev pub Waits : List ℕ → List ℕ → Type 0
 Waits held line = (held ≡ terminated line) × IsLine line
 
--- a line that is handed out is held no more
+-- a line that is returned is held no more
 abbrev pub HandsOut : List ℕ → Option (Bor (List ℕ)) → List ℕ → Type 0
 HandsOut old None new = new ≡ old
 HandsOut old (Some line) new = new ≡ []

@@ -37,7 +37,7 @@ pub record IsNumberOf (names : List (List ℕ)) (name : List ℕ) (number : ℕ)
 abbrev pub IsNobody : List (List ℕ) → List ℕ → Type 0
 IsNobody names name = (number : ℕ) → IsNumberOf names name number → ⊥
 
--- ---- what a tenant's store is told to do
+-- ---- what a tenant's store is asked to do
 
 -- ITEM: KEY=VALUE, or KEY#TAG=VALUE
 abbrev pub item_text : Item → List ℕ

@@ -1,4 +1,4 @@
--- A stream that comes in pieces, and the lines that are handed out as it comes.
+-- A stream that comes in pieces, and the lines that are returned as it comes.
 use Rattle.std.specs.Prelude.{◌≡◌, ℕ, List, [], ◌∷◌, ◌++◌}
 use Rattle.cell_lines.specs.Stream.{HasNoLineFeed, lines_of}
 use Rattle.line_protocol.specs.Held.{JoinsHeld, Waits}
@@ -24,13 +24,13 @@ stream_of [] = []
 stream_of (Took bytes ∷ transfers) = bytes ++ stream_of transfers
 stream_of (Gave line ∷ transfers) = stream_of transfers
 
--- the lines that they handed out
+-- the lines that they returned
 abbrev pub given_of : List Transfer → List (List ℕ)
 given_of [] = []
 given_of (Took bytes ∷ transfers) = given_of transfers
 given_of (Gave line ∷ transfers) = line ∷ given_of transfers
 
--- The lines handed out are the stream's first, in its order. Those that are still to come are the lines of
+-- The lines returned are the stream's first, in its order. Those that are still to come are the lines of
 -- what is held and whatever follows, so that none is left where no LF is held.
 pub record AreInOrder (transfers : List Transfer) (held : List ℕ) : Type 0 where
   pub first : (following : List ℕ)

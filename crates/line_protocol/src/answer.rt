@@ -186,7 +186,7 @@ fn put_readings(out: &mut BytesMut, readings: &[Reading])
     }
 }
 
-// Parted by spaces.
+// Separated by spaces.
 fn put_parted_readings(out: &mut BytesMut, readings: &Readings)
     requires { readings_room ≤ out.old.spare }
     ensures { Appends readings_room out.old out.new (parted_readings_text readings.now) }

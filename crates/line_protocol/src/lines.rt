@@ -26,7 +26,7 @@ enum LineState {
     Partial,
     /// A line whose LF has come. The LF is not among the bytes.
     Whole,
-    /// A line that was handed out.
+    /// A line that was returned.
     Spent,
     /// [`LINE_LIMIT`] bytes, and no LF among them.
     TooLong,
@@ -34,7 +34,7 @@ enum LineState {
 
 /// Cuts a stream of bytes into lines, in whatever pieces it comes. An LF ends a line.
 ///
-/// A contract sees it as the bytes that it took and has not handed out: the beginning of a line, or one whole
+/// A contract sees it as the bytes that it took and has not returned: the beginning of a line, or one whole
 /// line with its LF, or a beginning that is too long for a line.
 #[derive(Drop)]
 pub struct Lines {
@@ -99,7 +99,7 @@ impl Lines {
     }
 
     /// Hands out the line that waits, without its LF. There is none until its LF was taken, nor after it was
-    /// handed out.
+    /// returned.
     pub fn next_line(&mut self) -> Option<&[u8]>
         ensures waiting { IfSome result (λ line. Waits self.old line.now) }
         ensures none_waits { IfNone result (HasNoLineFeed self.old) }

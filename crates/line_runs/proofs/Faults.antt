@@ -11,7 +11,7 @@ use Rattle.line_runs.specs.RunAnswers.{AnsweredFront, AnsweredPart, AnsweredSoFa
 use Rattle.line_runs.proofs.Fronts.{AnswersFront-refl, AnswersFront-some}
 use Rattle.line_runs.proofs.Lines.{lines_of-none}
 
--- what stops behind a front of the lines has answered it
+-- what stops behind a prefix of the lines has answered it
 pub stopped : {S : Type 0} (replies : S → List (List ℕ) → List ℕ → Type 0) (none : (s : S) → replies s [] []) (first last : S) (input old new : Option (List ℕ))
     → StopsAt replies first last input old new → AnsweredFront (replies first) input old new
 stopped replies none first last None old new stops = tt
@@ -58,7 +58,7 @@ so_far_is_part P (Some input) None old new h = absurd h
 so_far_is_part P (Some input) (Some left) old new h =
     (h.1, length h.1, inl (h.0, left, h.2, h.3), subst (Appends old new) (sym (take-length h.1)) h.4)
 
--- ---- what is told of a result that has a fault
+-- ---- what is reported of a result that has a fault
 
 -- what holds at a fault holds of the result that has it
 pub at_fault : {T : Type 0} (result : Result T RunFault) (fault : RunFault) (P : RunFault → Type 0) → IsErrAnd result (λ e. e ≡ fault) → P fault → IfErr result P

@@ -1,4 +1,4 @@
--- How a front of a stream is answered: for `run_lines`, `answer_piece` and `answer_waiting`.
+-- How a prefix of a stream is answered: for `run_lines`, `answer_piece` and `answer_waiting`.
 use Rattle.std.proofs.Common.{◌≡◌, ℕ, ◌+◌, List, [], ◌∷◌, ◌++◌, length, take, drop, Option, refl, sym, ap, subst, ◌∙◌, append_assoc, take-append-drop}
 use Rattle.std.proofs.Math.Seq.{take-append-add}
 use Rattle.std.proofs.KnownBytes.{Appends-trans}
@@ -17,7 +17,7 @@ pub begins_behind : (old mid new : Option (List ℕ)) (xs ys : List ℕ) (n : �
 begins_behind old mid new xs ys n first second =
     subst (Appends old new) (sym (take-append-add xs ys n)) (Appends-trans old mid new xs (take n ys) first second)
 
--- where a front of what is gathered was written, a beginning of the rest stands behind it
+-- where a prefix of what is gathered was written, a beginning of the rest stands behind it
 pub begins_behind_gathered : (a b c : Option (List ℕ)) (before after text more : List ℕ) (n : ℕ) (h : Gathers a b before after text) → Appends b c (take n (after ++ more))
     → Appends a c (take (length h.written + n) (before ++ (text ++ more)))
 begins_behind_gathered a b c before after text more n h adds =

@@ -17,7 +17,7 @@ then_nothing : (a b c : Option (List ℕ)) (xs : List ℕ) → Appends a b xs �
 then_nothing a b c xs first second = subst (Appends a c) (append-nil xs) (Appends-trans a b c xs [] first second)
 
 module _ {S : Type 0} (replies : S → List (List ℕ) → List ℕ → Type 0) where
-  -- a front of the stream was answered, and a beginning of the text was written
+  -- a prefix of the stream was answered, and a beginning of the text was written
   abbrev Begins : S → S → List ℕ → Option (List ℕ) → Option (List ℕ) → Type 0
   Begins now next stream old new = (text : List ℕ) × (left : List ℕ) × (n : ℕ) × AnswersFront replies now next stream left text × Appends old new (take n text)
 

@@ -11,14 +11,14 @@ use Rattle.line_runs.proofs.Fronts.{AnswersFront-goes, AnswersFront-refl, Answer
 use Rattle.line_runs.proofs.Steps.{Continues-trans, Answers-done}
 
 module _ {S : Type 0} (replies : S → List (List ℕ) → List ℕ → Type 0) where
-  -- Where the reader tells its bytes: what was written answers a front of them, the bytes held and those left follow it, and no read was for nothing.
+  -- Where the reader reports its bytes: what was written answers a prefix of them, the bytes held and those left follow it, and no read was for nothing.
   abbrev pub IsRunning : S → S → List ℕ → ℕ → Option (List ℕ) → Option (List ℕ) → Option (List ℕ) → Option (List ℕ) → Type 0
   IsRunning first now held reads None left old new = ⊤
   IsRunning first now held reads (Some input) None old new = ⊥
   IsRunning first now held reads (Some input) (Some left) old new =
       (written : List ℕ) × Appends old new written × AnswersFront replies first now input (held ++ left) written × (reads + length left ≤ length input)
 
-  -- what is told of the input at the end
+  -- what is reported of the input at the end
   abbrev pub IsEnded : S → Option (List ℕ) → Option (List ℕ) → Option (List ℕ) → End → Type 0
   IsEnded first input old new end = IfSome input (λ stream. (written : List ℕ) × Answers replies first stream written end × Appends old new (written ++ text_at_end end))
 
@@ -27,7 +27,7 @@ module _ {S : Type 0} (replies : S → List (List ℕ) → List ℕ → Type 0) 
   IsRunning-begins s None writer = tt
   IsRunning-begins s (Some input) writer = ([], Appends-nil writer, AnswersFront-refl replies s input, omega arith)
 
-  -- the bytes held and a piece of those left are a front of both
+  -- the bytes held and a piece of those left are a prefix of both
   joined : (held piece left after : List ℕ) → left ≡ piece ++ after → held ++ left ≡ (held ++ piece) ++ after
   joined held piece left after eats = ap (λ (t : List ℕ). held ++ t) eats ∙ sym (append_assoc held piece after)
 

@@ -24,7 +24,7 @@ text_at_end Whole = []
 text_at_end TooLong = terminated (refused_text 41)
 text_at_end Cut = terminated (refused_text 42)
 
--- a text joined what was gathered, and a front of all that was written
+-- a text joined what was gathered, and a prefix of all that was written
 pub record Gathers (old new : Option (List ℕ)) (before after text : List ℕ) : Type 0 where
   pub written : List ℕ
   pub appends : Appends old new written
@@ -47,13 +47,13 @@ module _ {S : Type 0} (replies : S → List (List ℕ) → List ℕ → Type 0) 
   abbrev pub Passes : S → S → List ℕ → List ℕ → Type 0
   Passes first second bytes text = (more : List ℕ) → Continues first second (bytes ++ more) more text
 
-  -- a front of the stream was answered by the text, and the rest is left
+  -- a prefix of the stream was answered by the text, and the rest is left
   pub record AnswersFront (first second : S) (stream left text : List ℕ) : Type 0 where
     pub front : List ℕ
     pub whole : stream ≡ front ++ left
     pub passes : Passes first second front text
 
-  -- What a fault leaves, where a text was gathered before. Memory: a front of the stream was answered by a text that
+  -- What a fault leaves, where a text was gathered before. Memory: a prefix of the stream was answered by a text that
   -- is written or gathered. A write: a beginning of what was gathered and of that text is written, and nothing is
   -- gathered.
   abbrev pub LeavesOff : S → S → List ℕ → Option (List ℕ) → Option (List ℕ) → List ℕ → List ℕ
@@ -66,7 +66,7 @@ module _ {S : Type 0} (replies : S → List (List ℕ) → List ℕ → Type 0) 
       (text : List ℕ) × (left : List ℕ) × AnswersFront first second stream left text
       × (n : ℕ) × Appends old new (take n (before ++ text)) × (after ≡ [])
 
-  -- Where the reader tells its bytes: a front of them was answered, and the service goes on behind it.
+  -- Where the reader reports its bytes: a prefix of them was answered, and the service goes on behind it.
   abbrev pub StopsAt : S → S → Option (List ℕ) → Option (List ℕ) → Option (List ℕ) → Type 0
   StopsAt first second input old new = IfSome input (λ stream.
       (text : List ℕ) × (left : List ℕ) × AnswersFront first second stream left text × Appends old new text)
@@ -74,7 +74,7 @@ module _ {S : Type 0} (replies : S → List (List ℕ) → List ℕ → Type 0) 
 -- What was written where a run failed, over a reader and a writer that tell their bytes. Which text answers which
 -- lines is any relation.
 module _ (answers : List (List ℕ) → List ℕ → Type 0) where
-  -- the text answers the lines of a front of the stream
+  -- the text answers the lines of a prefix of the stream
   abbrev pub AnswersSome : List ℕ → List ℕ → Type 0
   AnswersSome stream text =
       (front : List ℕ) × (rest : List ℕ) × (stream ≡ front ++ rest) × answers (lines_of front) text
@@ -92,19 +92,19 @@ module _ (answers : List (List ℕ) → List ℕ → Type 0) where
       (taken : List ℕ) × (written : List ℕ) × (input ≡ taken ++ left) × answers (lines_of taken) written
       × Appends old new written
 
-  -- what was written answers the lines of a front of the input
+  -- what was written answers the lines of a prefix of the input
   abbrev pub AnsweredFront : Option (List ℕ) → Option (List ℕ) → Option (List ℕ) → Type 0
   AnsweredFront input old new =
       IfSome input (λ stream. (text : List ℕ) × AnswersSome stream text × Appends old new text)
 
-  -- what was written is a beginning of what answers a front of the input, or all of it
+  -- what was written is a beginning of what answers a prefix of the input, or all of it
   abbrev pub AnsweredPart : Option (List ℕ) → Option (List ℕ) → Option (List ℕ) → Type 0
   AnsweredPart input old new = IfSome input (λ stream.
       (text : List ℕ) × (n : ℕ) × (AnswersSome stream text ⊎ AnswersAll stream text) × Appends old new (take n text))
 
   -- What was written where a run failed so. At a read, and where the reads were used up, the lines of all that was
   -- read are answered, and reads are used up only by an input of as many bytes; at a write a beginning of the answers
-  -- was written; at want of memory the lines before are answered.
+  -- was written; at an allocation failure the lines before are answered.
   abbrev pub FailsSo : Option (List ℕ) → Option (List ℕ) → Option (List ℕ) → Option (List ℕ) → RunFault → Type 0
   FailsSo input left old new Read = AnsweredSoFar input left old new
   FailsSo input left old new ReadsUsed =

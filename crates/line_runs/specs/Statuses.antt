@@ -26,6 +26,6 @@ fault_of_run ReadsUsed = Device
 fault_of_run Write = Device
 fault_of_run NoMemory = OutOfMemory
 
--- the exit status of a program that was asked for help: 0, or that of want of memory or of a device
+-- the exit status of a program that was asked for help: 0, or that of an allocation failure or of a device
 abbrev pub IsHelpStatus : ℕ → Type 0
 IsHelpStatus status = (status ≡ 0) ⊎ ((status ≡ status_of OutOfMemory) ⊎ (status ≡ status_of Device))

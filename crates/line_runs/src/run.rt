@@ -39,7 +39,7 @@ pub fn run_lines<S: LineService, R: Read, W: Write>(
     ensures answered { IfOk result (λ end. IfSome (R.remaining reader.old) (λ input.
         (written : List ℕ) × Answers S.replies service.old input written end
         × Appends (W.contents writer.old) (W.contents writer.new) (written ++ text_at_end end))) }
-    // At a fault a front of the lines is answered: all that were read, where it was no write and no want of memory.
+    // At a fault a prefix of the lines is answered: all that were read, where it was no write and no allocation failure.
     ensures failed { IfErr result (FailsSo (S.replies service.old) (R.remaining reader.old) (R.remaining reader.new)
         (W.contents writer.old) (W.contents writer.new)) }
     // Where memory was refused, the service stands behind the lines that are answered.
@@ -59,7 +59,7 @@ pub fn run_lines<S: LineService, R: Read, W: Write>(
     )
 }
 
-// Answers the lines of a stream, of which nothing was taken in, by the pieces that reads put into the place that is lent.
+// Answers the lines of a stream, of which nothing was taken in, by the pieces that reads put into the caller's buffer.
 fn answer_all<S: LineService, R: Read, W: Write>(
     service: &mut S,
     lines: &mut Lines,

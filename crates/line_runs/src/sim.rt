@@ -47,7 +47,7 @@ impl LineService for SimService<'_> {
     }
 }
 
-// Appends the store's answer to a step, for which there is room. The answer is put into the place that is lent.
+// Appends the store's answer to a step, for which there is room. The answer is put into the caller's buffer.
 fn answer_step(
     world: &mut World,
     step: &Step,
@@ -80,7 +80,7 @@ pub fn put_answer(answer: &Answer, out: &mut BytesMut)
     }
 }
 
-// Appends the line of a refusal, for which there is room. Want of memory has none.
+// Appends the line of a refusal, for which there is room. An allocation failure has none.
 fn answer_refusal(refusal: Refusal, out: &mut BytesMut) -> Result<(), OutOfMemory>
     requires { LINE_LIMIT ≤ out.old.spare }
     ensures ok { OnOk result (out.new.items ≡ out.old.items ++ terminated (refused_text (number_of refusal))) }

@@ -175,7 +175,7 @@ module _ {S : Type 0} (table : TableContent) (sent reserved : ℕ) (rows : Index
   reserved_is : reserved ≡ table.reserved
   reserved_is = ap (λ (t : TableContent). t.reserved) is
 
-  -- what the table tells of a row
+  -- what the table reports of a row
   pub row_is : (row : ℕ) → fin.get table.live row ≡ get nat_eq rows row
   row_is row = ap (λ live. fin.get live row) (sym live_is) ∙ get_live rows row
 

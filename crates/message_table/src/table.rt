@@ -29,7 +29,7 @@ pub struct Table {
     rows: IndexMap<u64, Message>,
 }
 
-// What lies in it is let go here, so that no crate above proves it anew.
+// What lies in it is released here, so that no crate above proves it anew.
 impl Drop for Table {
     fn drop(self) {
         let Table {
@@ -81,7 +81,7 @@ impl Table {
 
     /// Makes room for the next `n` messages, so that sending them takes no memory. Room that is there already counts.
     ///
-    /// It fails where a growth was refused, and then nothing has changed.
+    /// It fails where an allocation failed, and then nothing has changed.
     pub fn reserve(&mut self, n: u32) -> Result<(), OutOfMemory>
         requires { self.old.sent + n ≤ max_rows }
         ensures ok { OnOk result (self.new ≡ record self.old { reserved = max self.old.reserved n }) }
@@ -101,7 +101,7 @@ impl Table {
 
     /// Adds a message, and answers its row, which is one above the last one given.
     ///
-    /// It takes memory where no room was made for it. It fails where a growth was refused, and then nothing has changed.
+    /// It takes memory where no room was made for it. It fails where an allocation failed, and then nothing has changed.
     pub fn send(&mut self, message: Message) -> Result<u64, OutOfMemory>
         requires { self.old.sent < max_rows }
         ensures row { IfOk result (λ row. row ≡ self.old.sent + 1) }
@@ -151,7 +151,7 @@ impl Table {
     }
 }
 
-/// Puts the item under its row. It fails where a growth was refused, and then nothing has changed.
+/// Puts the item under its row. It fails where an allocation failed, and then nothing has changed.
 fn put<T: Drop>(rows: &mut IndexMap<u64, T>, row: u64, item: T) -> Result<(), OutOfMemory>
     ensures updates { OnOk result (Updates nat_eq rows.old rows.new row (Some item)) }
     ensures err { OnErr result (IsUnchanged rows.old rows.new) }

@@ -52,7 +52,7 @@ plain_outcome (DoesList readings) = Lists readings
 plain_outcome (DoesRestart key floor) = Restarts key floor
 plain_outcome (DoesFail refusal calls) = Fails refusal calls.items
 
--- how a reader's answer is told: as a Read, or of a search as a List
+-- how a reader's answer is reported: as a Read, or of a search as a List
 abbrev pub told_move : Option Tag → List Reading → Move
 told_move None readings = Reads readings
 told_move (Some tag) readings = Lists (carrying tag readings)

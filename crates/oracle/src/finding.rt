@@ -1,4 +1,4 @@
-//! A search: each partition tells what stands under the tag, and what they told is then read.
+//! A search: each partition reports what stands under the tag, and what they told is then read.
 ghost use Rattle.std.specs.Prelude.{◌≡◌, ◌++◌, IfOk, filter, flat_map, map, min, sum_by};
 ghost use Rattle.std.specs.List.{list_all, list_any};
 ghost use Rattle.plain_store.specs.Finding.{all_found, all_keys_found, below, carrying, count_found, found_calls, keys_found, says_found, total_found};
@@ -43,7 +43,7 @@ fn count_found(message: &Message) -> u64
     }
 }
 
-/// The keys that a message tells, before those that are given.
+/// The keys that a message reports, before those that are given.
 fn with_keys_found(alloc: Global, message: &Message, keys: &[Key]) -> Result<Vec<Key>, AllocError>
     ensures { IfOk result (λ list. list.items ≡ keys_found message.now.reply ++ keys.now) }
 {
@@ -53,7 +53,7 @@ fn with_keys_found(alloc: Global, message: &Message, keys: &[Key]) -> Result<Vec
     }
 }
 
-/// Whether a message tells what the partition found.
+/// Whether a message reports what the partition found.
 fn says_found(partition: u32, message: &Message) -> bool
     ensures { result ≡ says_found partition message.now.partition message.now.reply }
 {
@@ -63,7 +63,7 @@ fn says_found(partition: u32, message: &Message) -> bool
     }
 }
 
-/// Whether one of the replies tells what the partition found.
+/// Whether one of the replies reports what the partition found.
 fn is_told(replies: &[Message], partition: u32) -> bool
     ensures { result ≡ list_any (λ (m : Told). says_found partition m.partition m.reply) replies.now }
 {

@@ -239,7 +239,7 @@ pub(super) fn floor(alloc: Global, log: &[Exchange], key: &Key) -> Result<Stamp,
     }
 }
 
-/// The versions that were not given up.
+/// The versions that were not dropped.
 pub(super) fn kept(alloc: Global, log: &[Exchange]) -> Result<Vec<Record>, AllocError>
     ensures { IfOk result (λ list. list.items ≡ kept log.now) }
 {

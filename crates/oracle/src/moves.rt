@@ -79,7 +79,7 @@ fn write_move(
     }
 }
 
-/// What is told of the readings: all of them or, of a search, those that carry its tag.
+/// What is reported of the readings: all of them or, of a search, those that carry its tag.
 fn tell(alloc: Global, tag: &Option<Tag>, readings: &[Reading]) -> Result<Move, AllocError>
     requires { length readings.now ≤ max_keys }
     ensures { IfOk result (λ move. plain_outcome move ≡ told_move tag.now readings.now) }

@@ -213,7 +213,7 @@ fn version_read(keys: &[Key], replies: &[Message], key: &Key) -> Option<Record>
     }
 }
 
-/// What a reader is told of a key at which this version is read.
+/// What a reader gets of a key at which this version is read.
 fn reading_of(key: &Key, version: &Option<Record>) -> Reading
     ensures { result ≡ reading_of key.now version.now }
 {
@@ -244,7 +244,7 @@ fn reading_of(key: &Key, version: &Option<Record>) -> Reading
     }
 }
 
-/// What a reader of these keys is told of some of them.
+/// What a reader of these keys gets of some of them.
 pub(super) fn readings_of(
     alloc: Global,
     keys: &[Key],
@@ -274,7 +274,7 @@ fn shows_writes(stamp: Stamp, writes: &WriteSet, message: &Message) -> bool
     }
 }
 
-/// Whether a round-one reply is false on its face.
+/// Whether a round-one reply is inconsistent.
 pub(super) fn is_false_first(key: &Key, reply: &ReadReply) -> bool
     ensures { result ≡ is_false_first key.now reply.now }
 {
@@ -296,7 +296,7 @@ fn was_shown(replies: &[Message], stamp: Stamp, writes: &WriteSet) -> bool
     }
 }
 
-/// Whether a round-two reply is false on its face.
+/// Whether a round-two reply is inconsistent.
 pub(super) fn is_false_second(
     replies: &[Message],
     key: &Key,

@@ -635,7 +635,7 @@ fn retry<'a>(
     }
 }
 
-/// How many versions a reply says were given up.
+/// How many versions a reply says were dropped.
 fn count_freed(reply: &Reply) -> u32
     ensures { result ≡ count_freed reply.now }
 {

@@ -4,7 +4,7 @@ use Rattle.std.specs.Prelude.{◌↔◌}
 use Rattle.std.specs.Int.{w64, to_le_bytes, from_le_bytes}
 use Rattle.std.proofs.lemmas.Nat.{le_bytes_8}
 
--- eight bytes are told by their number
+-- eight bytes are reported by their number
 pub same_word : (a b : List ℕ) → length a ≡ 8 → length b ≡ 8 → ((i : ℕ) → get_or a i 0 < 256) → ((i : ℕ) → get_or b i 0 < 256)
     → from_le_bytes w64 a ≡ from_le_bytes w64 b → a ≡ b
 same_word a b la lb fa fb e =

@@ -5,10 +5,10 @@ use crate::laying::{lay, lay_text};
 use std::alloc::{AllocError, Global};
 use std::marker::Model;
 
-/// How many more bytes than are wanted hold something then, where there is room for them.
+/// How many more bytes than are asked for hold something then, where there is room for them.
 const AHEAD: usize = 1024;
 
-/// Bytes that are put one behind the other. Contracts see them, and how many there may be before a growth is asked for.
+/// Bytes that are put one behind the other. Contracts see them, and how many there may be before memory is asked for.
 ///
 /// What lies behind them holds bytes as well, which nobody sees. So a short text is put by a copy of its whole array: its length is known
 /// where that is compiled.

@@ -1,4 +1,4 @@
-//! Small values, written over bytes that are there. Each is told where it begins, and answers where what stands behind it does.
+//! Small values, written over bytes that are there. Each is given where it begins, and answers where what stands behind it does.
 //!
 //! A text is written at its full width, so that how many bytes are copied is known where this is compiled. What is written next goes over its
 //! rest.

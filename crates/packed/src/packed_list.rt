@@ -14,7 +14,7 @@ use std::mem;
 const MOST_RECORD_BYTES: usize = 717;
 
 /// Entries of bytes, packed one behind the other. Contracts see the list of them, and how many more entries and bytes it
-/// has room for: a growth is asked for only where that is not enough.
+/// has room for: memory is asked for only where that is not enough.
 #[derive(Drop)]
 pub struct PackedList {
     bytes: Buffer,

@@ -17,14 +17,14 @@ use std::marker::Model;
 const MOST_BYTES: usize = 1452;
 
 /// Events, packed one behind the other, some 50 bytes each. Contracts see them in order, and whether one more can be put
-/// without a growth.
+/// without an allocation.
 pub struct EventList {
     list: PackedList,
     // Where an event is packed first.
     scratch: Buffer,
 }
 
-// What lies in it is let go here, so that no crate above proves it anew.
+// What lies in it is released here, so that no crate above proves it anew.
 impl Drop for EventList {
     fn drop(self) {
         let EventList {

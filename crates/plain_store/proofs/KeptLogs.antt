@@ -39,12 +39,12 @@ pub record Kept (setup : Setup) (history : History) : Type 0 where
   pub sound : (message : Message) → message ∈ messages history → Sound setup history message
   pub prepared : (stamp : Stamp) (items : List Item) (key : Key) → stamp ∈ decided history → Wrote history stamp items → key ∈ keys_written items → HasVersion (log_at setup history (home setup key)) key stamp
   pub gave_up : (stamp : Stamp) → stamp ∈ failed history → (items : List Item) × Wrote history stamp items
-  -- a running writer has not given up
+  -- a running writer has not dropped
   pub stays_open : (client : ℕ) (transaction : Transaction) (stamp : Stamp) (items : List Item) → running history client ≡ Some transaction → transaction.request ≡ Writes stamp items → stamp ∈ failed history → ⊥
   -- a decided writer has each PREPARE answered
   pub answered : (client : ℕ) (transaction : Transaction) (stamp : Stamp) (items : List Item) → running history client ≡ Some transaction → transaction.request ≡ Writes stamp items → stamp ∈ decided history
       → all_prepared stamp items (taken_in history transaction) ≡ true
-  -- no stamp is decided and given up
+  -- no stamp is decided and dropped
   pub apart : (stamp : Stamp) → stamp ∈ decided history → stamp ∈ failed history → ⊥
   -- a running writer's stamp is the greatest of its client's
   pub newest : (client : ℕ) (transaction : Transaction) (stamp : Stamp) (items : List Item) (other : Stamp) (others : List Item) → running history client ≡ Some transaction → transaction.request ≡ Writes stamp items

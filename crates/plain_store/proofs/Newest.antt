@@ -21,7 +21,7 @@ use Rattle.plain_store.proofs.FreshLogs.{Fresh}
 use Rattle.plain_store.proofs.StepEffects.{IsTurn, IsQuiet}
 use Rattle.plain_store.proofs.SearchesAsk.{IsDue, IsDueSecond, Due, due_more, turn_taken}
 
--- ---- who was told what it read has taken the whole first round
+-- ---- who was reported what it read has taken the whole first round
 
 abbrev EndsMove : Move → Type 0
 EndsMove (Reads rs) = Unit {0}
@@ -58,7 +58,7 @@ moves_act older act transaction (Fails why []) = refl
 moves_act older act transaction (Fails why (out ∷ outs)) = refl
 moves_act older act transaction _ = refl
 
--- whoever was told what it read took a reply of the first round for each key
+-- whoever was reported what it read took a reply of the first round for each key
 abbrev pub ReadWhole : History → Type 0
 ReadWhole history = (reader : Transaction) (keys : List Key) → WasRead history reader → reader.request ≡ Gets keys → round_one_complete keys (taken_in history reader) ≡ true
 

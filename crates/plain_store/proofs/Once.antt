@@ -52,7 +52,7 @@ called_step setup older m called how way message h = go (in_cases (messages olde
     go (inl k) = in_left (messages older) m.sent (call_of message) (called message k)
     go (inr k) = new k (sent_is setup older m message how way k)
 
--- what is known of what searches were told
+-- what is known of what searches were reported
 pub record TellsKnown (setup : Setup) (history : History) : Type 0 where
   pub called : Called history
   pub logged : Logged setup history

@@ -78,7 +78,7 @@ IsReading setup tag keys sent replies =
     × ((sent ≡ found_calls setup tag ++ first_calls setup keys)
     ⊎ ((late : List Key) × (seen : List Message) × IsOnce late × (sent ≡ (found_calls setup tag ++ first_calls setup keys) ++ second_calls setup late seen) × ((key : Key) → key ∈ keys → is_shown replies key ≡ true)))
 
--- a search has asked each partition, and then read the keys that it was told
+-- a search has asked each partition, and then read the keys that it was reported
 abbrev pub SearchStage : Setup → Tag → List Outgoing → List Message → Type 0
 SearchStage setup tag sent replies = (sent ≡ found_calls setup tag) ⊎ ((keys : List Key) × IsReading setup tag keys sent replies)
 
@@ -224,7 +224,7 @@ module _ (setup : Setup) (sent : List Outgoing) (replies : List Message) (messag
   stage_still calls e stage =
       subst (λ (os : List Outgoing). SearchStage setup tag os (replies ++ message ∷ [])) (sym (ap (λ os. sent ++ os) e ∙ append-nil sent)) (search_more setup tag sent replies (message ∷ []) stage)
 
-  -- a search is told
+  -- a search is reported
   stage_told : (g : Tag) (calls : List Outgoing) → message.call ≡ Found g → message.partition < setup.partitions
       → (calls ≡ []) ⊎ ((all_found setup (replies ++ message ∷ []) ≡ true) × (calls ≡ first_calls setup (all_keys_found (replies ++ message ∷ []))))
       → SearchStage setup tag sent replies → SearchStage setup tag (sent ++ calls) (replies ++ message ∷ [])

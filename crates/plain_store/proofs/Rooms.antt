@@ -1,4 +1,4 @@
--- A cell never keeps more versions, nor has more items, than it has room for; what is found under a tag is told in order.
+-- A cell never keeps more versions, nor has more items, than it has room for; what is found under a tag is reported in order.
 use Rattle.std.proofs.Common.{◌≡◌, ◌≢◌, ℕ, ◌+◌, ◌<◌, ◌≤◌, Bool, true, false, cond, not, ◌&&◌, ◌||◌, ◌==◌, nat_le, nat_lt, List, [], ◌∷◌, map, find, length, length-take, take, reverse, get_or, All, AllPairs, count_by, max, Option, Some, None, bytes_eq, refl, sym, ap, ◌∙◌, ◌⊎◌, inl, inr, arith}
 use Rattle.std.specs.List.{list_any}
 use Rattle.std.proofs.lemmas.Bool.{both_ways, le-ltb, and_parts, and_from, or_cases, or_left, or_right, or_parts, leb-true, le-leb, ltb-true}

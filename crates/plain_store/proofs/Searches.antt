@@ -1,4 +1,4 @@
--- A search sends no GET before each partition has told, reads no more than 16 keys, and is told once by each partition.
+-- A search sends no GET before each partition has told, reads no more than 16 keys, and is reported once by each partition.
 use Rattle.std.proofs.Common.{◌≡◌, ℕ, ◌+◌, ◌≤◌, List, [], ◌∷◌, ◌++◌, Bool, true, false, ◌&&◌, ◌==◌, ◌⊎◌, inl, inr, refl, sym, ap, ◌∙◌, subst, cond, not, take, drop, take-append-drop, count_by, bytes_eq, nat_lt, Option, Some, None, arith, eq-eqb}
 use Rattle.std.specs.Prelude.{flat_map}
 use Rattle.std.specs.List.{list_any}
@@ -36,7 +36,7 @@ use Rattle.plain_store.proofs.SearchesAsk.{Due, IsDue, IsReplied, TakesNow, foun
 
 -- ---- a search reads no more than 16 keys
 
--- a running search that every partition told was told of no more than 16
+-- a running search that every partition told was reported of no more than 16
 abbrev pub FewTold : Setup → History → Type 0
 FewTold setup history =
     (client : ℕ) (transaction : Transaction) (tag : Tag) → running history client ≡ Some transaction → transaction.request ≡ Finds tag → all_found setup (taken_in history transaction) ≡ true
@@ -129,7 +129,7 @@ few_step setup older m kept fresh owned logged due few way client transaction ta
                 omega (arith, before, none, total_push (taken_in older transaction) message)
             one _ c goes d = absurd goes
 
--- ---- a search is told once by each partition
+-- ---- a search is reported once by each partition
 
 abbrev pub tales : ℕ → List Message → ℕ
 tales partition replies = count_by (λ (q : Message). says_found partition q.partition q.reply) replies
@@ -179,7 +179,7 @@ once_step setup older m kept fresh logged replied once way transaction own parti
             (not-true _ (and_parts (message.ticket == transaction.ticket) (not (is_answered (taken_in older transaction) message.partition message.call)) wanted).1)
             (once transaction was partition))
 
--- ---- so no key is told twice
+-- ---- so no key is reported twice
 
 -- each key stands once
 abbrev pub IsOnce : List Key → Type 0
@@ -218,7 +218,7 @@ found_once log tag key =
     let fewer = count_by-le (λ (x : Key). is_under log tag x && test x) test (items log) (λ x t. (and_parts (is_under log tag x) (test x) t).1) in
     omega (arith, one, fewer, count_by-filter test (is_under log tag) (items log), count_sorted key (under log tag), count_take key 16 (sorted_keys (under log tag)))
 
--- the keys of a reply are told at their home
+-- the keys of a reply are reported at their home
 abbrev pub IsFoundAtHome : Setup → Message → Type 0
 IsFoundAtHome setup message = (key : Key) → key ∈ keys_found message.reply → home setup key ≡ message.partition
 

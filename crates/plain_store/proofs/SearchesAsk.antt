@@ -37,7 +37,7 @@ IsReplied message = (room : Room) × (log : Log) × (message.reply ≡ Some (rep
 pub replied_by : (setup : Setup) (history : History) (message : Message) → IsPartitionsReply setup history message → IsReplied message
 replied_by setup history message r = (setup.room, r.earlier, r.carries ∙ ap Some r.answers)
 
--- only a search is told what was found
+-- only a search is reported what was found
 told_call : (room : Room) (log : Log) (call : Call) (p at : ℕ) → says_found p at (Some (reply_after room log call)) ≡ true → (tag : Tag) × (call ≡ Found tag) × (at ≡ p)
 unfolding reply_after
 told_call room log (Found tag) p at t = (tag, refl, eqb-true at p t)
@@ -65,7 +65,7 @@ pub search_told : (message : Message) (tag : Tag) → IsReplied message → mess
 unfolding reply_after
 search_told message tag (room, log, e) c = (findings log tag, e ∙ ap (λ (call : Call). Some (reply_after room log call)) c)
 
--- ---- how many keys were told
+-- ---- how many keys were reported
 
 pub total_push : (replies : List Message) (message : Message) → total_found (replies ++ message ∷ []) ≡ total_found replies + count_found message.reply
 total_push replies message = sum_by_push (λ (q : Message). count_found q.reply) replies message

@@ -1,4 +1,4 @@
--- What partitions reply, and what is told of their replies.
+-- What partitions reply, and what is reported of their replies.
 use Rattle.std.proofs.Common.{◌≡◌, ℕ, List, [], ◌∷◌, ◌++◌, Bool, true, false, ◌&&◌, ◌==◌, ◌⊎◌, inl, inr, refl, sym, ap, ◌∙◌, subst, cond, not, map, filter_map, length, nat_lt, nat_le, Option, Some, None, option_to_list, append_assoc, find, bytes_eq, eqb-true, eq-eqb}
 use Rattle.std.specs.List.{list_any, cons_option}
 use Rattle.std.proofs.lemmas.Bool.{and_parts, both_ways, not-true}

@@ -17,7 +17,7 @@ abbrev pub WasRead : History → Transaction → Type 0
 WasRead [] reader = ⊥
 WasRead (m ∷ older) reader = ((receiver older m.act ≡ Some reader) × EndsRead m.answer) ⊎ WasRead older reader
 
--- the client read these keys by this transaction: it was told what they hold or to read anew, or it took a reply of
+-- the client read these keys by this transaction: it was answered what they hold or to read anew, or it took a reply of
 -- the first round for each of them
 abbrev pub HasRead : History → Transaction → List Key → Type 0
 HasRead history reader keys =

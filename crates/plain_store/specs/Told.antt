@@ -1,4 +1,4 @@
--- What a reader is told rests on the replies that it took, and on nothing else of the run.
+-- What a reader gets rests on the replies that it took, and on nothing else of the run.
 use Rattle.std.specs.Prelude.{◌≡◌, ℕ, List, [], ◌∷◌, ◌++◌, true, Option, Some, None}
 use Rattle.plain_store.specs.Words.{◌∈◌, Key, Call, Reply, Act, Deliver, Message, Reading, Answer, Ignored, Read}
 use Rattle.plain_store.specs.Words.{Listed, Restart, Setup}

@@ -27,7 +27,7 @@ pub enum Answer {
     FindBegun(Rows),
     /// A call was delivered. The row of its reply, and the reply.
     Replied(u64, Reply),
-    /// A reply was delivered that nobody waits for.
+    /// A reply was delivered that no transaction is waiting for.
     Ignored,
     /// A reply was taken, and more are needed.
     Wait,

@@ -43,7 +43,7 @@ pub enum ReadReply {
     Version(Record),
     /// No version is committed, and no stamp was asked for.
     Initial,
-    /// The stamp is below this floor: the version may have been given up.
+    /// The stamp is below this floor: the version may have been dropped.
     Collected(Stamp),
     /// No version of the stamp is kept, and the stamp is not below the floor.
     Unknown,
@@ -69,7 +69,7 @@ pub enum Reply {
     Get(ReadReply),
     /// What stands under the tag.
     Found(Found),
-    /// How many versions were given up.
+    /// How many versions were dropped.
     Freed(u32),
     /// To a DISCARD.
     Discard(DiscardReply),

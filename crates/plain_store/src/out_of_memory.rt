@@ -1,9 +1,9 @@
-//! Want of memory.
+//! An allocation failure.
 use std::alloc::AllocError;
 use std::error::Error;
 use std::fmt;
 
-/// A growth was refused.
+/// An allocation failed.
 #[derive(Clone, Copy, Debug, PartialEq, Eq)]
 pub struct OutOfMemory;
 

@@ -1,7 +1,7 @@
-//! What a reader is told.
+//! What a reader gets.
 use stamps::{Item, Stamp};
 
-/// What a reader is told of one key. The initial version has stamp `0.0`, no tag and no value.
+/// What a reader gets of one key. The initial version has stamp `0.0`, no tag and no value.
 #[derive(Clone, Copy, Debug, PartialEq, Eq)]
 pub struct Reading {
     /// What the version wrote.

@@ -31,7 +31,7 @@ pub enum Refusal {
     Clash,
     /// A version that was asked for is not there.
     Unknown,
-    /// A reply was false on its face.
+    /// A reply was inconsistent.
     Torn,
     /// More than 16 items stand under the tag.
     TooMany,
@@ -45,7 +45,7 @@ pub enum Refusal {
     FullMarks,
     /// The client had versions of this or a later stamp dropped.
     Discarded,
-    /// A growth was refused.
+    /// An allocation failed.
     OutOfMemory,
     /// The line is none of the grammar's.
     BadLine,

@@ -1,11 +1,11 @@
-//! Steps: what a tenant's store is told to do.
+//! Steps: what a tenant's store is asked to do.
 ghost use Rattle.plain_store.specs.Words.{IsAct};
 
 use crate::{Items, Keys};
 use stamps::{Client, Counter, Keep, Tag};
 use std::fmt;
 
-/// What a tenant's store is told to do.
+/// What a tenant's store is asked to do.
 #[derive(Drop, PartialEq)]
 pub enum Act {
     /// Open the client's session. Its counter is no less than this base.
@@ -35,7 +35,7 @@ pub enum Act {
 pub struct Step {
     /// The place of the tenant's limits among those that the store was opened with, from 0.
     pub tenant: u32,
-    /// What its store is told to do.
+    /// What its store is asked to do.
     pub act: Act,
 }
 

@@ -34,7 +34,7 @@ half_collected changed keep p = cond (is_changed changed p.0) p (collected_pair 
 abbrev pub collected_where : ℕ → ℕ → ChainedItem × List Version → ChainedItem × List Version
 collected_where chain keep p = cond (p.0.chain == chain) (collected_pair keep p) p
 
--- the items and their versions are told by the pairs, and tell them
+-- the items and their versions are reported by the pairs, and tell them
 module _ (f : ChainedItem → ChainedItem) (g : ChainedItem → List Version) (lists : List (List Version)) where
   pub parted : (now items : List ChainedItem) → paired now lists ≡ map (λ (i : ChainedItem). (f i, g i)) items → (now ≡ map f items) × (item_chains now lists ≡ map g items)
   parted now items e =

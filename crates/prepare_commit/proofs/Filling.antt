@@ -253,7 +253,7 @@ knows_few items tags k within knows =
 
 -- ---- what the cell then stands for
 
--- an empty cell, as its type tells
+-- an empty cell, as its type reports
 pub new_inside : (base_inside base : Frozen) (inside now : Parts) → base_inside ≡ base → inside ≡ now → IsNew base.room now → IsNew base_inside.room inside
 new_inside base_inside base inside now base_view view new =
     let P : Frozen → Parts → Type 0 = λ b p. IsNew b.room p in

@@ -1,4 +1,4 @@
--- For `Base` and `Cell`. What the items have, and what is told of it by entries and versions.
+-- For `Base` and `Cell`. What the items have, and what is reported of it by entries and versions.
 use Rattle.std.proofs.Common.{◌≡◌, ◌≢◌, ℕ, ◌+◌, ◌<◌, List, [], ◌∷◌, ◌++◌, length, get_or, take, All, refl, sym, ap, subst, ◌∙◌, arith}
 use Rattle.std.specs.declared.cmp.Ordering.TheVariants.{Less}
 use Rattle.std.proofs.lemmas.List.{append-nil, get_or-map, length-map, map_more, take_more}

@@ -17,7 +17,7 @@ use Rattle.prepare_commit.specs.Serving.{marked_versions, floored}
 use Rattle.version_chain.specs.declared.version.Version.{Version}
 use Rattle.prepare_commit.specs.declared.items.KnownItem.{KnownItem}
 
--- what stands in the one stands in the other, where a test tells the members apart
+-- what stands in the one stands in the other, where a test reports the members apart
 pub In-same : {X : Type 0} (same : X → X → Bool) → ((x y : X) → same x y ≡ true → x ≡ y) → ((x : X) → same x x ≡ true) → (xs ys : List X) → SameMembers xs ys → (x : X) → In x xs → In x ys
 In-same {X} same apart own xs ys h x i =
     let n = uncounted (same x) x xs i (own x) in

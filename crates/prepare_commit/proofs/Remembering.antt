@@ -147,7 +147,7 @@ count_kept floor x vs above =
     implied : (a b : Bool) → (b ≡ true → a ≡ true) → (a && b) ≡ b
     implied a b h = grind arith
 
--- all items are settled: their floors are raised, and their other versions given up
+-- all items are settled: their floors are raised, and their other versions dropped
 pub all_settled : (keep : ℕ) (chains new : List (List Version)) (items : List ChainedItem) → item_chains (map (raised_item keep chains) items) new ≡ map (kept_chain keep chains) items → (changed : List Bool) → AreSettled keep changed (map (raised_item keep chains) items) new
 all_settled keep chains new items kept changed k d within free =
     let less : k < length items = omega (arith, within, length-map items (raised_item keep chains)) in

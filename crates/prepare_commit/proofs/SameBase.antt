@@ -32,7 +32,7 @@ version_one_way v w (inr later) (inr earlier) = omega (arith, later.1, earlier.1
 entry_one_way : (e f : KnownItem) → IsEntryBefore e f → IsEntryBefore f e → ⊥
 entry_one_way e f below above = not_both e.key f.key below above
 
--- ---- marks in order are told by their map
+-- ---- marks in order are reported by their map
 
 marks_back : (stamps : List ℕ) → map (λ (row : ℕ × ℕ). row.1) (map mark_row stamps) ≡ stamps
 marks_back [] = refl

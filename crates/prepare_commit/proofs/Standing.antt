@@ -12,7 +12,7 @@ use Rattle.prepare_commit.proofs.Committed.{same_latest_tag}
 use Rattle.prepare_commit.proofs.Stamped.{latest_there}
 use Rattle.prepare_commit.proofs.StandsAfter.{item_by_entry}
 
--- the tags are told by the versions and the entries
+-- the tags are reported by the versions and the entries
 module _ (versions : List Version) (entries : List KnownItem) (one two : Log) (v1 : SameMembers versions (marked_versions one)) (e1 : SameMembers entries (floored one)) (v2 : SameMembers versions (marked_versions two)) (e2 : SameMembers entries (floored two)) (key : Key) where
   pub same_tagged : tagged one key ≡ tagged two key
   same_tagged =

@@ -1,4 +1,4 @@
--- A cell whose versions lie in a block that is lent to each of its calls.
+-- A cell whose versions lie in a block that the caller passes to each of its calls.
 use Rattle.std.specs.Prelude.{ℕ, Bool, List, Option, IsTrue}
 use Rattle.plain_store.specs.Words.{Room}
 use Rattle.version_chain.specs.Heads.{Heads}

@@ -21,7 +21,7 @@ pub struct Base {
     pub(crate) marks: Vec<Stamp>,
 }
 
-// What lies in it is let go here, so that no crate above proves it anew.
+// What lies in it is released here, so that no crate above proves it anew.
 impl Drop for Base {
     fn drop(self) {
         let Base {

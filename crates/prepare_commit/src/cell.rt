@@ -44,7 +44,7 @@ use version_chain::{Block, Insert, VersionList};
 /// What one tenant holds at one partition: an entry for each item of which a version was ever kept, in the order of the
 /// keys; for each item a chain of its versions, the latest stamp first, each with a mark where it is committed; and an
 /// index of these items by the tags of their latest committed versions. Beside them stands, for each client of which a
-/// stamp was discarded, the greatest of these stamps. The versions lie in a block that is lent to each call; contracts
+/// stamp was discarded, the greatest of these stamps. The versions lie in a block that the caller passes to each call; contracts
 /// see with it all versions, entries and marks, how many of each there is room for, and the tag of each item.
 ///
 /// The caller's condition is the block: it has the versions of this cell, and no other version of its tenant. A call
@@ -67,7 +67,7 @@ pub struct Cell {
     last_base: LastBase,
 }
 
-// What lies in it is let go here, so that no crate above proves it anew.
+// What lies in it is released here, so that no crate above proves it anew.
 impl Drop for Cell {
     fn drop(self) {
         let Cell {
@@ -341,7 +341,7 @@ impl Cell {
     /// - `Dropped` of 0: the stamp is `0.0`. Nothing changes.
     /// - `FullMarks`: no stamp of its client was discarded before, and as many clients have a mark as there is room for.
     ///   Nothing changes.
-    /// - `Dropped`, with the number of the kept versions of the stamp that are not committed. These are given up, and the
+    /// - `Dropped`, with the number of the kept versions of the stamp that are not committed. These are dropped, and the
     ///   client's mark is raised to the stamp. Committed versions and entries stay, and each item stands under the same
     ///   tag as before.
     ///
@@ -429,7 +429,7 @@ impl Cell {
         }
     }
 
-    /// Tells the items that stand under a tag, and changes nothing: how many they are, and the first of their keys in byte
+    /// Reports the items that stand under a tag, and changes nothing: how many they are, and the first of their keys in byte
     /// order, all of them or 16. An item stands under the tag of its latest committed version; under the empty tag stands
     /// none. This search is the store's own.
     ///
@@ -506,7 +506,7 @@ impl Cell {
         })
     }
 
-    /// What `base` tells, of which the cell then shares the parts: what is made or compared next takes from there what did not change.
+    /// What `base` reports, of which the cell then shares the parts: what is made or compared next takes from there what did not change.
     /// Where the parts are many, or have much that no base wants any more, all is packed anew.
     pub fn cut(&mut self, block: &Block) -> Result<Base, AllocError>
         requires lies { LiesIn block.now self.old }
@@ -601,7 +601,7 @@ impl Cell {
         )
     }
 
-    /// Whether the cell holds just what a base does, as `holds` tells. Where it does, it shares the base's parts then, as after `cut`.
+    /// Whether the cell holds just what a base does, as `holds` reports. Where it does, it shares the base's parts then, as after `cut`.
     pub fn begins_at(&mut self, block: &Block, base: &Base) -> Result<bool, AllocError>
         requires { LiesIn block.now self.old }
         ensures exact { IfOk result (λ yes. IsTrue yes ↔ (base_of block.now self.old ≡ base.now)) }
@@ -633,7 +633,7 @@ impl Cell {
         }
     }
 
-    // Puts what stands under a tag into the place that is lent. It stands alone, so that no other call has room for it.
+    // Puts what stands under a tag into the caller's buffer. It stands alone, so that no other call has room for it.
     #[cold]
     #[inline(never)]
     fn found_into(&self, tag: &Tag, reply: &mut Option<Reply>)
@@ -642,7 +642,7 @@ impl Cell {
         put_found(self.found(tag), reply);
     }
 
-    /// Does what `apply` does, and puts the reply into the place that is lent, over a reply of the same kind where it lies.
+    /// Does what `apply` does, and puts the reply into the caller's buffer, over a reply of the same kind where it lies.
     pub fn apply_into(&mut self, block: &mut Block, call: &Call, reply: &mut Option<Reply>)
         requires lies { LiesIn block.old self.old }
         requires share { HasShare block.old self.old.chains }

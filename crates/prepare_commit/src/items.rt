@@ -7,7 +7,7 @@ ghost use Rattle.prepare_commit.specs.Layout.{item_row};
 use lists::RowList;
 use stamps::{Key, Stamp, Tag};
 
-/// An item of which a version was prepared once. Versions below its floor are given up.
+/// An item of which a version was prepared once. Versions below its floor are dropped.
 #[derive(Clone, Copy, PartialEq, Eq)]
 pub(crate) struct KnownItem {
     pub(crate) key: Key,

@@ -3,7 +3,7 @@
 //! A cell is one tenant's part of a RAMP-Fast server (Bailis and others, "Scalable Atomic Visibility with RAMP
 //! Transactions"): `prepare` keeps a version, `commit` makes the versions of a stamp visible, and `get` reads the latest
 //! committed version or the one that a stamp names. This store's own are `discard`, which takes versions back, `found`,
-//! which tells the items whose latest committed version carries a tag, the counts in the replies, the limits of slots,
+//! which reports the items whose latest committed version carries a tag, the counts in the replies, the limits of slots,
 //! items and marks, the clash of two records at one stamp, the reply that a version is unknown, and the floors and
 //! collections.
 #![tactic(auto)]

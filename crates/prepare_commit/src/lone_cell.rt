@@ -17,7 +17,7 @@ pub struct LoneCell {
     cell: Cell,
 }
 
-// What lies in it is let go here, so that no crate above proves it anew.
+// What lies in it is released here, so that no crate above proves it anew.
 impl Drop for LoneCell {
     fn drop(self) {
         let LoneCell { block: _, cell: _ } = self;

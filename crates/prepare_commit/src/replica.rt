@@ -17,7 +17,7 @@ pub struct Replica {
     cell: Cell,
 }
 
-// What lies in it is let go here, so that no crate above proves it anew.
+// What lies in it is released here, so that no crate above proves it anew.
 impl Drop for Replica {
     fn drop(self) {
         let Replica { block: _, cell: _ } = self;
@@ -51,7 +51,7 @@ impl Replica {
         Ok(Replica { block, cell })
     }
 
-    /// Whether it holds just what a base does, with the base's room, as `Cell::holds` tells. The one error is that memory was
+    /// Whether it holds just what a base does, with the base's room, as `Cell::holds` reports. The one error is that memory was
     /// refused.
     pub fn is(&self, base: &Base) -> Result<bool, AllocError>
         ensures { IfOk result (λ yes. IsTrue yes ↔ (self.now ≡ base.now)) }
@@ -66,7 +66,7 @@ impl Replica {
         self.cell.base(&self.block)
     }
 
-    /// Whether it holds just what a base does, as `is` tells. Where it does, it shares the base's parts then: of the items that no call
+    /// Whether it holds just what a base does, as `is` reports. Where it does, it shares the base's parts then: of the items that no call
     /// changes, the next base is found to have the same where it has the same parts. The one error is that memory was refused.
     pub fn begins_at(&mut self, base: &Base) -> Result<bool, AllocError>
         ensures exact { IfOk result (λ yes. IsTrue yes ↔ (self.old ≡ base.now)) }
@@ -75,7 +75,7 @@ impl Replica {
         self.cell.begins_at(&self.block, base)
     }
 
-    /// Serves a call as `Cell::apply` does, and puts the reply into the place that is lent, over a reply of the same kind where
+    /// Serves a call as `Cell::apply` does, and puts the reply into the caller's buffer, over a reply of the same kind where
     /// it lies: it is the one after each log that leaves what is held, and this log with the call leaves what is held then.
     pub fn serve(&mut self, call: &Call, reply: &mut Option<Reply>)
         ensures room { self.new.room ≡ self.old.room }

@@ -14,7 +14,7 @@ pub enum GetReply<'a> {
     Version(&'a Record),
     /// No version of the item is committed.
     Initial,
-    /// The stamp is below this one, the item's floor: the version may have been given up.
+    /// The stamp is below this one, the item's floor: the version may have been dropped.
     Collected(Stamp),
     /// No version of this stamp is kept.
     Unknown,
@@ -23,7 +23,7 @@ pub enum GetReply<'a> {
 impl GetReply<'_> {
     ghost use Rattle.prepare_commit.specs.GetReply.{copied};
 
-    /// The same reply, with a copy of the record that is lent.
+    /// The same reply, with a copy of the borrowed record.
     pub fn copied(&self) -> ReadReply
         ensures { result ≡ copied self.now }
     {
@@ -47,7 +47,7 @@ pub(crate) fn reply_of(insert: Insert) -> PrepareReply
     }
 }
 
-/// Puts the reply to a PREPARE into the place that is lent. One that lies there is written over where it lies: a reply has
+/// Puts the reply to a PREPARE into the caller's buffer. One that lies there is written over where it lies: a reply has
 /// some 750 bytes.
 pub(crate) fn put_prepared(told: PrepareReply, place: &mut Option<Reply>)
     ensures { place.new ≡ Some (Reply.Prepare told) }
@@ -59,7 +59,7 @@ pub(crate) fn put_prepared(told: PrepareReply, place: &mut Option<Reply>)
     begin_prepared(told, place);
 }
 
-/// Puts the reply to a COMMIT into the place that is lent, as `put_prepared` does.
+/// Puts the reply to a COMMIT into the caller's buffer, as `put_prepared` does.
 pub(crate) fn put_committed(count: u32, place: &mut Option<Reply>)
     ensures { place.new ≡ Some (Reply.Committed count) }
 {
@@ -70,7 +70,7 @@ pub(crate) fn put_committed(count: u32, place: &mut Option<Reply>)
     begin_committed(count, place);
 }
 
-/// Puts the reply to a GET into the place that is lent, with a copy of the record, as `put_prepared` does.
+/// Puts the reply to a GET into the caller's buffer, with a copy of the record, as `put_prepared` does.
 pub(crate) fn put_read(told: &GetReply<'_>, place: &mut Option<Reply>)
     ensures { place.new ≡ Some (Reply.Get (copied told.now)) }
 {
@@ -80,7 +80,7 @@ pub(crate) fn put_read(told: &GetReply<'_>, place: &mut Option<Reply>)
     }
 }
 
-/// Puts a version that was read into the place that is lent, as `put_prepared` does.
+/// Puts a version that was read into the caller's buffer, as `put_prepared` does.
 fn put_version(version: &Record, place: &mut Option<Reply>)
     ensures { place.new ≡ Some (Reply.Get (ReadReply.Version version.now)) }
 {
@@ -91,7 +91,7 @@ fn put_version(version: &Record, place: &mut Option<Reply>)
     begin_read(&GetReply::Version(version), place);
 }
 
-/// Puts what stands under a tag into the place that is lent.
+/// Puts what stands under a tag into the caller's buffer.
 #[cold]
 #[inline(never)]
 pub(crate) fn put_found(found: Found, place: &mut Option<Reply>)
@@ -100,14 +100,14 @@ pub(crate) fn put_found(found: Found, place: &mut Option<Reply>)
     *place = Some(Reply::Found(found));
 }
 
-/// Puts the reply to a collection into the place that is lent.
+/// Puts the reply to a collection into the caller's buffer.
 pub(crate) fn put_freed(count: u32, place: &mut Option<Reply>)
     ensures { place.new ≡ Some (Reply.Freed count) }
 {
     *place = Some(Reply::Freed(count));
 }
 
-/// Puts the reply to a DISCARD into the place that is lent.
+/// Puts the reply to a DISCARD into the caller's buffer.
 pub(crate) fn put_discarded(told: DiscardReply, place: &mut Option<Reply>)
     ensures { place.new ≡ Some (Reply.Discard told) }
 {

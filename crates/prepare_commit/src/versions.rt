@@ -19,7 +19,7 @@ use stamps::{Keep, Record, Stamp, Visits};
 use std::alloc::{AllocError, Global};
 use version_chain::{Block, Chains, Insert, Version, VersionList};
 
-/// Numbered chains of versions, in a block that is lent to each call. Contracts see the versions of each chain in the
+/// Numbered chains of versions, in a block that the caller passes to each call. Contracts see the versions of each chain in the
 /// block, how many versions there are, and how many there may be.
 ///
 /// The caller's condition is a chain number in range, and the block in which these chains stand. A call changes no cell

@@ -15,7 +15,7 @@ pub fn seated<'a, R: Wait>(rt: &R, hub: &'a Hub<Open>, number: u16) -> Option<Se
     hub.seat(rt, 0, client, base).ok()
 }
 
-/// x, at home at the first partition, and y, at home at the second.
+/// x, homed on the first partition, and y, homed on the second.
 fn two_items() -> Option<[Item; 2]> {
     let (tag, value) = (Tag::read(b"")?, Value::read(b"1")?);
     let [x, y] = [Key::read(b"x")?, Key::read(b"y")?];

@@ -234,12 +234,12 @@ fn run_over<
     })
 }
 
-/// What is told where a device failed.
+/// What is reported where a device failed.
 const OF_A_DEVICE: &str = "ramp: Device\n";
 
 #[test]
 fn a_fault_has_its_status(rt: HostRuntime) {
-    // How many reads and writes are left, how many bytes may be told, the status, and what is told.
+    // How many reads and writes are left, how many bytes may be told, the status, and what is reported.
     let rows = [
         ("ramp cell", "get x\n", 0, 1, MANY, 4, OF_A_DEVICE),
         ("ramp cell", "get x\n", 1, 0, MANY, 4, OF_A_DEVICE),

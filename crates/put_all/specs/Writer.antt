@@ -26,7 +26,7 @@ ending_calls setup stamp items NoSlot = discard_calls setup stamp items
 ending_calls setup stamp items NoItem = discard_calls setup stamp items
 ending_calls setup stamp items refusal = []
 
--- the move that a writer's answer tells, None where the reply is ignored
+-- the move that a writer's answer reports, None where the reply is ignored
 abbrev pub told : Setup → Stamp → List Item → WriteMove → Option Move
 told setup stamp items Wait = Some Waits
 told setup stamp items Decide = Some (Decides stamp (commit_calls setup stamp items))

@@ -124,7 +124,7 @@ impl WriteProgress {
             .any(|place| place.awaits_prepared(key))
     }
 
-    /// Whether an item at home at this partition waits for its COMMIT.
+    /// Whether an item homed on this partition waits for its COMMIT.
     pub(crate) fn await_committed(&self, partition: u32) -> bool
         ensures { result ≡ list_any (awaits_committed partition) self.now }
     {
@@ -133,7 +133,7 @@ impl WriteProgress {
             .any(|place| place.awaits_committed(partition))
     }
 
-    /// Whether an item is at home at this partition.
+    /// Whether an item belongs to this partition.
     pub(crate) fn are_at(&self, partition: u32) -> bool
         ensures { result ≡ list_any (is_at partition) self.now }
     {

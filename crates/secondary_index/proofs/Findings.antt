@@ -117,8 +117,8 @@ same_findings xs ys dx dy forth back =
     let long : length xs ≡ length ys = sym (length_permutation xs (sorted_keys xs) px) ∙ ap length same ∙ length_permutation ys (sorted_keys ys) py in
     λ i. record { count = long i; keys = take 16 (same i) }
 
--- Where an index tells of each key what `look` tells, and whichever distinct keys are listed that have all which carry the tag:
--- what the index tells of the tag is what those of the list that carry it give.
+-- Where an index reports of each key what `look` reports, and whichever distinct keys are listed that have all which carry the tag:
+-- what the index reports of the tag is what those of the list that carry it give.
 pub findings_by : (tags : Tags) (look : Key → Option Tag) (keys : List Key) (tag : Tag) → ((key : Key) → get tags key ≡ look key) → AllPairs (λ j k. j ≢ k) keys
     → ((key : Key) → carries_tag tag (look key) ≡ true → In key keys) → findings_of (keys_under tags tag) ≡ findings_of (filter (λ key. carries_tag tag (look key)) keys)
 findings_by tags look keys tag is distinct all =
@@ -160,7 +160,7 @@ set_keys settings key tag h =
     let P : Key → Type 0 = λ k. In k (distinct keys) in
     subst P (sym ((bytes_eq-Decides key found.0).0 found.2)) found.1
 
--- after any list of calls an index tells of a tag how many keys were last set to it, and the first of these
+-- after any list of calls an index reports of a tag how many keys were last set to it, and the first of these
 pub findings-last_set : (tags : Tags) (tag : Tag) (settings : List Setting) → IsIndexOf tags settings → findings_of (keys_under tags tag) ≡ findings_of (keys_last_set_to settings tag)
 findings-last_set tags tag settings is =
     findings_by tags (last_tag settings) (distinct (map (λ (s : Setting). s.key) settings)) tag is (distinct-AllPairs (map (λ (s : Setting). s.key) settings)) (λ key h. set_keys settings key tag h)

@@ -1,4 +1,4 @@
--- For `Findings`. What an index tells of a cell's log, where it tells of each item the tag of its latest committed version.
+-- For `Findings`. What an index reports of a cell's log, where it reports of each item the tag of its latest committed version.
 use Rattle.std.proofs.Common.{◌≡◌, Bool, true, false, cond, ◌&&◌, nat_lt, List, [], ◌∷◌, map, filter, Option, Some, None, bytes_eq, inl, inr, refl, sym, ◌∙◌, ap, subst}
 use Rattle.std.specs.List.{list_any}
 use Rattle.std.specs.FinMap.{get}
@@ -18,7 +18,7 @@ tag_of (Some version) = version.tag
 abbrev pub latest_tag : Log → Key → Tag
 latest_tag log key = cond (nat_lt 0 (latest log key)) (tag_of (record_of log key (latest log key))) []
 
--- what an index tells of a key after a log: nothing, unless it is an item
+-- what an index reports of a key after a log: nothing, unless it is an item
 abbrev pub tag_after : Log → Key → Option Tag
 tag_after log key = cond (list_any (bytes_eq key) (items log)) (Some (latest_tag log key)) None
 
@@ -47,7 +47,7 @@ carried : (tag : Tag) (o : Option Record) → is_tagged tag (tag_of o) ≡ recor
 carried tag None = no_tag tag
 carried tag (Some version) = refl
 
--- an item stands under a tag where the index tells that tag of it
+-- an item stands under a tag where the index reports that tag of it
 under_alike : (log : Log) (tag : Tag) (key : Key) → In key (items log) → carries_tag tag (tag_after log key) ≡ is_under log tag key
 under_alike log tag key i =
     ap (λ b. carries_tag tag (cond b (Some (latest_tag log key)) None)) (item_found (items log) key i) ∙ by (nat_lt 0 (latest log key))

@@ -240,7 +240,7 @@ module _ (pairs : List Pair) (tag : Tag) (order : IsInOrder pair_cmp pair_row pa
         (λ k d from to. sym (same_tag (slice_index_or pairs k d).tag) ∙ le_eq _ (low.1 k d from (omega arith)) (high.0 k d (omega arith) (omega arith)))
         (λ k d from to. sym (same_tag (slice_index_or pairs k d).tag) ∙ gt_ne _ (high.1 k d (omega arith) to))
 
--- where a search tells no place, it tells the other kind
+-- where a search reports no place, it reports the other kind
 pub belongs_somewhere : (P Q : ℕ → Type 0) (r : Result ℕ ℕ) → MatchResult r P Q → ((i : ℕ) → r ≡ Ok i → ⊥) → (i : ℕ) × Q i
 belongs_somewhere P Q (Ok i) found other = absurd (other i refl)
 belongs_somewhere P Q (Err i) found other = (i, found)

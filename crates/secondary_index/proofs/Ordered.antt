@@ -58,7 +58,7 @@ module _ {E K X : Type 0} (R : K → K → Ordering) (o : IsTotalOrder R) (same 
         | Greater ↦ λ more. let last = greater key b (o.trans key a b (o.antisymm key a ∙ ap ordering_reverse more) below) in rw last (omega arith)
       ] refl
 
-  -- what a binary search for a key tells
+  -- what a binary search for a key reports
   pub searched : (es : List E) (key : K) (r : Result ℕ ℕ) → IsInOrder R row es → IsSearchInRange r (length es)
       → IsBinarySearchResult (λ e. R (row e).0 key) es r → MatchResult r (StandsAt R row key es) (BelongsAt R row key es)
   searched es key (Ok i) order within found = record { within = within; is = λ d. same _ _ (found d) }

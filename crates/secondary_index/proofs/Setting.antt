@@ -50,7 +50,7 @@ not_its_pair : (key : Key) (p : Pair) (old : Option Tag) → bytes_eq p.key key 
 not_its_pair key p None other = refl
 not_its_pair key p (Some o) other = ap (λ b. bytes_eq p.tag o && b) other ∙ and_false (bytes_eq p.tag o)
 
--- a key that had this tag, as a test of the two tells
+-- a key that had this tag, as a test of the two reports
 pub same_tag : (eq : Tag → Tag → Bool) → ((x y : Tag) → eq x y ≡ true → x ≡ y) → (old : Option Tag) (tag : Tag) → option_eq eq old (Some tag) ≡ true → old ≡ Some tag
 same_tag eq decides None tag h = absurd cc
 same_tag eq decides (Some x) tag h = ap Some (decides x tag h)
@@ -159,7 +159,7 @@ module _ (index : Index) (room : ℕ) (entries : List TaggedKey) (order : IsInOr
     pub set_is : ◌≡◌ {A = Index} (record { room = room; tags = tags_of new }) (record { room = index.room; tags = fin.insert index.tags key tag })
     set_is i = record { room = sym room_is i; tags = set_tags i }
 
-  -- a search tells whether a key is known
+  -- a search reports whether a key is known
   pub searched_is_known : (key : Key) (r : Result ℕ ℕ) → MatchResult r (StandsAt key_cmp entry_row key entries) (BelongsAt key_cmp entry_row key entries) → is_ok r ≡ fin.contains_key index.tags key
   searched_is_known key r at = by r at ∙ ap (λ (t : Tags). fin.contains_key t key) tags_are
     where

@@ -141,7 +141,7 @@ module _ (entries : List TaggedKey) (pairs : List Pair) (holds : Holds entries p
       as_many = ap length first ∙ length-take 16 (paired_keys tag pairs) ∙ omega (arith, counted);
     }
 
-  -- nothing is told where there is no pair
+  -- nothing is reported where there is no pair
   pub nothing_told : (under : List Pair) → under ≡ filter (λ (p : Pair). bytes_eq p.tag tag) pairs → length under ≡ 0 → ◌≡◌ {A = Findings} (record { count = 0; keys = [] }) (findings_of (keys_under (tags_of entries) tag))
   nothing_told under under_is empty =
       let no_key : length (paired_keys tag pairs) ≡ 0 = length-map (filter (λ (p : Pair). bytes_eq p.tag tag) pairs) (λ (p : Pair). p.key) ∙ ap length (sym under_is) ∙ empty in

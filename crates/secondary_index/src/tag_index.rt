@@ -94,8 +94,8 @@ impl TagIndex {
         self.under_counted(tag, &mut Visits::new())
     }
 
-    /// What `under` tells, and the entries of the index that are looked at, the probes of a binary search excepted, are
-    /// counted in `visits`: as many as keys are told. At most 2^61 were counted before.
+    /// What `under` reports, and the entries of the index that are looked at, the probes of a binary search excepted, are
+    /// counted in `visits`: as many as keys are reported. At most 2^61 were counted before.
     pub fn under_counted(&self, tag: &Tag, visits: &mut Visits) -> Found
         requires { visits.old ≤ 2 ^ 61 }
         ensures value { result ≡ findings_of (keys_under self.now.tags tag.now) }

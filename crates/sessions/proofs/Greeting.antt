@@ -25,7 +25,7 @@ ungreeted tenants tenant names name cause number exact (inr unopened) = elim (be
   | inr below ↦ inr (tenant, number, inr (below, unopened))
 ]
 
--- what opening a seat tells
+-- what opening a seat reports
 pub record Opens (tenants tenant client base parts : ℕ) (opened : Result SeatView Refusal) : Type 0 where
   pub fresh : IfOk opened (λ s. (s.stopped ≡ false) × (s.sent ≡ 0) × (s.entries ≡ []) × (s.parts ≡ parts))
   pub name : IfOk opened (λ s. (s.name.tenant ≡ tenant) × (s.name.client ≡ client) × (s.name.base ≡ base))

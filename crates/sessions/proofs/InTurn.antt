@@ -30,7 +30,7 @@ use Rattle.sessions.proofs.ToldOf.{Gathers-emptied}
 
 -- ---- what was done so far
 
--- so far a front of the stream was answered by the text that was gathered or written
+-- so far a prefix of the stream was answered by the text that was gathered or written
 pub record SoFar (options : SessionOptions) (hub : ConfigView) (names : List (List ℕ)) (first now : Option SeatView) (stream left : List ℕ)
     (old new : Option (List ℕ)) (before after : List ℕ) : Type 0 where
   pub text : List ℕ
@@ -57,13 +57,13 @@ pub none_answers : (options : SessionOptions) (hub : ConfigView) (names : List (
     → IsAnsweredBy options hub names request old answer new
 none_answers options hub names request old new answer is h = subst (λ (s : Option SeatView). IsAnsweredBy options hub names request s answer new) (sym is) h
 
--- a line that was not read for want of memory, or since it asks for nothing
+-- a line that was not read for an allocation failure, or since it asks for nothing
 pub refused_same : (seat : Option SeatView) (cause : Refusal) → (cause ≡ OutOfMemory → seat ≡ None → ⊥) → cause ≡ refused_as seat cause
 refused_same (Some seat) cause not = refl
 refused_same None OutOfMemory not = absurd (not refl refl)
 refused_same None cause not = refl
 
--- ---- a front of a stream
+-- ---- a prefix of a stream
 
 pub up_to_none : (options : SessionOptions) (hub : ConfigView) (names : List (List ℕ)) (seat : Option SeatView) (stream : List ℕ) → AnswersUpTo options hub names seat seat stream stream []
 up_to_none options hub names seat stream last = AnswersFront-refl (AnswersLines options hub names last) seat stream
@@ -113,7 +113,7 @@ goes_on options hub names old new line answer a b x y is answered goes gathers =
 pub gathers_line : (a b : Option (List ℕ)) (x y z line : List ℕ) → y ≡ x ++ line → Gathers a b y z [] → Gathers a b x z line
 gathers_line a b x y z line is h = subst (Gathers a b x z) (append-nil line) (Gathers-trans a a b x y z line [] (Gathers-text a x y line is) h)
 
--- a line is answered by want of memory, and the session ends
+-- a line is answered by an allocation failure, and the session ends
 pub ends_without_memory : (options : SessionOptions) (hub : ConfigView) (names : List (List ℕ)) (old new : Option SeatView) (line : List ℕ) (answer : Answer) (a b : Option (List ℕ)) (x y : List ℕ) → IsLine line
     → IsLineAnswered options hub names line old answer new → GoesOnBehind options old line → IsSome new × (answer ≡ Refused OutOfMemory) → Gathers a b x y (answer_line answer)
     → TakesBytes options hub names (Some Silent) old new (terminated line) [] a b x y
@@ -296,7 +296,7 @@ drained_name : (epoch : ℕ) (old new : SeatView) → IsDrained epoch old new �
 drained_name zero old new drained = ap (λ (s : SeatView). s.name) (drained.0 refl)
 drained_name (suc n) old new drained = ap (λ (s : SeatView). s.name) (drained.1 (omega arith))
 
--- the transcript of a seat from which entries may have been handed out
+-- the transcript of a seat from which entries may have been returned
 left_in : (epoch : ℕ) (seat : SeatView) (after : SeatView) (transcript : Option Transcript) → IsDrained epoch seat after → IsOfSeat 0 (Some after) transcript → IsOfSeat epoch (Some seat) transcript
 left_in epoch seat after transcript drained h = (
   h.0,

@@ -1,4 +1,4 @@
--- What the client of a connection is told, answer by answer.
+-- What the client of a connection is answered, answer by answer.
 use Rattle.std.proofs.Common.{◌≡◌, ◌+◌, ℕ, zero, suc, Bool, true, false, cond, nat_lt, List, [], ◌∷◌, ◌++◌, length, take, Option, Some, None, Result, Ok, Err, refl, sym, ap, subst, inl, inr, arith, ◌∙◌, append_assoc}
 use Rattle.std.proofs.lemmas.List.{append-nil}
 use Rattle.std.proofs.lemmas.List.Elements.{filter_map-append, All-append, All-cons, All-nil}
@@ -90,7 +90,7 @@ spelled_more text causes counter tellings t is =
 entered_more : (tellings : List Telling) (t : Telling) → flat_map answers_entered (tellings ++ t ∷ []) ≡ flat_map answers_entered tellings ++ answers_entered t
 entered_more tellings t = flat_map-append answers_entered tellings (t ∷ []) ∙ ap (λ (l : List Answer). flat_map answers_entered tellings ++ l) (append-nil (answers_entered t))
 
--- where no put reads first, all that a line entered is told
+-- where no put reads first, all that a line entered is reported
 abbrev EachTold : Bool → List Telling → Type 0
 EachTold newest tellings = newest ≡ false → All (λ telling. answer_untold telling ≡ None) tellings
 
@@ -198,7 +198,7 @@ heard_grown newest epoch counter other old between rest told unheard text t h g 
 heard_all : (newest : Bool) (epoch : ℕ) (seat : SeatView) (text : List ℕ) (h : WasTold newest epoch (Some seat) text) → seat.stopped ≡ false → HasHeard newest epoch seat.name.counter seat.entries None text
 heard_all newest epoch seat text h going = subst (λ (o : Option Answer). HasHeard newest epoch seat.name.counter seat.entries o text) (h.2 going) h.1
 
--- what a seat tells whose operations entered just this, and that goes on
+-- what a seat reports whose operations entered just this, and that goes on
 told_grown : (newest : Bool) (epoch : ℕ) (old between new : SeatView) (t : Telling) → HasGrown old.entries between.entries (answers_entered t) → (newest ≡ false → answer_untold t ≡ None)
     → old.stopped ≡ false → between.name.counter ≡ old.name.counter → IsDrained epoch between new → Tells newest epoch (Some old) (Some new) (answer_line (answer_told t))
 told_grown newest epoch old between new t g plain going name drained told h = (
@@ -213,7 +213,7 @@ pub told_entered : (newest : Bool) (epoch : ℕ) (old between new : SeatView) (a
 told_entered newest epoch old between new act answer f going name drained =
     told_grown newest epoch old between new (Entered None answer) (one_grown old.entries between.entries act (Some answer) f) (λ plain. refl) going name drained
 
--- what it tells that a worker's refusal stopped
+-- what it reports that a worker's refusal stopped
 told_broken : (newest : Bool) (epoch : ℕ) (old between new : SeatView) (first entered : Option Answer) (refusal : Refusal) → is_of_worker refusal ≡ true
     → HasGrown old.entries between.entries (cons_option first [] ++ cons_option entered []) → (newest ≡ false → first ≡ None) → old.stopped ≡ false → between.stopped ≡ true
     → between.name.counter ≡ old.name.counter → IsDrained epoch between new → Tells newest epoch (Some old) (Some new) (answer_line (Refused refusal))
@@ -381,7 +381,7 @@ Gathers-emptied a b c x y z text h adds none = record {
 
 -- ---- the end of a session
 
--- what was told of a seat, of the transcript that it left
+-- what was reported of a seat, of the transcript that it left
 told_at_end : (newest : Bool) (epoch : ℕ) (seat : Option SeatView) (transcript : Option Transcript) (text : List ℕ) → WasTold newest epoch seat text
     → option_map (λ (t : Transcript). t.counter) transcript ≡ option_map (λ (s : SeatView). s.name.counter) seat
     → option_map (λ (t : Transcript). t.entries.items) transcript ≡ option_map (λ (s : SeatView). s.entries) seat
@@ -406,7 +406,7 @@ pub writes : (newest : Bool) (epoch : ℕ) (seat : Option SeatView) (transcript 
 writes newest epoch seat transcript a b c gathered text last h tells is adds end =
     (text, last, told_at_end newest epoch seat transcript text (tells [] ([], refl)) end.counter end.entries, is, Gathers-end a b c gathered text last h adds)
 
--- ---- what is gathered, and what it tells
+-- ---- what is gathered, and what it reports
 
 abbrev pub ToldSo : Bool → ℕ → Option (List ℕ) → Option (List ℕ) → List ℕ → List ℕ → Option SeatView → Option SeatView → Type 0
 ToldSo newest epoch old new before after first last = (text : List ℕ) × Gathers old new before after text × Tells newest epoch first last text
@@ -414,7 +414,7 @@ ToldSo newest epoch old new before after first last = (text : List ℕ) × Gathe
 pub told_none : (newest : Bool) (epoch : ℕ) (writer : Option (List ℕ)) (out : List ℕ) (seat : Option SeatView) → ToldSo newest epoch writer writer out out seat seat
 told_none newest epoch writer out seat = ([], Gathers-none writer out, Tells-same newest epoch seat)
 
--- what a flush keeps is told as it was
+-- what a flush keeps is reported as it was
 pub told_kept : (newest : Bool) (epoch : ℕ) (a b : Option (List ℕ)) (out : List ℕ) (seat : Option SeatView) → Keeps a b → ToldSo newest epoch a b out out seat seat
 told_kept newest epoch a b out seat keeps = ([], record { written = []; appends = Appends-kept a a b [] (Appends-nil a) keeps; whole = append-nil out }, Tells-same newest epoch seat)
 
@@ -427,7 +427,7 @@ told_line newest epoch a b x y z line first last is tells h = (line ++ [], Gathe
 pub told_flushed : (newest : Bool) (epoch : ℕ) (a b c : Option (List ℕ)) (x y z : List ℕ) (first last : Option SeatView) → ToldSo newest epoch a b x y first last → Appends b c y → z ≡ [] → ToldSo newest epoch a c x z first last
 told_flushed newest epoch a b c x y z first last h adds none = (h.0, Gathers-emptied a b c x y z h.0 h.1 adds none, h.2)
 
--- the same of a call that went well, after what was told before
+-- the same of a call that went well, after what was reported before
 pub told_after : {A E : Type 0} (newest : Bool) (epoch : ℕ) (r : Result A E) (a b c : Option (List ℕ)) (x y z : List ℕ) (first next last : Option SeatView) → ToldSo newest epoch a b x y first next
     → OnOk r (ToldSo newest epoch b c y z next last) → OnOk r (ToldSo newest epoch a c x z first last)
 told_after newest epoch (Ok done) a b c x y z first next last told more = told_on newest epoch a b c x y z first next last told more
@@ -457,7 +457,7 @@ flushed (Err e) a b x z adds none = tt
 
 -- ---- where a session breaks off
 
--- nothing more is told, and nothing is written
+-- nothing more is reported, and nothing is written
 pub breaks_here : (newest : Bool) (epoch : ℕ) (a : Option (List ℕ)) (x : List ℕ) (seat : Option SeatView) → BreaksTelling newest epoch seat seat a a x
 breaks_here newest epoch a x seat = ([], 0, Tells-same newest epoch seat, Appends-nil a)
 
@@ -465,11 +465,11 @@ breaks_here newest epoch a x seat = ([], 0, Tells-same newest epoch seat, Append
 pub breaks_at : (newest : Bool) (epoch : ℕ) (a b : Option (List ℕ)) (x : List ℕ) (seat : Option SeatView) (n : ℕ) → Appends a b (take n x) → BreaksTelling newest epoch seat seat a b x
 breaks_at newest epoch a b x seat n adds = ([], n, Tells-same newest epoch seat, subst (λ (l : List ℕ). Appends a b (take n l)) (sym (append-nil x)) adds)
 
--- a line was told before
+-- a line was reported before
 pub breaks_line : (newest : Bool) (epoch : ℕ) (a b : Option (List ℕ)) (x y line : List ℕ) (first last : Option SeatView) (n : ℕ) → y ≡ x ++ line → Tells newest epoch first last line → Appends a b (take n y) → BreaksTelling newest epoch first last a b x
 breaks_line newest epoch a b x y line first last n is tells adds = (line, n, tells, subst (λ (l : List ℕ). Appends a b (take n l)) is adds)
 
--- more was told before
+-- more was reported before
 pub breaks_after : (newest : Bool) (epoch : ℕ) (a b c : Option (List ℕ)) (x y : List ℕ) (first next last : Option SeatView) → ToldSo newest epoch a b x y first next → BreaksTelling newest epoch next last b c y → BreaksTelling newest epoch first last a c x
 breaks_after newest epoch a b c x y first next last h k =
     (h.0 ++ k.0, length h.1.written + k.1, Tells-trans newest epoch first next last h.0 k.0 h.2 k.2, begins_behind_gathered a b c x y h.0 k.0 k.1 h.1 k.3)

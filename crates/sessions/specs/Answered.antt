@@ -31,7 +31,7 @@ AnswersLines options hub names last now (line ∷ lines) text =
     × GoesOnBehind options now line × (text ≡ answer_line answer ++ rest)
     × AnswersLines options hub names last next lines rest
 
--- a front of the stream is answered by the text, and then the rest as from the second seat on
+-- a prefix of the stream is answered by the text, and then the rest as from the second seat on
 abbrev pub AnswersUpTo : SessionOptions → ConfigView → List (List ℕ) → Option SeatView → Option SeatView
     → List ℕ → List ℕ → List ℕ → Type 0
 AnswersUpTo options hub names first now stream left text =
@@ -51,7 +51,7 @@ ComesToEnd options seat ending left =
     (line : List ℕ) × (rest : List ℕ) × (left ≡ terminated line ++ rest) × EndsBefore options seat ending line
 
 -- Why a session with this seat ended so that had answered by this text, with these bytes left: the input was at its
--- end, or the last answer was want of memory, which a seat gave; a line comes next that ends it; or what comes next is
+-- end, or the last answer was an allocation failure, which a seat gave; a line comes next that ends it; or what comes next is
 -- too long or cut.
 abbrev pub EndsFor : SessionOptions → Option SeatView → SessionEnd → List ℕ → List ℕ → Type 0
 EndsFor options seat Silent left text =
@@ -60,7 +60,7 @@ EndsFor options seat SaysBye left text = ComesToEnd options seat SaysBye left
 EndsFor options seat Unread left text = ComesToEnd options seat Unread left
 EndsFor options seat (IsRefused cause) left text = EndsAs left (Err cause)
 
--- behind the answers the seat stays as it was, or its entries are handed out where journals are cut
+-- behind the answers the seat stays as it was, or its entries are returned where journals are cut
 abbrev pub StaysBehind : ℕ → Option SeatView → Option SeatView → Type 0
 StaysBehind epoch old new =
     (new ≡ old) ⊎ ((seat : SeatView) × (after : SeatView) × (old ≡ Some seat) × (new ≡ Some after)
@@ -97,7 +97,7 @@ pub record TakesInput (options : SessionOptions) (hub : ConfigView) (names : Lis
   pub ends : EndsFor options seat ending left text
   pub behind : StaysBehind hub.epoch seat last
 
--- What a fault leaves of bytes that came: a beginning of what was gathered before and of the answers to a front of
+-- What a fault leaves of bytes that came: a beginning of what was gathered before and of the answers to a prefix of
 -- them is written.
 pub record BreaksOffIn (options : SessionOptions) (hub : ConfigView) (names : List (List ℕ))
     (first last : Option SeatView) (bytes : List ℕ) (old new : Option (List ℕ)) (before : List ℕ) : Type 0 where
@@ -107,13 +107,13 @@ pub record BreaksOffIn (options : SessionOptions) (hub : ConfigView) (names : Li
   pub answers : AnswersUpTo options hub names first last bytes left text
   pub written : Appends old new (take size (before ++ text))
 
--- the transcript is that of the seat, with its entries where none were handed out; or there is neither
+-- the transcript is that of the seat, with its entries where none were returned; or there is neither
 abbrev pub IsOfSeat : ℕ → Option SeatView → Option Transcript → Type 0
 IsOfSeat epoch None transcript = transcript ≡ None
 IsOfSeat epoch (Some seat) transcript =
     (its : Transcript) × (transcript ≡ Some its) × IsNamed its seat.name × (epoch ≡ 0 → its.entries.items ≡ seat.entries)
 
--- What a session over this input wrote that left this transcript, or none: each line of a front of the input was
+-- What a session over this input wrote that left this transcript, or none: each line of a prefix of the input was
 -- answered in its turn, by the tenant that its hello named; and then comes the last line.
 pub record HasAnswered (options : SessionOptions) (hub : ConfigView) (names : List (List ℕ)) (input : List ℕ)
     (transcript : Option Transcript) (old new : Option (List ℕ)) : Type 0 where
@@ -129,7 +129,7 @@ pub record HasAnswered (options : SessionOptions) (hub : ConfigView) (names : Li
   pub written : Appends old new (text ++ last_line ending)
 
 -- What a session over this input wrote that ended by a fault and left this transcript, or none: a beginning of the
--- answers to the lines of a front of the input, each in its turn, and of a last line.
+-- answers to the lines of a prefix of the input, each in its turn, and of a last line.
 pub record HasAnsweredSome (options : SessionOptions) (hub : ConfigView) (names : List (List ℕ)) (input : List ℕ)
     (transcript : Option Transcript) (old new : Option (List ℕ)) : Type 0 where
   pub front : List ℕ

@@ -75,7 +75,7 @@ abbrev pub refused_as : Option SeatView → Refusal → Refusal
 refused_as None cause = cause_alone cause
 refused_as (Some seat) cause = cause
 
--- what a line is answered that could not be read: 40, or 30 for want of memory for its list
+-- what a line is answered that could not be read: 40, or 30 for an allocation failure for its list
 abbrev pub IsUnread : List ℕ → Option SeatView → Answer → Type 0
 IsUnread line seat answer =
     (cause : Refusal) × RefusesLine line cause × (answer ≡ Refused (refused_as seat cause))

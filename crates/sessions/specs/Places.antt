@@ -19,7 +19,7 @@ one_less = option_map (λ left. left - 1)
 abbrev pub one_more : Option ℕ → Option ℕ
 one_more = option_map (λ left. min (left + 1) (2 ^ 32 - 1))
 
--- what is told of a server at its end is the same
+-- what is reported of a server at its end is the same
 pub record LeavesTheSame (old new : ServedConnections) : Type 0 where
   pub transcripts : new.transcripts ≡ old.transcripts
   pub failed : new.has_failed ≡ old.has_failed

@@ -1,4 +1,4 @@
--- What the client of a connection is told.
+-- What the client of a connection is answered.
 use Rattle.std.specs.Prelude.{◌≡◌, ◌⊎◌, ◌<◌, ℕ, List, [], ◌∷◌, ◌++◌, take, true, false, cond, nat_lt}
 use Rattle.std.specs.Prelude.{Bool, Option, Some, None, IfSome, All}
 use Rattle.std.specs.Option.{option_map}
@@ -22,7 +22,7 @@ use Rattle.line_protocol.specs.StepSpelling.{IsNumberOf}
 use Rattle.line_protocol.specs.declared.request.Request.{Request}
 use Rattle.line_protocol.specs.declared.request.Request.TheVariants.{Hello, Put, Get, Find, Keep, Bye}
 
--- ---- what is told
+-- ---- what is reported
 
 -- What a line is answered where a seat is: an answer that the seat entered, a refusal that it did not, or how many
 -- versions each collection keeps from then on. First: what the seat had entered for the line and did not tell, if
@@ -57,19 +57,19 @@ tellings_text = flat_map (λ telling. answer_line (answer_told telling))
 abbrev pub refusals_text : List Refusal → List ℕ
 refusals_text = flat_map (λ cause. answer_line (Refused cause))
 
--- all entries are left, or none where journals are cut: they are handed out then
+-- all entries are left, or none where journals are cut: they are returned then
 abbrev pub IsLeftOf : ℕ → List Entry → List Entry → Type 0
 IsLeftOf epoch all left = (epoch ≡ 0 → left ≡ all) × (0 < epoch → left ≡ [])
 
--- a worker's refusal was told in place of this answer, if there is one
+-- a worker's refusal was reported in place of this answer, if there is one
 abbrev pub IsReplaced : Option Answer → List Telling → Type 0
 IsReplaced unheard tellings =
     IfSome unheard (λ answer. (first : Option Answer) × (refusal : Refusal) × (before : List Telling)
     × (after : List Telling) × (is_of_worker refusal ≡ true) × (tellings ≡ before ++ Refuses first refusal ∷ after))
 
--- What a client was told whose seat has this counter and has these entries left: refusals while there was no seat,
+-- What a client was answered whose seat has this counter and has these entries left: refusals while there was no seat,
 -- the counter, and then an answer to each line. Of these the ones that the seat entered are all that it entered, in
--- order; but for one at the end, where a worker's refusal was told in its place, and, where puts read first, for the
+-- order; but for one at the end, where a worker's refusal was reported in its place, and, where puts read first, for the
 -- answers of those reads.
 pub record HasHeard (newest : Bool) (epoch counter : ℕ) (left : List Entry) (unheard : Option Answer) (text : List ℕ)
     : Type 0 where
@@ -82,7 +82,7 @@ pub record HasHeard (newest : Bool) (epoch counter : ℕ) (left : List Entry) (u
   pub each : newest ≡ false → All (λ telling. answer_untold telling ≡ None) tellings
   pub replaced : IsReplaced unheard tellings
 
--- What was told so far: refusals alone where no seat was opened. A seat that was not stopped entered nothing that was
+-- What was reported so far: refusals alone where no seat was opened. A seat that was not stopped entered nothing that was
 -- not told.
 abbrev pub WasTold : Bool → ℕ → Option SeatView → List ℕ → Type 0
 WasTold newest epoch None text = (causes : List Refusal) × (text ≡ refusals_text causes)
@@ -90,12 +90,12 @@ WasTold newest epoch (Some seat) text =
     (unheard : Option Answer) × HasHeard newest epoch seat.name.counter seat.entries unheard text
     × (seat.stopped ≡ false → unheard ≡ None)
 
--- whatever was told before, this text is told after it
+-- whatever was reported before, this text is reported after it
 abbrev pub Tells : Bool → ℕ → Option SeatView → Option SeatView → List ℕ → Type 0
 Tells newest epoch before after text =
     (told : List ℕ) → WasTold newest epoch before told → WasTold newest epoch after (told ++ text)
 
--- what was told in a session that left this transcript, or none
+-- what was reported in a session that left this transcript, or none
 abbrev pub HasTold : Bool → ℕ → Option Transcript → List ℕ → Type 0
 HasTold newest epoch None text = (causes : List Refusal) × (text ≡ refusals_text causes)
 HasTold newest epoch (Some transcript) text =
@@ -111,13 +111,13 @@ IsWritten newest epoch transcript old new =
     (told : List ℕ) × (last : List ℕ) × HasTold newest epoch transcript told × IsLastLine last
     × Appends old new (told ++ last)
 
--- what a session wrote that left this transcript, or none, and ended by a fault: a beginning of what it was told
+-- what a session wrote that left this transcript, or none, and ended by a fault: a beginning of what it was answered
 abbrev pub IsBegun : Bool → ℕ → Option Transcript → Option (List ℕ) → Option (List ℕ) → Type 0
 IsBegun newest epoch transcript old new =
     (told : List ℕ) × (last : List ℕ) × (n : ℕ) × HasTold newest epoch transcript told × IsLastLine last
     × Appends old new (take n (told ++ last))
 
--- what is written where a session breaks off that had gathered this before: a beginning of it and of what is told then
+-- what is written where a session breaks off that had gathered this before: a beginning of it and of what is reported then
 abbrev pub BreaksTelling : Bool → ℕ → Option SeatView → Option SeatView → Option (List ℕ) → Option (List ℕ)
     → List ℕ → Type 0
 BreaksTelling newest epoch before after old new gathered =
@@ -148,11 +148,11 @@ IsAnswered newest tenants (Keep keep) old answer new =
     (answer ≡ cond (nat_lt old.name.tenant tenants) (Keeps keep) (Refused NoTenant)) × (new ≡ old)
 IsAnswered newest tenants Bye old answer new = ⊥
 
--- the entries so far are handed out where journals are cut, and stay where none is
+-- the entries so far are returned where journals are cut, and stay where none is
 abbrev pub IsDrained : ℕ → SeatView → SeatView → Type 0
 IsDrained epoch old new = (epoch ≡ 0 → new ≡ old) × (0 < epoch → new ≡ record old { entries = [] })
 
--- what a seat answers to a request, with its entries handed out then where journals are cut
+-- what a seat answers to a request, with its entries returned then where journals are cut
 abbrev pub IsAnsweredAndDrained : Bool → ℕ → ℕ → Request → SeatView → Answer → SeatView → Type 0
 IsAnsweredAndDrained newest epoch tenants request old answer new =
     (between : SeatView) × IsAnswered newest tenants request old answer between × (between.name ≡ old.name)

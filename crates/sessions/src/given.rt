@@ -46,7 +46,7 @@ impl Given {
         self.answer = Answer::Ready(counter);
     }
 
-    /// Whether it is want of memory.
+    /// Whether it is an allocation failure.
     pub(crate) fn is_want_of_memory(&self) -> bool
         ensures { IsTrue result ↔ (self.now ≡ Refused OutOfMemory) }
     {

@@ -49,7 +49,7 @@ struct Connection<'s, G> {
 /// Why no more lines are answered.
 #[derive(Clone, Copy)]
 enum SessionEnd {
-    /// The input ended after a whole line or before any byte, or want of memory was answered.
+    /// The input ended after a whole line or before any byte, or an allocation failure was answered.
     Silent,
     /// `bye` was read, and is still to be answered.
     Bye,
@@ -75,7 +75,7 @@ pub fn run_session<'s, G: Gate, H: Wait, R: Read, W: Write>(
     // At a fault a beginning of that was written, and the transcript stands there just so.
     ensures begun { IfErr result.1 (λ _. IsBegun false hub.now.epoch result.0 (W.contents writer.old) (W.contents writer.new)) }
     ensures tenant { IfSome result.0 (λ t. HasName names.now t.tenant) }
-    // Each line of a front of the input was answered, in its turn, and then the session ended.
+    // Each line of a prefix of the input was answered, in its turn, and then the session ended.
     ensures answered { IfOk result.1 (λ _. IfSome (R.remaining reader.old) (λ input. HasAnswered no_options hub.now names.now input result.0 (W.contents writer.old) (W.contents writer.new))) }
     // At a fault a beginning of the answers to such lines was written.
     ensures broke { IfErr result.1 (λ _. IfSome (R.remaining reader.old) (λ input. HasAnsweredSome no_options hub.now names.now input result.0 (W.contents writer.old) (W.contents writer.new))) }
@@ -96,7 +96,7 @@ pub fn run_session<'s, G: Gate, H: Wait, R: Read, W: Write>(
 /// keys first (`Seat::put_newest`), which is not told. `keep` sets how many versions a
 /// collection of its tenant keeps. Before the seat is there these four are refused 11. A `hello` where the connection has a seat is refused 12, and changes nothing. A line that is none of a session's
 /// is refused 40, and the session goes on; but where it is strict and has no seat, that ends it. `bye` ends it too, and so do a line that is too long (41), an input that ends
-/// within a line (42) and want of memory (30), but as the answer to `hello`. However it ends, its seat is ended, and
+/// within a line (42) and an allocation failure (30), but as the answer to `hello`. However it ends, its seat is ended, and
 /// that before the last of these answers is written.
 ///
 /// Beside what the session came to stands the transcript of its seat, and `None` where none was opened. The fault is
@@ -117,7 +117,7 @@ pub fn run_session_as<'s, G: Gate, H: Wait, R: Read, W: Write>(
     // At a fault a beginning of that was written, and the transcript stands there just so.
     ensures begun { IfErr result.1 (λ _. IsBegun options.newest hub.now.epoch result.0 (W.contents writer.old) (W.contents writer.new)) }
     ensures tenant { IfSome result.0 (λ t. HasName names.now t.tenant) }
-    // Each line of a front of the input was answered, in its turn, and then the session ended. A strict one goes on only
+    // Each line of a prefix of the input was answered, in its turn, and then the session ended. A strict one goes on only
     // behind lines that it could read, until it has a seat.
     ensures answered { IfOk result.1 (λ _. IfSome (R.remaining reader.old) (λ input. HasAnswered options hub.now names.now input result.0 (W.contents writer.old) (W.contents writer.new))) }
     // At a fault a beginning of the answers to such lines was written.
@@ -360,7 +360,7 @@ fn answer_next<'s, G: Gate, H: Wait, W: Write>(
         (terminated line.now) [] (W.contents writer.old) (W.contents writer.new) out.old.items out.new.items) }
     ensures broke { IfErr result (λ _. IsLine line.now → BreaksOffIn connection.old.terms.options hub.now connection.old.terms.names.now connection.old.seat connection.new.seat
         (terminated line.now) (W.contents writer.old) (W.contents writer.new) out.old.items) }
-    // Want of memory that its seat told does not leave it going on.
+    // An allocation failure that its seat told does not leave it going on.
     ensures goes_on { IfOk result (λ ending. ending ≡ None → IsSome connection.new.seat → connection.new.answer ≡ Refused OutOfMemory → ⊥) }
 {
     if let Some(ending) = connection.answer(rt, hub, line) {
@@ -437,7 +437,7 @@ impl<'s, G: Gate> Connection<'s, G> {
         }
     }
 
-    // Want of memory ends the session, but as the answer to the `hello` that would have opened its seat.
+    // An allocation failure ends the session, but as the answer to the `hello` that would have opened its seat.
     fn ends(&self) -> bool
         ensures { IsTrue result ↔ (IsSome self.now.seat × (self.now.answer ≡ Refused OutOfMemory)) }
     {
@@ -513,7 +513,7 @@ impl<'s, G: Gate> Connection<'s, G> {
 }
 
 // Answers a request by a connection's seat, and says whether it is answered. Where journals are cut, what the seat noted is
-// let go.
+// released.
 fn answer_by_seat<G: Gate, H: Wait>(
     rt: &H,
     hub: &Hub<G>,

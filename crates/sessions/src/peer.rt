@@ -39,7 +39,7 @@ impl Peer<'_> {
         true
     }
 
-    /// Parts from a peer whose connection is shut down for reads: it is told the end, and what it sent is passed over. A close
+    /// Parts from a peer whose connection is shut down for reads: it is sent the end, and what it sent is passed over. A close
     /// behind unread bytes would reset the connection, and its last answers might be lost.
     pub(crate) fn part(&self) {
         let mut stream = self.stream;

@@ -121,7 +121,7 @@ impl<L> Server<L> {
         &self.listener
     }
 
-    /// Whether its connections are not counted, so that it stays until it is told to end.
+    /// Whether its connections are not counted, so that it stays until it is asked to end.
     pub(crate) fn stays(&self) -> bool
         ensures { result ≡ self.now.stays }
     {
@@ -150,7 +150,7 @@ impl<L> Server<L> {
         self.served.lock(rt).connections()
     }
 
-    /// Notes that a device failed: the program tells so at its end.
+    /// Notes that a device failed: the program reports so at its end.
     pub fn fail<R: Wait>(&self, rt: &R) {
         self.served.lock(rt).fail();
     }
@@ -189,7 +189,7 @@ impl<L> Server<L> {
     }
 
     /// Gives a connection this place. None where it is to end by now, and where it found no memory: then it is closed, and the
-    /// program tells so at its end.
+    /// program reports so at its end.
     fn enter<R: Wait>(&self, rt: &R, place: usize, stream: TcpStream) -> Option<Arc<TcpStream>>
         ensures { IfSome result (λ entered. arc_value entered ≡ stream) }
     {

@@ -1,4 +1,4 @@
--- Answers as a seat tells them.
+-- Answers as a seat reports them.
 use Rattle.std.proofs.Common.{◌≡◌, ℕ, Option, refl, sym}
 use Rattle.plain_store.specs.Words.{Setup}
 use Rattle.plain_store.specs.History.{History}
@@ -7,7 +7,7 @@ use Rattle.plain_store.specs.declared.refusal.Refusal.TheVariants.{Discarded as 
 use Rattle.settle.specs.Words.{Act, Deliver, Answer, Ready, Ended, Refusal, Rows, Clashed, Torn}
 use Rattle.settle.specs.Trace.{at_seat}
 
--- ---- an answer that is no end is told whole
+-- ---- an answer that is no end is reported whole
 
 pub at_other : (answer : Answer) → ((why : Refusal) (rows : Option Rows) → answer ≡ Ended why rows → ⊥) → at_seat answer ≡ answer
 at_other (Ended why rows) other = absurd (other why rows refl)
@@ -17,7 +17,7 @@ pub is_ready : (counter : ℕ) (answer : Answer) → Ready counter ≡ at_seat a
 is_ready counter (Ended why rows) e = cc
 is_ready counter answer e = sym e
 
--- ---- what is right of an answer is right of what a seat tells of it
+-- ---- what is right of an answer is right of what a seat reports of it
 
 pub atomic_told : (history : History) (act : Act) (answer : Answer) → IsAtomicAnswer history act answer → IsAtomicAnswer history act (at_seat answer)
 atomic_told history act (Ended why rows) right = tt

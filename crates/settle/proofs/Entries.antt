@@ -27,7 +27,7 @@ pub all_more : (answer first : Answer) (rest : List Answer) → first ≡ at_sea
 all_more answer first rest is all zero d h = is
 all_more answer first rest is all (suc k) d h = all k d (omega (arith, h))
 
--- what a list of entries tells of a place
+-- what a list of entries reports of a place
 
 pub taken_there : (o : Option Entry) (t : Taken) → Some t ≡ option_and_then taken_of o → o ≡ Some (Took t.number t.partition t.place t.reply)
 taken_there None t is = absurd (let bad : Some t ≡ None = is in cc)

@@ -101,7 +101,7 @@ all_played base end events k lasts past played =
       subst (λ (es : List Event). IsEnd base es end) whole played.leads,
     )
 
--- what is told of an optional reply is told of the one that is there
+-- what is reported of an optional reply is reported of the one that is there
 pub said : {X : Type 0} (P : X → Type 0) (place : Option X) (x : X) → place ≡ Some x → IsSomeAnd place P → P x
 said P place x is told = subst (λ o. IsSomeAnd o P) is told
 

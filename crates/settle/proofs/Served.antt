@@ -75,7 +75,7 @@ step_adds setup older m (stopped client) p = refl
 step_adds setup older m (keep_set keep) p = refl
 step_adds setup older m (collected partition n) p = refl
 
--- ---- a call is replied, and a collection is told what it freed
+-- ---- a call is replied, and a collection is reported what it freed
 
 abbrev Uncrossed : Act → Answer → Type 0
 Uncrossed (Deliver row) (Freed count) = ⊥
@@ -97,7 +97,7 @@ step_uncrossed setup older m (refused act why) = refused_uncrossed act why
 step_uncrossed setup older m (moved row message reply transaction move at e r wanted how) = moved_uncrossed older row transaction move
 step_uncrossed setup older m _ = tt
 
--- ---- what is added is what was brought, with what was told
+-- ---- what is added is what was brought, with what was reported
 
 call_from : (x y : Call) → Some x ≡ Some y → x ≡ y
 call_from x y e = cc

@@ -26,7 +26,7 @@ abbrev pub item_before : Transcript → ℕ → ℕ
 item_before transcript entry = count_done (take entry transcript.entries.items)
 
 -- The answer of an entry is that of the step which its own transcript gave for what it did last before it. This step
--- stands in the list, and the plain store that took the steps before it answers it so, as a seat tells it.
+-- stands in the list, and the plain store that took the steps before it answers it so, as a seat reports it.
 pub record IsOwnAnswer (input : Input) (steps : List Step) (trace : Trace) (place : ℕ) (transcript : Transcript)
     (entry : ℕ) (answer : Answer) : Type 0 where
   pub item : TranscriptItem

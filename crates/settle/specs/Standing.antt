@@ -151,7 +151,7 @@ call_coming setup history partition (CollectAt p) =
     cond (p == partition) (Some (Collect (keep_in setup history))) None
 call_coming setup history partition act = None
 
--- the reply that an answer tells
+-- the reply that an answer reports
 abbrev pub reply_told : Answer → Option Reply
 reply_told (Replied row reply) = Some reply
 reply_told (Freed count) = Some (ToCollect count)

@@ -91,7 +91,7 @@ told_next input older act = answer_to (setup_for input) (after input older) act
 abbrev pub answered : Input → Trace → TracedStep → Answer
 answered input older taken = answer_to (setup_for input) (ready input older taken.origin) taken.act
 
--- an answer as a seat tells it, which names no rows of an end
+-- an answer as a seat reports it, which names no rows of an end
 abbrev pub at_seat : Answer → Answer
 at_seat (Ended refusal rows) = Ended refusal None
 at_seat answer = answer
@@ -120,7 +120,7 @@ numbers_from first (suc n) = first ∷ numbers_from (first + 1) n
 abbrev pub numbers : Rows → List ℕ
 numbers rows = numbers_from rows.first (rows.last + 1 - rows.first)
 
--- the rows of the calls that a step sent, as its answer tells them
+-- the rows of the calls that a step sent, as its answer reports them
 abbrev pub rows_sent : Answer → List ℕ
 rows_sent (PutBegun stamp rows) = numbers rows
 rows_sent (GetBegun rows) = numbers rows

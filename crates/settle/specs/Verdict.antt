@@ -147,7 +147,7 @@ abbrev pub LacksJournal : Closed → ℕ → Type 0
 LacksJournal closed tenant =
     (partition : ℕ) × (partition < closed.config.parts) × (journal_of_closed closed tenant partition ≡ None)
 
--- a journal is not in its first epoch, or that did not begin with nothing: what it handed out before is not there
+-- a journal is not in its first epoch, or that did not begin with nothing: what it returned before is not there
 abbrev pub LacksEpochs : Closed → ℕ → Type 0
 LacksEpochs closed tenant =
     (partition : ℕ) × (journal : Journal) × (journal_of_closed closed tenant partition ≡ Some journal)

@@ -278,7 +278,7 @@ fn is_same(one: &Answer, other: &Answer) -> bool
     one == other
 }
 
-/// Whether a seat tells this of the answer.
+/// Whether a seat reports this of the answer.
 fn is_told(noted: &Answer, answer: &Answer) -> bool
     ensures { IsTrue result ↔ (noted.now ≡ at_seat answer.now) }
 {
@@ -301,7 +301,7 @@ fn keep_told(event: &Event) -> Option<Keep>
     }
 }
 
-/// The row of a reply, 0 for that of a collection, where the answer tells the event's reply.
+/// The row of a reply, 0 for that of a collection, where the answer reports the event's reply.
 fn row_replied(answer: &Answer, event: &Event) -> Option<u64>
     ensures { MatchOption result (reply_told answer.now ≢ Some event.now.reply) (λ row. (reply_told answer.now ≡ Some event.now.reply) × (row ≡ row_replied answer.now)) }
 {

@@ -23,7 +23,7 @@ use std::alloc::Global;
 /// NoTenant comes exactly where the config has no such tenant. Missing: a journal, the epochs before what a journal has, the
 /// transcript of a seat's event, or the event of a reply that was taken is not there, or an event's seat never sent that call. Mismatch: a journal's limits are not
 /// the config's, keep aside, or the run differs from what was noted. Stuck: steps are left, and none can come next.
-/// OutOfMemory: a growth was refused. Which of several faults is answered is open.
+/// OutOfMemory: an allocation failed. Which of several faults is answered is open.
 pub fn settle(alloc: Global, closed: &Closed, tenant: u32) -> Result<Vec<Step>, SettleFault>
     ensures { IsVerdictFor closed.now tenant (limits_at closed.now tenant) result }
 {

@@ -19,7 +19,7 @@ IsTaskAtHome Cut = Unit {0}
 abbrev pub AreAtHome : List Task → Type 0
 AreAtHome tasks = All IsTaskAtHome tasks
 
--- how it is told that a call was not served
+-- how it is reported that a call was not served
 abbrev pub refusal_of : Fault → Refusal
 refusal_of fault.NoTenant = NoTenant
 refusal_of fault.Late = Late

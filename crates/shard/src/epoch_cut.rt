@@ -131,7 +131,7 @@ pub fn hand_over<S: Sink>(sink: &S, cut: CutEpoch)
     sink.epoch(partition, tenant, epoch);
 }
 
-/// Cuts each journal that has so many events, and hands its epoch to the sink once the lock is let go. What could not be cut
+/// Cuts each journal that has so many events, and hands its epoch to the sink once the lock is released. What could not be cut
 /// is tried again after the next task.
 pub fn cut_all<S: Sink, R: Wait>(rt: &R, desk: &Shard, sink: &S) -> Search
     requires { 0 < desk.now.post.epoch }

@@ -110,7 +110,7 @@ pub struct JobSender {
     pass: Pass<Task, ()>,
 }
 
-// What lies in it is let go here, so that no crate above proves it anew.
+// What lies in it is released here, so that no crate above proves it anew.
 impl Drop for JobSender {
     fn drop(self) {
         let JobSender { queue: _, pass: _ } = self;
@@ -131,7 +131,7 @@ pub struct JobReceiver {
     pass: Pass<Task, ()>,
 }
 
-// What lies in it is let go here, so that no crate above proves it anew.
+// What lies in it is released here, so that no crate above proves it anew.
 impl Drop for JobReceiver {
     fn drop(self) {
         let JobReceiver { queue: _, pass: _ } = self;

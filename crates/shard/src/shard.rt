@@ -60,7 +60,7 @@ pub struct ShardState {
     ghost journals: { ∥ AreOf parts partition book ∥₁ },
 }
 
-/// What is left to be done once the lock is let go.
+/// What is left to be done once the lock is released.
 #[derive(Clone, Copy)]
 pub struct FollowUp {
     /// To collect for each tenant.

@@ -12,7 +12,7 @@ use plain_store::{
 use stamps::{Counter, Keep};
 use std::alloc::{AllocError, Global};
 
-/// Whether lines are told apart, in pieces.
+/// Whether lines are distinguished, in pieces.
 fn are_lines(alloc: Global) -> Option<bool> {
     let opened: Result<Lines, AllocError> = Lines::open(alloc);
     let mut lines = opened.ok()?;
@@ -141,7 +141,7 @@ fn are_begun(out: &mut BytesMut) -> Option<bool> {
     Some(holds & tells(out, &Answer::BeginsRead(rows)))
 }
 
-/// Whether what ends a transaction, and what else is told, is written as its line.
+/// Whether what ends a transaction, and what else is reported, is written as its line.
 fn are_ended(out: &mut BytesMut) -> Option<bool> {
     let _named = no_parts();
     let rows = Rows { first: 1, last: 2 };

@@ -135,7 +135,7 @@ fn are_replies() -> Option<bool> {
     )
 }
 
-/// Whether calls and replies are told apart, by their places in their lists.
+/// Whether calls and replies are distinguished, by their places in their lists.
 fn are_told_apart() -> Option<bool> {
     let _named = no_parts();
     for (place, call) in calls()?.iter().enumerate() {
@@ -185,7 +185,7 @@ fn place_of_act(act: &Act) -> usize {
     }
 }
 
-/// Whether acts are told apart, by their places in their list.
+/// Whether acts are distinguished, by their places in their list.
 fn are_acts(alloc: Global) -> Option<bool> {
     let acts = acts(alloc)?;
     for (place, act) in acts.iter().enumerate() {

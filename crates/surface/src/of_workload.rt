@@ -71,7 +71,7 @@ fn runs_session<R: Threads + Wait + Clone + Send + Drop + 'static>(
     Some(is_whole && writer.as_slice() == b"ready 0\nbye\n".as_slice())
 }
 
-/// Whether a program does what its words ask for, and tells a fault by its status and its line.
+/// Whether a program does what its words ask for, and reports a fault by its status and its line.
 fn runs_words<
     R: Threads
         + Wait

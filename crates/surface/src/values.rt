@@ -1,4 +1,4 @@
-//! Values that the tests share. In a store of two partitions x is at home at the first, and y at the second.
+//! Values that the tests share. In a store of two partitions x belongs to the first, and y at the second.
 use plain_store::{Call, ReadReply, Reply};
 use stamps::{Client, Item, Keep, Key, Limits, Record, Stamp, Tag, Value, WriteSet};
 

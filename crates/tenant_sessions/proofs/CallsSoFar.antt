@@ -102,7 +102,7 @@ asking setup tag taken message kinds found new = go (all_found setup taken) refl
     go true all = not_both (is_answered taken message.partition message.call) (ap (is_answered taken message.partition) found.1 ∙ answered all) new
     go false some = refl
 
--- a reply to a GET tells no keys
+-- a reply to a GET reports no keys
 pub get_call : (keys : List Key) (taken : List Message) (message : Message) → IsGetOf keys taken message → (key : Key) × (s : Option Stamp) × (message.call ≡ Get key s)
 get_call keys taken message (inl k) = (k.0, None, k.2)
 get_call keys taken message (inr k) = (k.0, Some (needed keys taken k.0), k.3)

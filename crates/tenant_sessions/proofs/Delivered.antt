@@ -47,7 +47,7 @@ unfolding effect
 deliver_is setup history row message reply at e =
     ap (delivers_row setup history (Deliver row)) at ∙ ap (delivers setup history (Deliver row) message) e
 
--- a reply that nobody waits for
+-- a reply that no transaction is waiting for
 ignored_as : (setup : Setup) (history : History) (row : ℕ) (message : Message) (result : Move) (new : SessionsContent) → effect setup history (Deliver row) ≡ moment (Deliver row) IgnoredSo [] → result ≡ Ignored → StandsFor setup history new
     → IsTaken setup history row message result new
 ignored_as setup history row message result new is ignored stands =
@@ -250,7 +250,7 @@ module _ (setup : Setup) (history : History) (row : ℕ) (message : Message) (re
         let mine = sym (running_is history message.client transaction r).1 in
         its_reply setup history message.client transaction row message reply grounds r at e (and_from (message.client == transaction.client) (message.ticket == transaction.ticket) (eq-eqb message.client transaction.client mine) now)
 
-  -- as the code tells it
+  -- as the code reports it
   pub taken_held : (held.running ≡ None → (result ≡ Ignored) × (after ≡ held)) → ((message.ticket ≡ held.ticket → ⊥) → (result ≡ Ignored) × (after ≡ held))
       → ((setup : Setup) (request : Intent) (taken : List Message) (running' : Running) → message.ticket ≡ held.ticket → held.running ≡ Some running' → RunningStands setup request taken running' → IsReplyTo setup request taken message
       → TakesReply setup request taken message held result after)

@@ -61,7 +61,7 @@ not_shown : (keys : List Key) (replies : List Message) → ((key : Key) → is_s
 not_shown [] replies none incomplete = cc
 not_shown (key ∷ keys) replies none incomplete = ap (λ b. b && round_one_complete keys replies) (none key)
 
--- ---- what a move of a search tells
+-- ---- what a move of a search reports
 
 -- where some partition has not told, it waits; a search that begins to read counted 16 keys at most, and one that lists none
 abbrev pub SearchTells : Setup → Bool → ℕ → List Key → PlainMove → Type 0

@@ -86,7 +86,7 @@ module _ (setup : Setup) (tag : Tag) (taken : List Message) (message : Message) 
   by_call h open_yet few (Get key (Some s)) reply e f of_search new lists = cc
   by_call h open_yet few call reply e f of_search new lists = cc
 
--- the finder's list is what the replies showed of the keys that were told, of it what carries the tag, and unfractured
+-- the finder's list is what the replies showed of the keys that were reported, of it what carries the tag, and unfractured
 pub lists_whole : (setup : Setup) (tag : Tag) (taken : List Message) (message : Message) (finder : Finder) (told : List Reading) → StandsFor setup tag finder taken
     → length (keys_found message.reply) ≤ count_found message.reply → find_answer setup tag taken message ≡ Some (Lists told) → ListsWhole tag (taken ++ message ∷ []) told
 lists_whole setup tag taken message finder told s few answered = go (is_wanted setup taken message) refl answered

@@ -102,7 +102,7 @@ module _ (setup : Setup) (taken : List Message) (message : Message) where
         | inr h ↦ inr (h.0, read_asked (all_keys_found taken) h.1)
       ]
 
-  -- ---- what the machines are told
+  -- ---- what the machines are reported
 
   pub prepare_offered : (stamp : Stamp) (items : List Item) (version : Record) (key : Key) (reply : PrepareReply) → IsReplyTo setup (Writes stamp items) taken message
       → message.call ≡ Prepare version → version.key ≡ key → message.reply ≡ Some (ToPrepare reply) → IsPrepared stamp key reply message

@@ -51,16 +51,16 @@ calls_same setup keys replies others same =
     ap (λ b. cond b (second_calls setup keys replies) (first_calls setup keys)) (all_alike (is_shown replies) (is_shown others) (λ key. ap is_some (same key)) keys)
     ∙ ap (λ calls. cond (round_one_complete keys others) calls (first_calls setup keys)) (second_same keys replies others (λ key k. same key) setup)
 
--- ---- what a move of a read tells
+-- ---- what a move of a read reports
 
--- what its move tells of round one; a read begins no other
+-- what its move reports of round one; a read begins no other
 abbrev pub ReadTells : Setup → List Key → List Message → Call → PlainMove → Type 0
 ReadTells setup keys replies call Waits = (key : Key) → call ≡ Get key None → round_one_complete keys replies ≡ false
 ReadTells setup keys replies call (Asks calls) = ((key : Key) × (call ≡ Get key None)) × (round_one_complete keys replies ≡ true) × (second_calls setup keys replies ≡ calls)
 ReadTells setup keys replies call (Begins calls) = ⊥
 ReadTells setup keys replies call move = Unit {0}
 
--- an answer that tells what was read tells neither
+-- an answer that reports what was read reports neither
 abbrev pub Ends : Setup → List Key → List Message → (List Reading → PlainMove) → Type 0
 Ends setup keys replies tells = (read : List Reading) (call : Call) → ReadTells setup keys replies call (tells read)
 

@@ -35,7 +35,7 @@ pub waiting_none : (setup : Setup) (history : History) (client : ℕ) → runnin
 unfolding waiting waiting_of
 waiting_none setup history client r = ap (waiting_of setup history) r
 
--- ---- as the code tells it
+-- ---- as the code reports it
 
 -- what a known client waits for, where a transaction is held and where none is
 abbrev WaitsFor : Setup → History → ℕ → ℕ → Option Running → Type 0
@@ -72,7 +72,7 @@ waits_by P setup history sessions client held ran stands at idle told = go held.
     go None e waits = subst P (sym waits) (idle e)
     go (Some running') e waits = subst P (sym waits.1) (told waits.0.request (taken_in history waits.0) running' e waits.2)
 
--- the call that the client's session tells
+-- the call that the client's session reports
 pub call_told : (setup : Setup) (history : History) (sessions : SessionsContent) (client nth : ℕ) (held : ClientSession) (out : Option Message) → IsRun setup history → StandsFor setup history sessions → client_in sessions client ≡ Some held
     → (held.running ≡ None → out ≡ None)
     → ((setup : Setup) (request : Intent) (taken : List Message) (running' : Running) → held.running ≡ Some running' → RunningStands setup request taken running' → out ≡ slice_get (map (call_message client held.ticket) (waiting_calls setup request taken)) nth)
@@ -94,7 +94,7 @@ count_told setup history sessions client held (Ok count) ran stands at idle told
 not_none : (n : ℕ) → (suc n == 0) ≡ false
 not_none n = false_from_ne_true _ (λ none. omega (arith, eqb-true (suc n) 0 none))
 
--- what is sent again, and how it is told
+-- what is sent again, and how it is reported
 retries_as : (setup : Setup) (history : History) (client : ℕ) (o : Option Transaction)
     → retries setup history (Retry client) o ≡ moment (Retry client) (resent (length (waiting_of setup history o)) (next_rows history (length (waiting_of setup history o)))) (waiting_of setup history o)
 unfolding waiting_of

@@ -28,12 +28,12 @@ filter_whole p [] each = refl
 filter_whole p (x ∷ xs) each =
     ap (λ b. cond b (x ∷ filter p xs) (filter p xs)) (each x (inl refl)) ∙ ap (λ ys. x ∷ ys) (filter_whole p xs (λ y member. each y (inr member)))
 
--- ---- what an answer tells
+-- ---- what an answer reports
 
 pub not_both : {P : Type 0} (b : Bool) → b ≡ true → b ≡ false → P
 not_both b holds fails = absurd (both_ways b fails holds)
 
--- what a machine's answer, which tells this move or none, says of a reply: none is told where the reply was taken before, and some move
+-- what a machine's answer, which reports this move or none, says of a reply: none is reported where the reply was taken before, and some move
 -- is the plain store's of a new one. Stands: for which replies the machine then stands
 abbrev pub Turns : List Message → Message → PlainMove → Option PlainMove → (List Message → Bool) → Bool → (List Message → Type 0) → Type 0
 Turns taken message move None ended last Stands = (is_answered taken message.partition message.call ≡ true) × Stands taken

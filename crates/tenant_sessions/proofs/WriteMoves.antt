@@ -51,9 +51,9 @@ pub length-partitions : (setup : Setup) (items : List Item) → length (partitio
 length-partitions setup items =
     omega (arith, length-ascending (map (λ (item : Item). home setup item.key) items), length-map items (λ (item : Item). home setup item.key))
 
--- ---- what a reply to a PREPARE tells
+-- ---- what a reply to a PREPARE reports
 
--- what its move tells of the items, of the call, and of the stamp
+-- what its move reports of the items, of the call, and of the stamp
 abbrev WriteTells : Setup → Stamp → List Item → List Message → Call → PlainMove → Type 0
 WriteTells setup stamp items replies call Waits = (version : Record) → call ≡ Prepare version → all_prepared stamp items replies ≡ false
 WriteTells setup stamp items replies call (Decides s calls) = (version : Record) × (call ≡ Prepare version) × (all_prepared stamp items replies ≡ true)

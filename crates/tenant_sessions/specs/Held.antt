@@ -108,7 +108,7 @@ abbrev pub GoesOn : Setup → Intent → List Message → Option Running → Typ
 GoesOn setup request taken None = ⊥
 GoesOn setup request taken (Some running) = RunningStands setup request taken running
 
--- A reply that is taken raises the counter to the one that it tells, and an ignored one does not;
+-- A reply that is taken raises the counter to the one that it reports, and an ignored one does not;
 -- a transaction that ends is forgotten.
 pub record TakesReply (setup : Setup) (request : Intent) (taken : List Message) (message : Message)
     (old : ClientSession) (answer : Move) (new : ClientSession) : Type 0 where

@@ -1,4 +1,4 @@
--- How a transaction's moves are told.
+-- How a transaction's moves are reported.
 use Rattle.std.specs.Prelude.{List, [], ◌∷◌, Bool, true, false, Option, Some, None}
 use Rattle.plain_store.specs.declared.answer.Answer.{Answer}
 use Rattle.plain_store.specs.declared.answer.Answer.TheVariants.{Wait as SaysWait, Decided as SaysDecided}
@@ -23,7 +23,7 @@ use Rattle.tenant_sessions.specs.declared.moves.MoveKind.TheVariants.{Begins as 
 use Rattle.tenant_sessions.specs.declared.moves.MoveKind.TheVariants.{Listed as ListedKind, Restart as RestartKind}
 use Rattle.tenant_sessions.specs.declared.moves.MoveKind.TheVariants.{Ended as EndedKind, Ignored as IgnoredKind}
 
--- what a turn tells, with these readings where something was read
+-- what a turn reports, with these readings where something was read
 abbrev pub moved : MoveKind → List Reading → Move
 moved WaitKind readings = Wait
 moved (DecidedKind stamp) readings = Decided stamp
@@ -41,7 +41,7 @@ abbrev pub ending_rows : List Outgoing → Rows → Option Rows
 ending_rows [] rows = None
 ending_rows (out ∷ outs) rows = Some rows
 
--- the answer that a move is told by, with the rows sent
+-- the answer that a move is reported by, with the rows sent
 abbrev pub answer_of : Move → Rows → Answer
 answer_of Wait rows = SaysWait
 answer_of (Decided stamp) rows = SaysDecided stamp rows

@@ -131,7 +131,7 @@ pub record Starts (setup : Setup) (request : Intent) (running : Running) : Type 
 
 -- ---- what it does when a reply comes
 
--- A reply in whose place one was taken is ignored. Any other is taken, and the answer tells the plain store's move:
+-- A reply in whose place one was taken is ignored. Any other is taken, and the answer reports the plain store's move:
 -- unless this ends the transaction it then stands for the replies with this one, and where calls are sent, at most 16,
 -- they are all that it waits for, or those of its end. Stands: for which replies it then stands
 pub record TakesMessage (setup : Setup) (request : Intent) (taken : List Message) (message : Message) (answer : Move)

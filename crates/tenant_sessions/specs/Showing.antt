@@ -60,7 +60,7 @@ abbrev pub IsShown : Setup → Intent → List Message → Option Running → Ty
 IsShown setup request taken None = Unit {0}
 IsShown setup request taken (Some running) = HasTaken setup request taken running.machine
 
--- A write is told done by the last of these replies, after those that it took before: by those each item's PREPARE was
+-- A write is reported as done by the last of these replies, after those that it took before: by those each item's PREPARE was
 -- accepted, and by all of them the COMMIT was done at each home.
 pub record IsWritersAnswer (setup : Setup) (stamp : Stamp) (items : List Item) (taken : List Message) (last : Message)
     : Type 0 where
@@ -68,14 +68,14 @@ pub record IsWritersAnswer (setup : Setup) (stamp : Stamp) (items : List Item) (
   pub prepared : all_prepared stamp items taken ≡ true
   pub committed : all_committed setup stamp items (taken ++ last ∷ []) ≡ true
 
--- What is told is the reader's answer to the last of these replies, after those that it took before. So both rounds are
+-- What is reported is the reader's answer to the last of these replies, after those that it took before. So both rounds are
 -- complete, it is what the replies showed, and it is unfractured by the write sets that they showed.
 pub record IsReadersAnswer (keys : List Key) (taken : List Message) (last : Message) (told : List Reading)
     : Type 0 where
   pub answers : (setup : Setup) → read_answer setup keys Reads taken last ≡ Some (Reads told)
   pub whole : ReadsWhole keys (taken ++ last ∷ []) told
 
--- What a search tells is what its replies showed of the keys that the partitions told, those items that carry the tag;
+-- What a search reports is what its replies showed of the keys that the partitions told, those items that carry the tag;
 -- and that is unfractured.
 pub record ListsWhole (tag : Tag) (replies : List Message) (told : List Reading) : Type 0 where
   pub shown : told ≡ carrying tag (readings (all_keys_found replies) replies)
@@ -88,7 +88,7 @@ pub record IsFindersAnswer (setup : Setup) (tag : Tag) (taken : List Message) (l
   pub answers : find_answer setup tag taken last ≡ Some (Lists told)
   pub whole : ListsWhole tag (taken ++ last ∷ []) told
 
--- the answer of the one that was so asked; a write tells no reading
+-- the answer of the one that was so asked; a write reports no reading
 abbrev pub IsAnswerTo : Setup → Intent → List Message → Message → List Reading → Type 0
 IsAnswerTo setup (Writes stamp items) taken last told = IsWritersAnswer setup stamp items taken last
 IsAnswerTo setup (Gets keys) taken last told = IsReadersAnswer keys taken last told
@@ -108,7 +108,7 @@ pub record IsTakenFor (message meant : Message) : Type 0 where
   pub call : IsCallFor message.call meant.call
   pub reply : meant.reply ≡ message.reply
 
--- what is said where the writer's answer tells that the write is done
+-- what is said where the writer's answer reports that the write is done
 abbrev pub IfWritten : WriteMove → Type 0 → Type 0
 IfWritten (DoneWrite stamp) P = P
 IfWritten answer P = Unit {0}
@@ -127,7 +127,7 @@ Offers keys taken message answer reader =
     ⊎ ((meant : Message) × IsTakenFor message meant × StandsFor keys reader (taken ++ meant ∷ [])
     × IfRead answer (IsReadersAnswer keys taken meant))
 
--- the move by which the finder's answer is told
+-- the move by which the finder's answer is reported
 abbrev pub found_move : FindMove → Move
 found_move found.Wait = Wait
 found_move (found.Begin keys) = Begins
@@ -138,7 +138,7 @@ found_move found.TooMany = Ended TooMany []
 found_move found.Torn = Ended Torn []
 found_move found.Ignored = Ignored
 
--- what is said of a move that tells what was read; a read lists nothing
+-- what is said of a move that reports what was read; a read lists nothing
 abbrev pub IfReads : Move → (List Reading → Type 0) → Type 0
 IfReads Wait P = Unit {0}
 IfReads (Decided stamp) P = Unit {0}
@@ -151,7 +151,7 @@ IfReads (Restart key floor) P = Unit {0}
 IfReads (Ended refusal calls) P = Unit {0}
 IfReads Ignored P = Unit {0}
 
--- and of one that tells what was found; a search reads nothing
+-- and of one that reports what was found; a search reads nothing
 abbrev pub IfLists : Move → (List Reading → Type 0) → Type 0
 IfLists Wait P = Unit {0}
 IfLists (Decided stamp) P = Unit {0}
@@ -164,7 +164,7 @@ IfLists (Restart key floor) P = Unit {0}
 IfLists (Ended refusal calls) P = Unit {0}
 IfLists Ignored P = Unit {0}
 
--- a write tells no stamp but its own, and where it is told done more is said; and it reads and finds nothing
+-- a write reports no stamp but its own, and where it is reported as done more is said; and it reads and finds nothing
 abbrev pub TellsStamp : Stamp → Move → Type 0 → Type 0
 TellsStamp own Wait P = Unit {0}
 TellsStamp own (Decided stamp) P = stamp ≡ own

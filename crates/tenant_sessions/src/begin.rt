@@ -78,7 +78,7 @@ impl Begin<'_> {
         }
     }
 
-    /// Does what `answer` does, and writes it into the place that is lent.
+    /// Does what `answer` does, and writes it into the caller's buffer.
     pub fn answer_into(&self, rows: Rows, answer: &mut Answer)
         ensures value { answer.new ≡ begin_answer self.now rows }
         ensures told { (setup : Setup) (history : History) (act : Asked) → IsBegin setup history act self.now

@@ -72,7 +72,7 @@ pub(crate) fn forget_reply(place: &mut Message)
     place.reply = None;
 }
 
-/// Puts a COMMIT of this stamp into the place that is lent. One that lies there is written over where it lies: a call has some
+/// Puts a COMMIT of this stamp into the caller's buffer. One that lies there is written over where it lies: a call has some
 /// 750 bytes.
 fn put_commit(stamp: Stamp, place: &mut Call)
     ensures { place.new ≡ Call.Commit stamp }
@@ -84,7 +84,7 @@ fn put_commit(stamp: Stamp, place: &mut Call)
     begin_commit(stamp, place);
 }
 
-/// Puts a GET of this key into the place that is lent, as `put_commit` does.
+/// Puts a GET of this key into the caller's buffer, as `put_commit` does.
 fn put_get(key: &Key, stamp: Option<Stamp>, place: &mut Call)
     ensures { place.new ≡ Call.Get key.now stamp }
 {

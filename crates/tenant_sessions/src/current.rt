@@ -89,7 +89,7 @@ impl Current {
     }
 
     /// Hands it a reply to one of its calls. Ignored where a reply in its place was taken before, and where none runs. What was
-    /// read is put into the place that is lent.
+    /// read is put into the caller's buffer.
     pub(crate) fn take(&mut self, message: &Message, readings: &mut Readings) -> MoveKind
         ensures idle { self.old ≡ None → (result ≡ MoveKind.Ignored) × (self.new ≡ self.old) }
         ensures shown { (setup : Setup) (request : Intent) (taken : List Sent) → IsShown setup request taken self.old

@@ -60,7 +60,7 @@ impl Discards {
         (nth as usize) < self.partitions.as_slice().len()
     }
 
-    /// Writes the `nth` of them, from 0, into the place that is lent, as the client's transaction of this ticket sends it. Says
+    /// Writes the `nth` of them, from 0, into the caller's buffer, as the client's transaction of this ticket sends it. Says
     /// whether there is one; where there is none, the place is as it was.
     pub fn message_into(&self, client: Client, ticket: u64, nth: u32, place: &mut Message) -> bool
         ensures told { (if result then Some place.new else None) ≡ slice_get (map (call_message client ticket) self.now) nth }

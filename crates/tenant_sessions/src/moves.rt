@@ -108,7 +108,7 @@ impl Move {
     ghost use Rattle.std.specs.Prelude.{◌≡◌};
     ghost use Rattle.tenant_sessions.specs.Moves.{answer_of, sends_calls};
 
-    /// The answer that tells it, with the rows of the calls that it sends; where it sends none they are not told.
+    /// The answer that reports it, with the rows of the calls that it sends; where it sends none they are not told.
     pub fn answer(&self, rows: Rows) -> Answer
         ensures { result ≡ answer_of self.now rows }
     {
@@ -126,7 +126,7 @@ impl Move {
         }
     }
 
-    /// Whether calls are sent with it of which replies are then waited for: `call` of the session tells them.
+    /// Whether calls are sent with it of which replies are then waited for: `call` of the session reports them.
     pub fn sends(&self) -> bool
         ensures { result ≡ sends_calls self.now }
     {
@@ -137,7 +137,7 @@ impl Move {
     }
 }
 
-/// What a client's transaction does when a reply comes: a `Move` without what was read, which is put into a place that is lent.
+/// What a client's transaction does when a reply comes: a `Move` without what was read, which is put into the caller's buffer.
 #[derive(Drop)]
 pub enum MoveKind {
     /// The reply was taken, and more are needed.
@@ -186,7 +186,7 @@ impl MoveKind {
         }
     }
 
-    /// The answer that tells it, with these readings where something was read and the rows of the calls that it sends; where
+    /// The answer that reports it, with these readings where something was read and the rows of the calls that it sends; where
     /// it sends none they are not told.
     pub fn answer(&self, readings: &Readings, rows: Rows) -> Answer
         ensures { result ≡ answer_of (moved self.now readings.now) rows }
@@ -208,7 +208,7 @@ impl MoveKind {
         }
     }
 
-    /// Does what `answer` does, and writes it into the place that is lent.
+    /// Does what `answer` does, and writes it into the caller's buffer.
     pub fn answer_into(&self, readings: &Readings, rows: Rows, answer: &mut Answer)
         ensures { answer.new ≡ answer_of (moved self.now readings.now) rows }
     {
@@ -230,7 +230,7 @@ impl MoveKind {
     }
 
     /// The `nth` of the calls that are sent at the transaction's end, from 0, as the client's transaction of this ticket
-    /// sends it. Nobody waits for the replies.
+    /// sends it. No transaction is waiting for the replies.
     pub fn ending(&self, client: Client, ticket: u64, nth: u32) -> Option<Message>
         ensures { (readings : List Reading) → result ≡ slice_get (map (call_message client ticket) (ending (moved self.now readings))) nth }
     {
@@ -241,7 +241,7 @@ impl MoveKind {
         Some(place)
     }
 
-    /// Does what `ending` does, and writes the message into the place that is lent. Says whether there is one; where there is
+    /// Does what `ending` does, and writes the message into the caller's buffer. Says whether there is one; where there is
     /// none, the place is as it was.
     pub fn ending_into(&self, client: Client, ticket: u64, nth: u32, place: &mut Message) -> bool
         ensures told { (readings : List Reading) → (if result then Some place.new else None)
@@ -264,7 +264,7 @@ impl MoveKind {
         }
     }
 
-    /// Whether calls are sent with it of which replies are then waited for: `call` of the session tells them.
+    /// Whether calls are sent with it of which replies are then waited for: `call` of the session reports them.
     pub fn sends(&self) -> bool
         ensures { (readings : List Reading) → result ≡ sends_calls (moved self.now readings) }
     {

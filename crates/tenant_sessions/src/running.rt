@@ -132,7 +132,7 @@ impl Running {
     }
 
     /// Takes a reply to one of its calls. Ignored where a reply in its place was taken before. Of a transaction
-    /// that ended nothing is said. What was read is put into the place that is lent.
+    /// that ended nothing is said. What was read is put into the caller's buffer.
     pub(crate) fn take(&mut self, message: &Message, readings: &mut Readings) -> MoveKind
         ensures shown { (setup : Setup) (request : Intent) (taken : List Sent) → HasTaken setup request taken self.old.machine
             → Shows setup request taken message.now (moved result readings.new) (λ replies. HasTaken setup request replies self.new.machine) }

@@ -64,7 +64,7 @@ fn await_late(finder: &Finder, waiting: &mut Waiting, parts: u32)
 }
 
 /// Takes a reply to one of the calls of the read to which the finder lends its reader, and puts what it
-/// gave into the place that is lent.
+/// gave into the caller's buffer.
 pub(crate) fn take_read(
     finder: &mut Finder,
     waiting: &mut Waiting,

@@ -16,7 +16,7 @@ use crate::{Discards, MoveKind};
 use get_all::{FindMove, Finder};
 use plain_store::{Call, Message, Readings, Refusal, Reply};
 
-/// A partition tells no more keys than it counts: this only reads them.
+/// A partition reports no more keys than it counts: this only reads them.
 fn read_keys(reply: &Reply)
     ensures { length (keys_found (Some reply.now)) ≤ count_found (Some reply.now) }
 {
@@ -57,7 +57,7 @@ fn offer_reply(finder: &mut Finder, message: &Message, reply: &Reply) -> FindMov
     }
 }
 
-/// Takes a reply to one of the calls of the search, and puts what it gave into the place that is lent.
+/// Takes a reply to one of the calls of the search, and puts what it gave into the caller's buffer.
 #[cold]
 #[inline(never)]
 pub(crate) fn take_found(

@@ -44,7 +44,7 @@ fn next_stamp(counter: Counter, client: Client) -> Option<Stamp>
     Stamp::new(counter.get() + 1, client.get())
 }
 
-/// The counter of the stamp that a reply tells, 0 where it tells none.
+/// The counter of the stamp that a reply reports, 0 where it reports none.
 fn counter_told(reply: &Option<Reply>) -> u64
     ensures value { result ≡ counter_in reply.now }
     ensures in_range { result < 2 ^ 40 }
@@ -193,8 +193,8 @@ impl ClientSession {
     }
 
     /// Hands a reply to its transaction, if it is for that one, and says what that does. Where this sends calls, `call` then
-    /// tells them one by one; the kind of the move tells the calls with which a transaction ends. One that ends is forgotten. What
-    /// was read is put into the place that is lent.
+    /// reports them one by one; the kind of the move reports the calls with which a transaction ends. One that ends is forgotten. What
+    /// was read is put into the caller's buffer.
     pub fn take_into(&mut self, message: &Message, readings: &mut Readings) -> MoveKind
         ensures idle { self.old.running ≡ None → (result ≡ MoveKind.Ignored) × (self.new ≡ self.old) }
         ensures late { message.now.ticket ≢ self.old.ticket → (result ≡ MoveKind.Ignored) × (self.new ≡ self.old) }
@@ -227,7 +227,7 @@ impl ClientSession {
     }
 
     /// How many calls of its transaction are sent again, up to 64: those that no reply was taken to. 0 where none is running.
-    /// `call` tells them one by one. It fails where it is closed (19).
+    /// `call` reports them one by one. It fails where it is closed (19).
     pub fn pending_calls(&self) -> Result<u32, Refusal>
         ensures refused { IfErr result (λ refusal. test_open self.now ≡ Err refusal) }
         ensures passed { IfOk result (λ _. test_open self.now ≡ Ok tt) }
@@ -272,7 +272,7 @@ impl ClientSession {
         Some(place)
     }
 
-    /// Does what `call` does, and writes the message into the place that is lent. Says whether there is one; where there is
+    /// Does what `call` does, and writes the message into the caller's buffer. Says whether there is one; where there is
     /// none, the place is as it was.
     pub fn call_into(&self, client: Client, nth: u32, place: &mut Message) -> bool
         ensures idle { self.now.running ≡ None → result ≡ false }

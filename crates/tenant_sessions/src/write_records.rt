@@ -113,7 +113,7 @@ impl WriteRecords {
     }
 }
 
-/// Puts a PREPARE of this item into the place that is lent, under this stamp and with this write set. One that lies there is
+/// Puts a PREPARE of this item into the caller's buffer, under this stamp and with this write set. One that lies there is
 /// written over where it lies: a record has some 750 bytes.
 fn put_prepare(item: &Item, stamp: Stamp, writes: &WriteSet, place: &mut Call)
     requires written { 0 < stamp }

@@ -1,4 +1,4 @@
-//! Handmade journals and transcripts. Of two partitions x is at home at the first, and y at the second.
+//! Handmade journals and transcripts. Of two partitions x belongs to the first, and y at the second.
 mod checking;
 mod making;
 mod many;

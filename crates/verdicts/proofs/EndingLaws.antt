@@ -6,7 +6,7 @@ use Rattle.std.proofs.lemmas.Option.{same_Some, slice_get_read}
 pub here : {X : Type 0} (xs items : List X) (i : ℕ) (x : X) → items ≡ xs → i < length items → x ≡ get_or items i x → slice_get xs i ≡ Some x
 here xs items i x same within is = subst (λ l. slice_get l i ≡ Some x) same (slice_get_read items (length items) i x refl within is)
 
--- what a test tells, where it is known how it went
+-- what a test reports, where it is known how it went
 pub where_true : {P : Type 0} (Q : Type 0) (yes : Bool) → yes ≡ true → MatchBool yes P Q → P
 where_true Q true is told = told
 where_true Q false is told = absurd cc
@@ -67,20 +67,20 @@ one_turn {X} {Y} Like xs front left rest x ys new y kept next more like =
       append_assoc front (x ∷ []) rest ∙ whole,
     )
 
--- a test of one of a list, and what it tells of the list
+-- a test of one of a list, and what it reports of the list
 pub told_there : {X E : Type 0} (Right Wrong : X → Type 0) (xs : List X) (i : ℕ) (x : X) (told : Result Bool E) → slice_get xs i ≡ Some x → IfOk told (λ yes. MatchBool yes (Right x) (Wrong x))
     → IfOk told (λ yes. MatchBool yes ((y : X) × (slice_get xs i ≡ Some y) × Right y) ((slice_get xs i ≡ None) ⊎ ((y : X) × (slice_get xs i ≡ Some y) × Wrong y)))
 told_there Right Wrong xs i x (Ok true) at told = (x, at, told)
 told_there Right Wrong xs i x (Ok false) at told = inr (x, at, told)
 told_there Right Wrong xs i x (Err fault) at told = tt
 
--- what is told by what stands in a list is told by what is read there
+-- what is reported by what stands in a list is reported by what is read there
 pub told_by : {X V E : Type 0} (Told : X → V → Type 0) (xs : List X) (i : ℕ) (x : X) (told : Result V E) → slice_get xs i ≡ Some x → IfOk told (Told x)
     → IfOk told (λ v. (y : X) × (slice_get xs i ≡ Some y) × Told y v)
 told_by Told xs i x (Ok v) at told = (x, at, told)
 told_by Told xs i x (Err fault) at told = tt
 
--- nothing is told of a list where nothing is told of what stands in it
+-- nothing is reported of a list where nothing is reported of what stands in it
 pub untold_there : {X V E : Type 0} (Untold : X → Type 0) (xs : List X) (i : ℕ) (x : X) (told : Result V E) → slice_get xs i ≡ Some x → IfErr told (λ fault. Untold x)
     → IfErr told (λ fault. (y : X) × (slice_get xs i ≡ Some y) × Untold y)
 untold_there Untold xs i x (Ok v) at untold = tt

@@ -165,7 +165,7 @@ wrong_told limits ending same is =
     let fell = that_fell ending.checked.number ending.checked.end ending.checked.standing ending.checked.wrong ending.checked.fell is in
     record { under = same; led = led_under limits ending same; epoch = fell.0; fallen = inl (is, fell.1); bad = fell.2 }
 
--- what the answer tells of the epoch that was left
+-- what the answer reports of the epoch that was left
 pub last_told : {X : Type 0} (limits : Limits) (ending : Ending) (end : Option X) → ending.checked.limits ≡ limits → ending.checked.standing ≡ Right
     → (IsSome end ↔ IsNextEpoch ending.checked.number ending.checked.end ending.epoch) → MatchBool (is_some end) (IsRight limits ending) (IsWrong limits ending)
 last_told limits ending None same is exact =

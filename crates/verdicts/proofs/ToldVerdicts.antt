@@ -1,4 +1,4 @@
--- The verdicts and the counts that were told so far: for `tell_verdicts` and what counts so too.
+-- The verdicts and the counts that were reported so far: for `tell_verdicts` and what counts so too.
 use Rattle.std.proofs.Common.{◌≡◌, ℕ, zero, suc, ◌+◌, ◌≤◌, List, [], ◌∷◌, ◌++◌, Bool, true, false, ◌&&◌, Option, Some, None, Result, Ok, Err, ◌≢◌, length, slice_get, ◌<◌, take, refl, sym, ap, subst, ◌∙◌, inr, arith, length-append, append_assoc}
 use Rattle.std.proofs.lemmas.List.{append-nil}
 use Rattle.std.proofs.lemmas.Option.{slice_get_within}
@@ -179,7 +179,7 @@ count_breaks_off closed names count old mid new name counts Device is so_far at 
       written = begun_more load_line its counts names name old mid new breaks.1 here so_far.written begun;
     }
 
--- all verdicts were told, and the end says whether all are yes
+-- all verdicts were reported, and the end says whether all are yes
 pub ends_yes : (IsVerdict : ℕ → Bool → Type 0) (word : List ℕ) (tenants : ℕ) (names : List (List ℕ)) (all_yes : Bool) (old new : Option (List ℕ)) → TellsAll IsVerdict word tenants names all_yes old new → all_yes ≡ true
     → TellsEach IsVerdict word tenants names old new (Ok tt)
 ends_yes IsVerdict word tenants names all_yes old new told is = subst (λ b. TellsAll IsVerdict word tenants names b old new) is told

@@ -38,7 +38,7 @@ counts_of_entry (Began act) = counts_of_act act
 counts_of_entry (Took number partition place reply) = no_operation
 counts_of_entry (Answered answer) = no_operation
 
--- what is told of an operation, if one was begun
+-- what is reported of an operation, if one was begun
 abbrev pub counts_of_operation : Option Operation → BegunCounts
 counts_of_operation (Some OfPut) = record { puts = 1; gets = 0; finds = 0 }
 counts_of_operation (Some OfGet) = record { puts = 0; gets = 1; finds = 0 }
@@ -50,11 +50,11 @@ abbrev pub counts_begun : (BegunCounts → ℕ) → ℕ → Transcript → ℕ
 counts_begun kind tenant transcript =
     cond (transcript.tenant == tenant) (sum_by (λ (e : Entry). kind (counts_of_entry e)) transcript.entries.items) 0
 
--- the number that is told of so many: counts stop at the greatest number
+-- the number that is reported of so many: counts stop at the greatest number
 abbrev pub told_count : ℕ → ℕ
 told_count count = min count (2 ^ 64 - 1)
 
--- how many operations of each kind those of these sessions began that are of a tenant, as it is told
+-- how many operations of each kind those of these sessions began that are of a tenant, as it is reported
 abbrev pub counts_in : List Transcript → ℕ → BegunCounts
 counts_in transcripts tenant = record {
   puts = told_count (sum_by (counts_begun (λ c. c.puts) tenant) transcripts);

@@ -56,7 +56,7 @@ pub record IsWrong (limits : Limits) (ending : Ending) : Type 0 where
   pub fallen : IsFallen ending epoch
   pub bad : IsNextEpoch ending.checked.number ending.checked.end epoch → ⊥
 
--- nothing is told of the journal where it is under other limits, or none of its epochs was found wrong
+-- nothing is reported of the journal where it is under other limits, or none of its epochs was found wrong
 abbrev pub IsUntold : Limits → Ending → Type 0
 IsUntold limits ending = (ending.checked.limits ≢ limits) ⊎ (ending.checked.standing ≢ Wrong)
 
@@ -70,7 +70,7 @@ IsWrongIn limits tenant row =
     (slice_get row.items tenant ≡ None)
     ⊎ ((ending : Ending) × (slice_get row.items tenant ≡ Some ending) × IsWrong limits ending)
 
--- nothing, only where it is there and nothing is told of it
+-- nothing, only where it is there and nothing is reported of it
 abbrev pub IsUntoldIn : Limits → ℕ → Vec Ending → Type 0
 IsUntoldIn limits tenant row = (ending : Ending) × (slice_get row.items tenant ≡ Some ending) × IsUntold limits ending
 
@@ -82,7 +82,7 @@ IsCheckedIn rows limits tenant true =
 IsCheckedIn rows limits tenant false =
     (partition : ℕ) × (row : Vec Ending) × (slice_get rows partition ≡ Some row) × IsWrongIn limits tenant row
 
--- nothing, only where nothing is told of its journal at a partition
+-- nothing, only where nothing is reported of its journal at a partition
 abbrev pub IsUncheckedIn : List (Vec Ending) → Limits → ℕ → Type 0
 IsUncheckedIn rows limits tenant =
     (partition : ℕ) × (row : Vec Ending) × (slice_get rows partition ≡ Some row) × IsUntoldIn limits tenant row
@@ -93,7 +93,7 @@ IsCheckedAs endings tenant verdict =
     (limits : Limits) × (slice_get endings.limits.items tenant ≡ Some limits)
     × IsCheckedIn endings.rows.items limits tenant verdict
 
--- what was told of these verdicts that ended so
+-- what was reported of these verdicts that ended so
 abbrev pub TellsChecks : LastEpochs → List (List ℕ) → Option (List ℕ) → Option (List ℕ)
     → Result (Unit {0}) ProgramFault → Type 0
 TellsChecks endings = TellsEach (IsCheckedAs endings) (codes "checked ") (length endings.limits.items)

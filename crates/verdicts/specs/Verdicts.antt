@@ -1,4 +1,4 @@
--- What is told of the verdict over a store that was closed.
+-- What is reported of the verdict over a store that was closed.
 use Rattle.std.specs.Prelude.{◌≡◌, ◌≢◌, ◌≤◌, ℕ, List, [], ◌∷◌, ◌++◌, Bool, true, false, length, slice_get, codes}
 use Rattle.std.specs.Prelude.{decimal, Option, Some, Result, Ok, Err, min, take}
 use Rattle.std.specs.List.{list_all}
@@ -14,7 +14,7 @@ use Rattle.line_runs.specs.declared.fault.ProgramFault.TheVariants.{OutOfMemory 
 use Rattle.settle.specs.Verdict.{IsVerdictFor, limits_at}
 use Rattle.verdicts.specs.Begun.{BegunCounts, counts_of}
 
--- the verdict over a tenant is this: a list of steps that settles it, or a fault other than want of memory
+-- the verdict over a tenant is this: a list of steps that settles it, or a fault other than an allocation failure
 abbrev pub IsVerdictOf : Closed → ℕ → Bool → Type 0
 IsVerdictOf closed tenant true = (steps : Vec Step) × IsVerdictFor closed tenant (limits_at closed tenant) (Ok steps)
 IsVerdictOf closed tenant false =
@@ -32,7 +32,7 @@ abbrev pub verdict_word : Bool → List ℕ
 verdict_word true = codes " yes\n"
 verdict_word false = codes " no\n"
 
--- the line that tells the verdict over the tenant of a name, after a word that ends in a space
+-- the line that reports the verdict over the tenant of a name, after a word that ends in a space
 abbrev pub verdict_line : List ℕ → List ℕ → Bool → List ℕ
 verdict_line word name verdict = word ++ name ++ verdict_word verdict
 
@@ -56,7 +56,7 @@ pub record TellsAll (IsVerdict : ℕ → Bool → Type 0) (word : List ℕ) (ten
   pub all : are_all_yes verdicts ≡ all_yes
   pub written : Appends old new (lines_text (verdict_line word) verdicts names)
 
--- A beginning of the lines of the first tenants was written, where each line tells the verdict over its tenant. It may
+-- A beginning of the lines of the first tenants was written, where each line reports the verdict over its tenant. It may
 -- be none of them, or all.
 pub record TellsSome (IsVerdict : ℕ → Bool → Type 0) (word : List ℕ) (tenants : ℕ) (names : List (List ℕ))
     (old new : Option (List ℕ)) : Type 0 where
@@ -66,7 +66,7 @@ pub record TellsSome (IsVerdict : ℕ → Bool → Type 0) (word : List ℕ) (te
   pub size : ℕ
   pub written : Appends old new (take size (lines_text (verdict_line word) verdicts names))
 
--- What was told of verdicts that ended so: all of them, which are all yes where it ended well, and not all where it
+-- What was reported of verdicts that ended so: all of them, which are all yes where it ended well, and not all where it
 -- ended with Settle; a beginning where memory was refused or a device failed. It ends in no other way.
 abbrev pub TellsEach : (ℕ → Bool → Type 0) → List ℕ → ℕ → List (List ℕ) → Option (List ℕ) → Option (List ℕ)
     → Result (Unit {0}) ProgramFault → Type 0
@@ -93,12 +93,12 @@ BreaksOff IsLine old new Options = ⊥
 BreaksOff IsLine old new NoMemory = Keeps old new
 BreaksOff IsLine old new Device = (line : List ℕ) × (size : ℕ) × IsLine line × Appends old new (take size line)
 
--- the line tells the verdict over the tenant of a name
+-- the line reports the verdict over the tenant of a name
 abbrev pub TellsTenant : (ℕ → Bool → Type 0) → List ℕ → ℕ → List ℕ → List ℕ → Type 0
 TellsTenant IsVerdict word tenant name line =
     (verdict : Bool) × IsVerdict tenant verdict × (line ≡ verdict_line word name verdict)
 
--- the line that tells how many operations the seats of the tenant of a name began
+-- the line that reports how many operations the seats of the tenant of a name began
 abbrev pub load_line : List ℕ → BegunCounts → List ℕ
 load_line name counts =
     codes "load " ++ name ++ codes " puts " ++ decimal counts.puts ++ codes " gets " ++ decimal counts.gets
@@ -124,7 +124,7 @@ pub record TellsSomeCounts (closed : Closed) (names : List (List ℕ)) (old new 
   pub size : ℕ
   pub written : Appends old new (take size (lines_text load_line all names))
 
--- what was told of the counts that ended so: all of them, or a beginning
+-- what was reported of the counts that ended so: all of them, or a beginning
 abbrev pub TellsBegun : Closed → List (List ℕ) → Option (List ℕ) → Option (List ℕ)
     → Result (Unit {0}) ProgramFault → Type 0
 TellsBegun closed names old new (Ok done) = TellsCounts closed names old new

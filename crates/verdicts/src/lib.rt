@@ -1,4 +1,4 @@
-//! What is told of a store that was closed: the verdict over each tenant, and of epochs that were checked while it ran.
+//! What is reported of a store that was closed: the verdict over each tenant, and of epochs that were checked while it ran.
 #![tactic(auto)]
 
 mod epochs;

@@ -1,4 +1,4 @@
-//! What is told of the tenants of a store: the verdict over each.
+//! What is reported of the tenants of a store: the verdict over each.
 ghost use Rattle.std.specs.Prelude.{◌≡◌, ◌≢◌, ◌<◌, ◌≤◌, true, false, codes, length, slice_get, is_ok, Err, IfOk, IfErr, OnOk};
 ghost use Rattle.std.specs.Io.KnownBytes.{Appends};
 ghost use Rattle.settle.specs.declared.settle_fault.SettleFault.TheVariants.{OutOfMemory as NoMemory};
@@ -112,7 +112,7 @@ fn is_settled(alloc: Global, closed: &Closed, tenant: u32) -> Result<bool, OutOf
     verdict_of(&answer)
 }
 
-/// Whether what `settle` answered is a list. Want of memory says nothing of what was settled.
+/// Whether what `settle` answered is a list. An allocation failure says nothing of what was settled.
 fn verdict_of(answer: &Result<Vec<Step>, SettleFault>) -> Result<bool, OutOfMemory>
     ensures list { IfOk result (λ yes. yes ≡ is_ok answer.now) }
     ensures fault { IfOk result (λ yes. answer.now ≢ Err NoMemory) }
@@ -125,7 +125,7 @@ fn verdict_of(answer: &Result<Vec<Step>, SettleFault>) -> Result<bool, OutOfMemo
     }
 }
 
-/// Writes the line that tells the verdict over the tenant of a name.
+/// Writes the line that reports the verdict over the tenant of a name.
 fn write_verdict<W: Write>(
     alloc: Global,
     word: &[u8],
@@ -142,7 +142,7 @@ fn write_verdict<W: Write>(
     Ok(write_text(writer, line.as_slice())?)
 }
 
-/// How a line ends that tells a verdict.
+/// How a line ends that reports a verdict.
 fn verdict_word(yes: bool) -> &'static [u8]
     ensures { result.now ≡ verdict_word yes }
 {

@@ -16,7 +16,7 @@ use Rattle.version_chain.proofs.Replacing.{Replaced, with_used, Stands-replaced,
 use Rattle.version_chain.proofs.Walks.{Read, node_of, on_cell, read_cell, versions-used}
 use Rattle.version_chain.proofs.Writing.{path-write, Avoids, avoids_chain, avoids_above, avoids_below, count-take, count-write, live_within, live-take, live-write}
 
--- what a read of the first cell below the stamp tells
+-- what a read of the first cell below the stamp reports
 pub read_here : (cells : Cells) (chains : Heads) (chain stamp : ℕ) (last here : Option ℕ) (slot : ℕ) (node : Node) (place : IsPlace cells chains chain stamp last here) → here ≡ Some slot → entry cells slot ≡ Some (node, next_beside cells slot)
     → Read cells chains.tenant chain slot place.below node
 read_here cells chains chain stamp last here slot node place at found = read_cell cells chains.tenant chain slot place.below node (on_cell cells chains.tenant chain slot here place.below place.goes_on at) found

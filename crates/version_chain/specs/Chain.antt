@@ -87,7 +87,7 @@ abbrev pub at_stamp : List Version → ℕ → Option Record
 at_stamp [] stamp = None
 at_stamp (version ∷ rest) stamp = if version.prepared.stamp == stamp then Some version.prepared else at_stamp rest stamp
 
--- the version that is lent as its record and its mark
+-- the borrowed version as its record and its mark
 abbrev pub lent_version : Option (Bor Record × Bool) → Option Version
 lent_version None = None
 lent_version (Some lent) = Some (record { prepared = lent.0.now; committed = lent.1 })

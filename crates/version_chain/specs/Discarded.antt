@@ -1,4 +1,4 @@
--- The list of the kept versions while those of a stamp are given up. No public clause cites this module.
+-- The list of the kept versions while those of a stamp are dropped. No public clause cites this module.
 use Rattle.std.specs.Prelude.{◌≡◌, ℕ, ◌==◌, ◌&&◌, not, List, count_by}
 use Rattle.version_chain.specs.declared.stamp_list.Kept.{Kept}
 use Rattle.version_chain.specs.Chain.{Cells}

@@ -32,15 +32,15 @@ pub enum Insert {
     Full,
 }
 
-/// The numbered chains of one tenant, in a block that may hold the chains of other tenants too and is lent to each
+/// The numbered chains of one tenant, in a block that may hold the chains of other tenants too and is passed to each
 /// call. A clause sees each chain as the list of its versions, with strictly falling stamps. Beside them stands a list of
 /// all these versions in the order of their stamps, which names each by its slot.
 ///
 /// A cut leaves the versions that it gives up in that list; one `sweep` takes all of them out. Until then nothing may be
-/// inserted, since a new version may get the slot of one that was given up.
+/// inserted, since a new version may get the slot of one that was dropped.
 ///
 /// A stamp is searched for from the head of its chain down. Where its place is not behind the first few versions, one
-/// version of the chain and one of the list are visited by turns, the latter from the stamp up: the first of them that
+/// version of the chain and one of the list are visited alternately, the latter from the stamp up: the first of them that
 /// stands in this chain is the one before the place. So a search visits at most some three times the versions above the
 /// place, and some twice the listed ones up to the next of the chain, whichever is less.
 ///
@@ -134,7 +134,7 @@ impl Chains {
     }
 
     // A slot of a chain that is within a bound, and not far from the last such one; `None` stands for the head of the chain.
-    // Behind the first few versions it looks by turns at one of the chain, from the head down, and at one of the list, from
+    // Behind the first few versions it looks alternately at one of the chain, from the head down, and at one of the list, from
     // the bound up. The first of the listed ones that stands in the chain is the last within the bound.
     fn near(&self, block: &Block, chain: u32, bound: &Bound) -> Option<Slot>
         requires known { chain < length self.now.heads }

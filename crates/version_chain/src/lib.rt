@@ -1,4 +1,4 @@
-//! Chains of versions in the cells of one block that is lent to each call. A chain's stamps fall strictly.
+//! Chains of versions in the cells of one block that the caller passes to each call. A chain's stamps fall strictly.
 #![tactic(auto)]
 
 mod chain_list;

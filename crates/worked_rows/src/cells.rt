@@ -1,4 +1,4 @@
-//! Rows of `ramp cell`: by its words, cut at every byte, and by the slow evaluator.
+//! Rows of `ramp cell`: by its words, cut at every byte, and by the reference interpreter.
 use crate::devices::{Pieces, Taken};
 use crate::handles::Handles;
 use crate::row::Row;

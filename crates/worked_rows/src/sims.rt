@@ -1,4 +1,4 @@
-//! Rows of `ramp sim`: by its words, whole and cut at every byte, and by the slow evaluator.
+//! Rows of `ramp sim`: by its words, whole and cut at every byte, and by the reference interpreter.
 ghost use Rattle.stamps.specs.Bounds.{IsParts};
 
 use crate::devices::{Pieces, Taken};

@@ -1,4 +1,4 @@
-//! What the slow evaluator answers, as lines.
+//! What the reference interpreter answers, as lines.
 use bytes::BytesMut;
 use line_protocol::{LINE_LIMIT, write_answer, write_refusal, write_reply};
 use plain_store::{Answer, Refusal, Reply};

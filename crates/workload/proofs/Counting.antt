@@ -8,7 +8,7 @@ told_more : (before so_far one : ℕ) → told_count (told_count (before + so_fa
 told_more before so_far one = omega arith
 
 module _ {X : Type 0} (f : X → ℕ) (xs : List X) where
-  -- what is told of the elements so far, and of one more
+  -- what is reported of the elements so far, and of one more
   pub counts_more : (i : ℕ) (x : X) (before now next : ℕ) → i < length xs → x ≡ get_or xs i x → now ≡ told_count (before + sum_by f (take i xs))
       → next ≡ told_count (now + f x) → next ≡ told_count (before + sum_by f (take (i + 1) xs))
   counts_more i x before now next within is so_far adds =

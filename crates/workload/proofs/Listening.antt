@@ -68,13 +68,13 @@ told_some : (b : Bool) (told before : ProgramFault) → ◌≡◌ {A = Result (U
 told_some true told before bad = cc
 told_some false told before bad = cc
 
--- where no fault is told, there was none
+-- where no fault is reported, there was none
 told_well : (before told : Result (Unit {0}) ProgramFault) → greater_fault before told ≡ Ok tt → told ≡ Ok tt
 told_well (Ok done) told is = is
 told_well (Err before) (Ok done) is = refl
 told_well (Err before) (Err told) is = absurd (told_some (nat_lt (status_of told) (status_of before)) told before is)
 
--- an answer that was not right was told by the verdicts
+-- an answer that was not right was reported by the verdicts
 told_wrong : (before told : Result (Unit {0}) ProgramFault) → IsFaultBefore before → greater_fault before told ≡ Err Settle → told ≡ Err Settle
 told_wrong (Ok done) told may is = is
 told_wrong (Err LineTooLong) told may is = absurd may
@@ -96,7 +96,7 @@ told_wrong (Err Device) (Err Options) may is = is
 told_wrong (Err Device) (Err OutOfMemory) may is = is
 told_wrong (Err Device) (Err Device) may is = is
 
--- the verdicts were told behind the line of the port
+-- the verdicts were reported behind the line of the port
 pub port_then : (IsVerdict : ℕ → Bool → Type 0) (word : List ℕ) (tenants : ℕ) (names : List (List ℕ)) (port : ℕ) (old between new : Option (List ℕ)) (told ended : Result (Unit {0}) ProgramFault)
     → Appends old between (listening_line port) → TellsEach IsVerdict word tenants names between new told → EndsAfter told ended → TellsPortFirst port old new ended
 port_then IsVerdict word tenants names port old between new told (Ok done) first h (before, may, is) =
@@ -111,7 +111,7 @@ port_then IsVerdict word tenants names port old between new told (Err Options) f
 port_then IsVerdict word tenants names port old between new told (Err OutOfMemory) first h ends = tt
 port_then IsVerdict word tenants names port old between new told (Err Device) first h ends = tt
 
--- nothing was told behind the line of the port, since memory was refused
+-- nothing was reported behind the line of the port, since memory was refused
 port_alone : (port : ℕ) (old new : Option (List ℕ)) (told ended : Result (Unit {0}) ProgramFault) → told ≡ Err OutOfMemory → EndsAfter told ended → TellsPortFirst port old new ended
 port_alone port old new told (Ok done) none (before, may, is) = absurd (let bad : Err OutOfMemory ≡ Ok tt = sym none ∙ told_well before told (sym is) in cc)
 port_alone port old new told (Err Settle) none (before, may, is) = absurd (let bad : Err OutOfMemory ≡ Err Settle = sym none ∙ told_wrong before told may (sym is) in cc)
@@ -147,6 +147,6 @@ pub port_is : (asked : ℕ) (listener : Listener) (server : Server Listener) (ol
     → listener_of server ≡ listener → TellsPortFirst (port_of (listener_of server)) old new ended → TellsPortFor asked old new ended
 port_is asked listener server old new ended for same first = (port_of (listener_of server), subst (λ (l : Listener). IsPortFor asked (port_of l)) (sym same) for, first)
 
--- no port was told
+-- no port was reported
 pub no_port_for : (asked : ℕ) (writer : Option (List ℕ)) (fault : ProgramFault) → (fault ≡ OutOfMemory) ⊎ (fault ≡ Device) → TellsPortFor asked writer writer (Err fault)
 no_port_for asked writer fault is = (asked, inr refl, no_store asked writer writer fault is)

@@ -1,4 +1,4 @@
--- What was told of a load, and what its epochs join to: for the functions of `load` and of `joined`.
+-- What was reported of a load, and what its epochs join to: for the functions of `load` and of `joined`.
 use Rattle.std.proofs.Common.{◌≡◌, ◌⊎◌, ℕ, List, Option, Result, Ok, Err, refl, sym, subst, inl, inr}
 use Rattle.std.specs.Global.{Vec}
 use Rattle.std.proofs.KnownBytes.{Keeps-refl}

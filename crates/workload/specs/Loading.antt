@@ -1,4 +1,4 @@
--- What a load tells, and what one did that the words ask for.
+-- What a load reports, and what one did that the words ask for.
 use Rattle.std.specs.Prelude.{◌≡◌, ◌<◌, ◌⊎◌, ◌-◌, ℕ, List, [], Option, Some, Result, Ok, Err, false, codes, length, map}
 use Rattle.std.specs.Prelude.{IsPermutation}
 use Rattle.std.specs.List.{range_with_len}
@@ -27,7 +27,7 @@ pub record TellsLoad (closed : Closed) (names : List (List ℕ)) (old new : Opti
   pub counts : TellsBegun closed names old between (Ok tt)
   pub verdicts : TellsVerdicts closed names between new ended
 
--- What was told of one load that ended so: its counts and all verdicts, which are all yes where it ended well, and not
+-- What was reported of one load that ended so: its counts and all verdicts, which are all yes where it ended well, and not
 -- all where it ended with Settle. Where memory was refused or a device failed, it told some counts, or all and some
 -- verdicts. It ends in no other way.
 abbrev pub IsToldOfLoad : Closed → List (List ℕ) → Option (List ℕ) → Option (List ℕ)
@@ -37,7 +37,7 @@ IsToldOfLoad closed names old new (Err fault) =
     TellsBegun closed names old new (Err fault) ⊎ TellsLoad closed names old new (Err fault)
 
 -- What these epochs, and what was left in a store that was closed, join to. The entries of its sessions stay: none were
--- handed out before.
+-- returned before.
 pub record IsJoinedTo (closed : Closed) (epochs : List (ℕ × ℕ × Epoch)) (joined : Closed) : Type 0 where
   pub config : joined.config ≡ closed.config
   pub journals : AreJoined closed.config.limits.items epochs closed.journals.items joined.journals.items
@@ -48,12 +48,12 @@ pub record IsJoinedTo (closed : Closed) (epochs : List (ℕ × ℕ × Epoch)) (j
 abbrev pub DoNotJoin : Closed → List (ℕ × ℕ × Epoch) → Type 0
 DoNotJoin closed epochs = NoneRise closed.config.limits.items epochs closed.journals.items
 
--- what was told of so many tenants, none of which is settled, and that ended so
+-- what was reported of so many tenants, none of which is settled, and that ended so
 abbrev pub TellsNone : ℕ → List (List ℕ) → Option (List ℕ) → Option (List ℕ)
     → Result (Unit {0}) ProgramFault → Type 0
 TellsNone = TellsEach (λ tenant verdict. verdict ≡ false) (codes "settled ")
 
--- What was told of the tenants of a store that was closed and whose epochs these are: the verdicts over what they join
+-- What was reported of the tenants of a store that was closed and whose epochs these are: the verdicts over what they join
 -- to; a no of each, where they do not join; or nothing, where memory was refused.
 abbrev pub TellsJoined : Closed → List (ℕ × ℕ × Epoch) → List (List ℕ) → Option (List ℕ) → Option (List ℕ)
     → Result (Unit {0}) ProgramFault → Type 0
@@ -63,14 +63,14 @@ TellsJoined closed epochs names old new ended =
     ⊎ ((ended ≡ Err OutOfMemory) × Keeps old new))
 
 -- What a load wrote of one store that was closed and whose epochs these are: how many operations its tenants' seats
--- began, and then what was told of its tenants.
+-- began, and then what was reported of its tenants.
 pub record TellsKept (closed : Closed) (epochs : List (ℕ × ℕ × Epoch)) (names : List (List ℕ))
     (old new : Option (List ℕ)) (ended : Result (Unit {0}) ProgramFault) : Type 0 where
   pub between : Option (List ℕ)
   pub counts : TellsBegun closed names old between (Ok tt)
   pub verdicts : TellsJoined closed epochs names between new ended
 
--- What was told of one load whose epochs these are, and that ended so: its counts and all verdicts; or, where memory
+-- What was reported of one load whose epochs these are, and that ended so: its counts and all verdicts; or, where memory
 -- was refused or a device failed, some counts, or all and some verdicts. It ends in no other way.
 abbrev pub IsToldOfKept : Closed → List (ℕ × ℕ × Epoch) → List (List ℕ) → Option (List ℕ) → Option (List ℕ)
     → Result (Unit {0}) ProgramFault → Type 0
@@ -90,7 +90,7 @@ pub record AreAllThere (closed : Closed) (epochs : List (ℕ × ℕ × Epoch)) :
       → journal_at closed.journals.items partition tenant ≡ Some journal
       → AreAllBelow journal.number (given_for epochs partition tenant)
 
--- what was told of one load of a store: one that is cut after so many events, with epochs that are all there; or one
+-- what was reported of one load of a store: one that is cut after so many events, with epochs that are all there; or one
 -- that is never cut, where this is 0
 pub record IsToldOf (epoch : ℕ) (closed : Closed) (names : List (List ℕ)) (old new : Option (List ℕ))
     (ended : Result (Unit {0}) ProgramFault) : Type 0 where

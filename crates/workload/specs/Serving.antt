@@ -1,4 +1,4 @@
--- What a server tells of itself, and what one did that the words ask for.
+-- What a server reports of itself, and what one did that the words ask for.
 use Rattle.std.specs.Prelude.{◌≡◌, ◌⊎◌, ℕ, ◌<◌, ◌^◌, ◌++◌, length, List, Option, Result, Ok, Err}
 use Rattle.std.specs.Prelude.{codes, decimal, if◌then◌else◌, map, nat_lt, take}
 use Rattle.std.specs.Io.KnownBytes.{Appends, Keeps}
@@ -17,7 +17,7 @@ use Rattle.verdicts.specs.Verdicts.{TellsVerdicts}
 use Rattle.command_words.specs.Words.{AsksForServer}
 use Rattle.sessions.specs.Ports.{IsPortFor}
 
--- the line that tells at which port a server listens
+-- the line that reports at which port a server listens
 abbrev pub listening_line : ℕ → List ℕ
 listening_line port = terminated (codes "listening " ++ decimal port)
 
@@ -63,7 +63,7 @@ HasChecked view closed names old new ended =
     ⊎ ((endings : LastEpochs) × (endings.limits.items ≡ view.limits) × (length endings.rows.items ≡ view.parts)
     × AreLeft closed.journals.items endings.rows.items × TellsChecks endings names old new ended)
 
--- what may have kept a server from some of its connections: nothing, want of memory or a device
+-- what may have kept a server from some of its connections: nothing, an allocation failure or a device
 abbrev pub IsFaultBefore : Result (Unit {0}) ProgramFault → Type 0
 IsFaultBefore (Ok done) = Unit {0}
 IsFaultBefore (Err LineTooLong) = ⊥
@@ -73,7 +73,7 @@ IsFaultBefore (Err Options) = ⊥
 IsFaultBefore (Err OutOfMemory) = Unit {0}
 IsFaultBefore (Err Device) = Unit {0}
 
--- Of two faults the greater is told, which is the one of the lower status: answers that were not right come before want
+-- Of two faults the greater is reported, which is the one of the lower status: answers that were not right come before want
 -- of memory, and that before a device.
 abbrev pub greater_fault : Result (Unit {0}) ProgramFault → Result (Unit {0}) ProgramFault
     → Result (Unit {0}) ProgramFault

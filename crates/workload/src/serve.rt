@@ -34,7 +34,7 @@ use verdicts::{Checking, endings_of, tell_checks, tell_verdicts};
 /// written; and also, but at the end and after these lines, where a connection could not be accepted, a thread could not be
 /// started or the input could not be read. It is `OutOfMemory` where the store, a transcript, `settle` or a check
 /// found no memory, and after these lines where a connection did; and `Settle` where a tenant is not settled, or not right.
-/// Of several faults the one of the lowest status is told. However it ends, each thread has ended.
+/// Of several faults the one of the lowest status is reported. However it ends, each thread has ended.
 pub fn run_server<
     H: Threads
         + Wait
@@ -177,7 +177,7 @@ fn fault_of(left: &Left) -> Result<(), ProgramFault>
     Ok(())
 }
 
-// What a server comes to that had this fault, or none, before its last lines, which came to this: the greater fault is told.
+// What a server comes to that had this fault, or none, before its last lines, which came to this: the greater fault is reported.
 fn ended_after(
     before: Result<(), ProgramFault>,
     ended: Result<(), ProgramFault>,
@@ -236,7 +236,7 @@ pub(crate) fn open_hub<
     }
 }
 
-// Tells the port, and serves the connections.
+// Reports the port, and serves the connections.
 fn serve_all<H: Threads + Wait + Clock + Sync, R: Read, W: Write>(
     rt: &H,
     alloc: Global,
@@ -254,7 +254,7 @@ fn serve_all<H: Threads + Wait + Clock + Sync, R: Read, W: Write>(
     Ok(())
 }
 
-// Whoever waits for the port is told at once.
+// Whoever waits for the port gets it at once.
 fn tell_port<W: Write>(alloc: Global, port: u16, writer: &mut W) -> Result<(), ProgramFault>
     ensures listened { HasListened (W.contents writer.old) (W.contents writer.new) result }
     ensures port { OnOk result (Appends (W.contents writer.old) (W.contents writer.new) (listening_line port)) }

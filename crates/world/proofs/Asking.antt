@@ -13,7 +13,7 @@ use Rattle.tenant_sessions.specs.declared.begin.Begin.{Begin}
 use Rattle.tenant_sessions.specs.Sessions.{IsBegin, act_for, resent}
 use Rattle.world.specs.Memory.{MayTakeMemory, IsRefused}
 
--- what is known of the moment tells the answer
+-- what is known of the moment reports the answer
 pub asks_by : (setup : Setup) (history : History) (act : Act) (m : Moment) → moment_of setup history act ≡ m → MayTakeMemory history act m.answer → MayTakeMemory history act (answer_to setup history act)
 unfolding answer_to
 asks_by setup history act m is asks = subst (λ (x : Moment). MayTakeMemory history act x.answer) (sym is) asks

@@ -67,7 +67,7 @@ table_quiet m history table nothing none stands =
 
 -- ---- steps
 
--- what is known of the moment tells the step
+-- what is known of the moment reports the step
 pub takes_by : (setup : Setup) (history : History) (act : Act) (answer : Answer) (new : Tenant) (m : Moment) → moment_of setup history act ≡ m → answer ≡ m.answer → length m.sent ≤ 64 → TenantStandsFor setup (m ∷ history) new → TenantSteps setup history act answer new
 unfolding answer_to sent_by
 takes_by setup history act answer new m is told few stands = record {

@@ -17,7 +17,7 @@ use Rattle.world.specs.declared.tenant.Tenant.{Tenant}
 use Rattle.world.specs.Content.{WorldContent, parts_of, limits_of}
 use Rattle.world.specs.Standing.{TenantStandsFor, StandsFor, history_of}
 
--- the answer tells a refusal
+-- the answer reports a refusal
 abbrev pub IsRefused : Answer → Type 0
 IsRefused answer = (refusal : Refusal) × (answer ≡ Refused refusal)
 

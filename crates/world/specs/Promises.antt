@@ -39,7 +39,7 @@ pub record IsPromised (setup : Setup) (history : History) (act : Act) (answer : 
   pub alone : answer ≡ answer_to setup history act
   -- what is read or listed is read atomic
   pub atomic : IsAtomicAnswer history act answer
-  -- no version is unknown, no write clashes, and no reply is false on its face
+  -- no version is unknown, no write clashes, and no reply is inconsistent
   pub truthful : IsFalse answer → ⊥
   -- who begins to read after a write was done reads nothing older at the keys that it wrote
   pub fresh : IsFreshAnswer history act answer
@@ -47,7 +47,7 @@ pub record IsPromised (setup : Setup) (history : History) (act : Act) (answer : 
   pub newest : IsNewestAnswer history act answer
   -- a reader restarts only where its partition's floor rose above the stamp that it asked for
   pub restarts : IsRightRestart setup history act answer
-  -- what a reader is told rests on the replies that it took, each its partition's reply to a call of its own
+  -- what a reader gets rests on the replies that it took, each its partition's reply to a call of its own
   pub told : IsToldAnswer setup history act answer
   -- a reply is ignored only where its transaction does not run, or took one in its place
   pub ignored : IsIgnoredAnswer history act answer
@@ -57,7 +57,7 @@ pub record IsPromised (setup : Setup) (history : History) (act : Act) (answer : 
   pub full : IsFullAnswer setup history act answer
   -- a put that ends for want of slots or items sends one DISCARD to each home of its keys, and nothing else
   pub taken_back : IsTakenBack setup history act answer
-  -- and nobody waits for the replies to these
+  -- and no transaction is waiting for the replies to these
   pub discard_ignored : IsDiscardIgnored history act answer
   -- no more than 64 messages are sent
   pub rows : length (sent_by setup history act) ≤ 64

@@ -60,7 +60,7 @@ pub record TenantSteps (setup : Setup) (history : History) (act : Act) (answer :
   pub stands : TenantStandsFor setup (moment_of setup history act ∷ history) new
   pub few : length (sent_by setup history act) ≤ 64
 
--- what a call answers that writes its answer into a place that is lent
+-- what a call answers that writes its answer into the caller's buffer
 abbrev pub answered_in_place : Result (Unit {0}) OutOfMemory → Answer → Result Answer OutOfMemory
 answered_in_place (Ok done) answer = Ok answer
 answered_in_place (Err error) answer = Err error

@@ -35,7 +35,7 @@ impl Tenant {
         }
     }
 
-    /// From now on each collection keeps this many committed versions of an item. No version is given up by that.
+    /// From now on each collection keeps this many committed versions of an item. No version is dropped by that.
     pub fn set_keep(&mut self, keep: Keep, answer: &mut Answer)
         ensures takes { (setup : Setup) (history : History) → IsRun setup history → TenantStandsFor setup history self.old
             → TenantSteps setup history (SetKeep keep) answer.new self.new }

@@ -47,7 +47,7 @@ impl Tenant {
         })
     }
 
-    /// Takes one step of the tenant with this number, and writes its answer into the place that is lent. The one error is that memory was refused.
+    /// Takes one step of the tenant with this number, and writes its answer into the caller's buffer. The one error is that memory was refused.
     pub fn step(
         &mut self,
         number: u32,

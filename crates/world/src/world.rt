@@ -23,7 +23,7 @@ use std::alloc::Global;
 use std::marker::Model;
 
 /// The store of all tenants: a shelf for each partition, on which each tenant has a cell, and for each tenant its
-/// messages and sessions. It is told what to do step by step, and answers each step; nothing else moves it.
+/// messages and sessions. It is asked for one step after another, and answers each step; nothing else moves it.
 ///
 /// Contracts see the shelves and the tenants. What they stand for is a list of steps.
 pub struct World {
@@ -31,7 +31,7 @@ pub struct World {
     tenants: Vec<Tenant>,
 }
 
-// What lies in it is let go here, so that no crate above proves it anew.
+// What lies in it is released here, so that no crate above proves it anew.
 impl Drop for World {
     fn drop(self) {
         let World {
@@ -95,8 +95,8 @@ impl World {
         }
     }
 
-    /// Does what `step` does, and writes the answer into the place that is lent. Where memory was refused, what is left there
-    /// tells nothing.
+    /// Does what `step` does, and writes the answer into the caller's buffer. Where memory was refused, what is left there
+    /// reports nothing.
     pub fn step_into(&mut self, step: &Step, answer: &mut Answer) -> Result<(), OutOfMemory>
         ensures answer { IfOk (answered_in_place result answer.new) (λ told. (before : List Stepped) → StandsFor self.old before
             → told ≡ store_answer (parts_of self.old) (limits_of self.old) before step.now) }

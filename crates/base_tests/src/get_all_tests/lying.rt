@@ -1,4 +1,4 @@
-//! Reads and searches that are told whatever is drawn. Most replies are false, and few reads come out.
+//! Reads and searches that get whatever is drawn. Most replies are false, and few reads come out.
 ghost use Rattle.std.specs.Prelude.{◌<◌};
 
 use crate::words::{key, record, stamp, tag};
@@ -21,7 +21,7 @@ enum Came {
     Fractured,
     /// A read with no such write, and whether it asked for versions in a second round.
     Whole(bool),
-    /// No read: the replies were false on their face, or a version was given up, or they ended too early.
+    /// No read: the replies were inconsistent, or a version was dropped, or they ended too early.
     Nothing,
 }
 
@@ -104,7 +104,7 @@ impl Draws {
         Some((key, round, reply))
     }
 
-    /// What a partition tells: nothing, or one key, which is at home there but in one of 32.
+    /// What a partition reports: nothing, or one key, which is at home there but in one of 32.
     fn found(&mut self, partition: u32) -> Option<Found> {
         if self.below(8) == 0 {
             let none: [Key; 0] = [];
@@ -120,7 +120,7 @@ impl Draws {
     }
 }
 
-/// Whether each key that is told has the version of one record that was shown, and no other told key that this record's
+/// Whether each key that is reported has the version of one record that was shown, and no other told key that this record's
 /// transaction wrote has an older one.
 fn is_unfractured(told: &[Reading], shown: &[Record]) -> bool {
     for reading in told {
@@ -141,7 +141,7 @@ fn is_shown(reading: &Reading, told: &[Reading], shown: &[Record]) -> bool {
     false
 }
 
-/// Whether no key of the record's transaction that is told has an older version.
+/// Whether no key of the record's transaction that is reported has an older version.
 fn is_read_whole(record: &Record, told: &[Reading]) -> bool {
     for reading in told {
         if record.writes.contains(&reading.item.key) && reading.stamp < record.stamp {
@@ -204,7 +204,7 @@ impl Asker {
         Some(Asker::Reads(Reader::new(&keys)?))
     }
 
-    /// A search for `red` that was told what partitions found, unless it is torn by that.
+    /// A search for `red` that was sent what partitions found, unless it is torn by that.
     fn finder(draws: &mut Draws) -> Option<Option<Asker>> {
         let mut finder = Finder::new(tag("red")?, PARTS);
         for partition in 0..PARTS {

@@ -4,7 +4,7 @@ use partition::{Book, Journal};
 use plain_store::{Call, ReadReply, Refusal, Reply};
 use std::alloc::Global;
 
-/// A book of two tenants: opened again where a growth was refused, which leaves nothing behind.
+/// A book of two tenants: opened again where an allocation failed, which leaves nothing behind.
 pub fn opened(rt: &impl Print, alloc: Global) -> Option<Book> {
     let limits = [limits(4, 4)?; 2];
     if let Ok(book) = Book::open(alloc, &limits) {
@@ -14,7 +14,7 @@ pub fn opened(rt: &impl Print, alloc: Global) -> Option<Book> {
     Book::open(alloc, &limits).ok()
 }
 
-/// What a book answers to a tenant: again where a growth was refused, which changes nothing.
+/// What a book answers to a tenant: again where an allocation failed, which changes nothing.
 pub fn served(
     rt: &impl Print,
     book: &mut Book,
@@ -101,7 +101,7 @@ fn enters_each_once(rt: &impl Print, alloc: Global) -> Option<bool> {
     Some(are_entered && is_empty && is_whole && counts.of_seats == 40)
 }
 
-/// Whichever growth is refused, the call is entered once, at the next place.
+/// Whichever allocation fails, the call is entered once, at the next place.
 #[test]
 fn a_refused_growth_enters_nothing(rt: HostRuntime) {
     assert!(rt; enters_each_once(&rt, rt.alloc()) == Some(true));

@@ -16,7 +16,7 @@ fn place(rt: &impl Print, book: &mut Book, number: u64, call: &Call, expected: &
 }
 
 /// The first tenant's epoch, which is cut; none where it has another number, or not two events, of which its base is one where it is not
-/// empty. It is cut again where a growth was refused, which changes nothing.
+/// empty. It is cut again where an allocation failed, which changes nothing.
 fn cut_off(book: &mut Book, number: u64) -> Option<Epoch> {
     if book.tenants() == 0 {
         return None;
@@ -30,7 +30,7 @@ fn cut_off(book: &mut Book, number: u64) -> Option<Epoch> {
     (epoch.number == number && epoch.events.len() + more == 2).then_some(epoch)
 }
 
-/// A book that is opened at a base: again where a growth was refused, which leaves nothing behind.
+/// A book that is opened at a base: again where an allocation failed, which leaves nothing behind.
 fn opened_at(rt: &impl Print, alloc: Global, base: &Base) -> Option<Book> {
     if let Ok(book) = Book::at(alloc, base) {
         return Some(book);

@@ -1,4 +1,4 @@
-//! Puts the entries that seats handed out before those of their transcripts.
+//! Puts the entries that seats returned before those of their transcripts.
 ghost use Rattle.std.specs.Prelude.{◌≡◌, ◌+◌, ◌<◌, ℕ, [], Some, IfOk, OnOk, length, slice_get};
 ghost use Rattle.closed_store.specs.Filling.{AreFilled, IsFilled, AreFirstPlaces, AreGathered, IsAppended, ArePut, AreEmpty};
 
@@ -11,9 +11,9 @@ use std::mem;
 /// The place of the first transcript of each seat.
 type TranscriptIndex = IndexMap<u64, usize>;
 
-/// Puts what seats handed out before the entries of their transcripts: the lists of a seat stand in the order given, before
+/// Puts what seats returned before the entries of their transcripts: the lists of a seat stand in the order given, before
 /// the entries that its transcript has. Of two transcripts of a seat the first takes them all. The lists of a seat without a
-/// transcript are let go.
+/// transcript are released.
 ///
 /// It goes once over the lists, whose seats it looks up in a table, and once over the transcripts, so its time grows with the
 /// number of lists, transcripts and entries that are moved. A transcript before which nothing is put stays where it lies. The

@@ -1,4 +1,4 @@
-//! The parts of a closed hub that were handed out before, put before the rest.
+//! The parts of a closed hub that were returned before, put before the rest.
 ghost use Rattle.std.specs.Prelude.{◌≡◌, ◌⊎◌, ◌↔◌, ◌≤◌, length, map, IfOk, IfErr, IsErrOf, IsSome, IsTrue, OnOk, OnErr, IsPermutation};
 ghost use Rattle.std.specs.List.Sorted.{IsNonDecreasingBy};
 ghost use Rattle.partition.specs.Journals.{room_for};
@@ -166,7 +166,7 @@ fn join_row(
 }
 
 /// The journals of all partitions, each with the epochs that were given for it before its own. More partitions than have
-/// numbers count as want of memory.
+/// numbers count as an allocation failure.
 fn join_rows(
     alloc: Global,
     limits: &[Limits],
@@ -215,7 +215,7 @@ fn are_known(given: &[(u32, u32, Epoch)], rows: &[Vec<Journal>]) -> bool
 }
 
 impl Closed {
-    /// Puts the parts that were handed out before in front of what is left: epochs, each with its partition and its tenant, as
+    /// Puts the parts that were returned before in front of what is left: epochs, each with its partition and its tenant, as
     /// a sink was given them, before the events of their journals, and entries, each list with its seat, as a seat drained
     /// them, before those of their transcripts. Both may come in any order, but for the lists of one seat, which stay as they
     /// are given. Every journal is then one from the start, and sound.

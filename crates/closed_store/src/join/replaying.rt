@@ -60,7 +60,7 @@ fn replay_epoch(book: &mut Book, epoch: &Epoch) -> Result<bool, OutOfMemory>
     Ok(same)
 }
 
-/// Whether two bases are equal. A base tells with its room that it is what some log leaves.
+/// Whether two bases are equal. A base reports with its room that it is what some log leaves.
 fn is_base(one: &Base, other: &Base) -> bool
     ensures same { IsTrue result ↔ (one.now ≡ other.now) }
     ensures bases { IsBase one.now × IsBase other.now }

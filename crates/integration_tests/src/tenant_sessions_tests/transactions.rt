@@ -1,4 +1,4 @@
-//! Transactions of one client in a store of two partitions, where `x` is at home at 0 and `y` at 1.
+//! Transactions of one client in a store of two partitions, where `x` belongs to 0 and `y` at 1.
 
 /// A write prepares and then commits.
 const WRITE: &str = "\
@@ -37,7 +37,7 @@ call 0 => 1 get y 2.1
 take commit 3.1 => restart y 3.1
 ";
 
-/// A search is told of `x` at 0 and of nothing at 1, and reads `x`.
+/// A search hears of `x` at 0 and of nothing at 1, and reads `x`.
 const SEARCH: &str = "\
 t hello 1 => ready 0
 t find 1 red => find rows 1-2

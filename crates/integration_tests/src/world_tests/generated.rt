@@ -273,7 +273,7 @@ impl Sent {
         }
     }
 
-    /// Adds the rows that an answer tells. The last COMMIT of a write is late, so that readers find half of the write.
+    /// Adds the rows that an answer reports. The last COMMIT of a write is late, so that readers find half of the write.
     fn add(&mut self, answer: &Answer) -> Option<()> {
         let last = last_row(answer).unwrap_or(self.last);
         for before in self.last..last {
@@ -378,7 +378,7 @@ pub struct Met {
     collected: u32,
     /// A reader begins anew, since what it asked for was collected.
     restarts: u32,
-    /// A search is told more than 16 keys.
+    /// A search gets more than 16 keys.
     too_many: u32,
     full_slots: u32,
     full_items: u32,
@@ -406,7 +406,7 @@ impl Met {
             && self.full_items > 100
     }
 
-    /// Counts what an answer tells.
+    /// Counts what an answer reports.
     fn count(&mut self, answer: &Answer) {
         let place = match answer {
             Answer::Ask(_) => &mut self.second_rounds,
@@ -470,14 +470,14 @@ fn list_of(alloc: Global, seed: u32) -> Option<Made> {
     })
 }
 
-/// Whether the world's answers to the steps of this seed are the slow evaluator's.
+/// Whether the world's answers to the steps of this seed are the reference interpreter's.
 fn agrees(alloc: Global, seed: u32) -> Option<bool> {
     let made = list_of(alloc, seed)?;
     let wanted = oracle_run(alloc, made.parts, &made.limits, &made.steps).ok()?;
     Some(made.answers.as_slice() == wanted.as_slice())
 }
 
-/// The first of so many seeds at which the world and the slow evaluator differ, or 0.
+/// The first of so many seeds at which the world and the reference interpreter differ, or 0.
 pub fn first_seed(alloc: Global, first: u32, count: u32) -> u32 {
     for seed in first..first.saturating_add(count) {
         if agrees(alloc, seed) != Some(true) {

@@ -1,5 +1,5 @@
-//! A growth that is refused in the midst of a run: `./refuse-memory` refuses each in turn. What a world answers to these steps
-//! stands in `worked_rows/data/sims.rows`. Of two partitions, x and z are at home at the first and y at the second.
+//! An allocation that fails in the midst of a run: `tools/refuse-memory` has each fail. What a world answers to these steps
+//! stands in `worked_rows/data/sims.rows`. Of two partitions, x and z belong to the first and y at the second.
 use line_protocol::{Name, read_step_line};
 use plain_store::{Answer, Step};
 use stamps::{Keep, Limits};

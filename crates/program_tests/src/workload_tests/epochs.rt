@@ -1,4 +1,4 @@
-//! What is told of journals whose epochs were checked.
+//! What is reported of journals whose epochs were checked.
 use super::{MANY, Narrow};
 use line_protocol::Name;
 use partition::{Epoch, Event, EventList};
@@ -82,7 +82,7 @@ fn ending(alloc: Global, slots: u32, mut epochs: Vec<Epoch>) -> Result<Option<En
     Ok(Some(Ending { checked, epoch }))
 }
 
-/// What is told of a tenant with room for 4 slots and one such journal, and whether it went well.
+/// What is reported of a tenant with room for 4 slots and one such journal, and whether it went well.
 fn told_of(alloc: Global, slots: u32, epochs: Vec<Epoch>) -> Result<(Vec<u8>, bool), Fail> {
     let names = [Name::read(b"t").ok_or("a name")?];
     let mut row = Vec::new(alloc);

@@ -71,7 +71,7 @@ fn keep_these(closed: &Closed, keeps: [u8; 3]) -> bool {
 
 #[test]
 fn a_keep_line_is_of_its_tenant_alone(rt: HostRuntime) {
-    // Of ten partitions `w` is at home at the last and `x` at the first.
+    // Of ten partitions `w` belongs to the last and `x` at the first.
     let rows = [
         ("hello t 1\nput w=1 x=1\nbye\n", [2, 2, 2]),
         ("hello t 1\nkeep 1\nput w=1 x=1\nbye\n", [1, 2, 2]),

@@ -201,7 +201,7 @@ fn answers(alloc: Global, turn: Turn, number: usize) -> Result<String, AllocErro
     }
 }
 
-/// Writes lines, reads so many bytes as these answers have, and tells whether they are these.
+/// Writes lines, reads so many bytes as these answers have, and reports whether they are these.
 pub(super) fn is_answered(
     alloc: Global,
     mut stream: &TcpStream,

@@ -139,7 +139,7 @@ impl<R: Net<Stream = TcpStream> + Wait> Write for Caller<'_, R> {
     }
 }
 
-/// The port in the line that tells it, where no line follows.
+/// The port in the line that reports it, where no line follows.
 fn port_of(line: &[u8]) -> Option<u16> {
     let text = std::str::from_utf8(line).ok()?;
     let port = text.strip_prefix("listening ")?.strip_suffix("\n")?;
@@ -277,7 +277,7 @@ const POSTED: Talk = (
     "refused 40\nrefused 40\nrefused 40\nrefused 40\nrefused 40\nready 0\ndone 1.9\nbye\n",
 );
 
-/// Of 10 partitions `w` is at home at the last, `x` at the first and `y` at the second. Three items are read and found.
+/// Of 10 partitions `w` belongs to the last, `x` at the first and `y` at the second. Three items are read and found.
 const THREE: Talk = (
     "hello t 1\nput w#red=1 x#red=2 y#red=3\nget w x y\nfind red\nbye\n",
     "ready 0\ndone 1.1\nread w@1.1#red=1 x@1.1#red=2 y@1.1#red=3\nlist w@1.1#red=1 x@1.1#red=2 y@1.1#red=3\nbye\n",
@@ -295,7 +295,7 @@ const NINE_CHECKED: &str =
 #[test]
 fn the_program_serves_as_its_words_ask(rt: HostRuntime) {
     // The words, what a client asks and is answered, whether a read of the input fails, how often it is read, how many threads the
-    // store has, the last lines, the status, and what is told of a fault.
+    // store has, the last lines, the status, and what is reported of a fault.
     let rows = [
         (
             "ramp serve --parts 3 u t",
@@ -353,7 +353,7 @@ fn the_program_serves_as_its_words_ask(rt: HostRuntime) {
             0,
             "",
         ),
-        // Nobody is told that a line is cut which the server's own end cut.
+        // Nobody is answered that a line is cut which the server's own end cut.
         (
             "ramp serve --stay t",
             HALF,

@@ -53,7 +53,7 @@ pub fn seated<'a, G: Gate, R: Wait>(
     hub.seat(rt, tenant, client, base).ok()
 }
 
-/// The keys `x`, at home at partition 0, and `y`, at home at partition 1.
+/// The keys `x`, homed on partition 0, and `y`, homed on partition 1.
 pub fn two_keys() -> Option<[Key; 2]> {
     Some([Key::read(b"x")?, Key::read(b"y")?])
 }
@@ -66,7 +66,7 @@ pub fn two_items(value: &str) -> Option<[Item; 2]> {
     Some([Item { key: x, tag, value }, Item { key: y, tag, value }])
 }
 
-/// How many items an answer tells of this version.
+/// How many items an answer reports of this version.
 pub fn told(answer: &Answer, counter: u64, client: u16) -> u32 {
     let (Answer::Read(readings) | Answer::Listed(readings)) = answer else {
         return 0;

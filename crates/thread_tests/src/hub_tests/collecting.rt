@@ -99,7 +99,7 @@ fn is_first_gone(alloc: Global, closed: &Closed) -> Option<bool> {
     Some(reply == Reply::Get(ReadReply::Collected(floor)))
 }
 
-/// How many versions of tenant 0 were given up, how many of its collections kept so many, how many of tenant 1's kept as many as
+/// How many versions of tenant 0 were dropped, how many of its collections kept so many, how many of tenant 1's kept as many as
 /// the other says, how many events there are, and whether the first version is gone.
 fn told(
     alloc: Global,
@@ -115,10 +115,10 @@ fn told(
 }
 
 /// Two writes are four events, and each brings a collection for each tenant. These keep one version, or as many as were set for
-/// their tenant: then the older one is not given up.
+/// their tenant: then the older one is not dropped.
 #[test]
 fn what_is_collected_lies_below_a_floor(rt: HostRuntime) {
-    // What is set for tenant 0 and tenant 1, what is kept of each, and what is told.
+    // What is set for tenant 0 and tenant 1, what is kept of each, and what is reported.
     let rows = [
         ((0, 0), (1, 1), (1, 4, 4, 8, true)),
         ((2, 3), (2, 3), (0, 4, 4, 8, false)),

@@ -1,4 +1,4 @@
-//! Journals that are cut while the hub runs, and entries that are handed out; and both put before what is left.
+//! Journals that are cut while the hub runs, and entries that are returned; and both put before what is left.
 ghost use Rattle.std.specs.Prelude.{◌≤◌};
 
 use super::asking::{config, seated, two_items};
@@ -42,7 +42,7 @@ fn write_and_drain<R: Wait>(
     Some(handed)
 }
 
-/// What two writes leave of a hub that cuts a journal at so many events, and the entries that were handed out.
+/// What two writes leave of a hub that cuts a journal at so many events, and the entries that were returned.
 fn run<R: Threads + Wait + Clone + Send + Sync + Drop + 'static>(
     rt: &R,
     alloc: Global,
@@ -58,7 +58,7 @@ fn run<R: Threads + Wait + Clone + Send + Sync + Drop + 'static>(
     Some((handed, hub.close(rt, transcripts)))
 }
 
-/// What two writes left of a hub, and what was handed out before.
+/// What two writes left of a hub, and what was returned before.
 #[derive(Drop)]
 struct Left {
     parts: Parts,
@@ -119,7 +119,7 @@ fn count_of_events(parts: &[(u32, u32, Epoch)]) -> u64 {
     count
 }
 
-/// How many entries were handed out and how many are left, how many events there were in all, and how much greater the number of the
+/// How many entries were returned and how many are left, how many events there were in all, and how much greater the number of the
 /// epoch that is left is than that of the epochs cut; none where these are not in turn, where they have not the events before the
 /// journal that is left, or where that is long enough to be cut.
 fn told(left: &Left, least: usize) -> Option<[u64; 4]> {
@@ -145,7 +145,7 @@ fn told(left: &Left, least: usize) -> Option<[u64; 4]> {
     ])
 }
 
-/// Two writes of one key are four events and twice four entries. The journal that is left tells its epoch, and how many
+/// Two writes of one key are four events and twice four entries. The journal that is left reports its epoch, and how many
 /// events the epochs before it had. A seat may serve calls before the worker has cut: no more than a journal is long, since one
 /// of twice as many events is full.
 #[test]
@@ -225,7 +225,7 @@ enum Change {
     NumberAgain,
 }
 
-/// Changes what was handed out or is left.
+/// Changes what was returned or is left.
 fn change_parts(left: &mut Left, how: Change) -> Option<()> {
     match how {
         Change::Nothing => {}

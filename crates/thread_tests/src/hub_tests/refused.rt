@@ -1,4 +1,4 @@
-//! What stands where a growth was refused, whichever it was. `./refuse-memory` refuses each in turn; in a plain run none is.
+//! What stands where an allocation failed, whichever it was. `./refuse-memory` refuses each in turn; in a plain run none is.
 use super::asking::{config, opened, seated, two_items};
 use super::epochs::{journal, write_four};
 use hub::{Config, Gate, Hub, HubFault, Seat, Sink, Transcript};
@@ -24,7 +24,7 @@ impl Gate for Marked {
     fn inside(&self, _partition: u32, _nth: u64) {}
 }
 
-/// Tells what was refused, if anything was.
+/// Reports what was refused, if anything was.
 fn tell<R: Print>(rt: &R, refused: Option<&'static str>) -> io::Result<()> {
     match refused {
         Some(what) => println!(rt; "refused: {what}"),
@@ -147,7 +147,7 @@ fn ask<R: Wait>(rt: &R, seat: &mut Seat<'_, ()>, first: u32, seen: &mut Seen) ->
     Some(6)
 }
 
-/// A seat of client 1: taken again where a growth was refused.
+/// A seat of client 1: taken again where an allocation failed.
 fn sit<'a, R: Wait>(rt: &R, hub: &'a Hub<()>, seen: &mut Seen) -> Option<Seat<'a, ()>> {
     match seated(rt, hub, 0, 1) {
         Some(seat) => Some(seat),
@@ -194,7 +194,7 @@ fn two_places(alloc: Global) -> Option<Vec<Transcript>> {
     }
 }
 
-/// A hub: opened again where a growth was refused.
+/// A hub: opened again where an allocation failed.
 fn opened_again<R: Threads + Wait + Clone + Send + Drop + 'static>(
     rt: &R,
     alloc: Global,
@@ -205,7 +205,7 @@ fn opened_again<R: Threads + Wait + Clone + Send + Drop + 'static>(
     }
 }
 
-/// Whether six operations were done and are settled: asked for again where a growth was refused.
+/// Whether six operations were done and are settled: asked for again where an allocation failed.
 fn is_settled<R: Threads + Wait + Clone + Send + Drop + 'static>(
     rt: &R,
     alloc: Global,
@@ -270,7 +270,7 @@ fn opened_cutting<R: Threads + Wait + Clone + Send + Drop + 'static>(
 }
 
 /// Whether four keys were written, by calls of which the worker served two, and each epoch was handed over: asked for again, by the
-/// same client's next session, where a growth was refused.
+/// same client's next session, where an allocation failed.
 fn are_written<R: Threads + Wait + Clone + Send + Drop + 'static>(
     rt: &R,
     alloc: Global,

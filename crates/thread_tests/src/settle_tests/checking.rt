@@ -55,7 +55,7 @@ fn an_epoch_begins_where_another_ended(rt: HostRuntime) {
     }
 }
 
-/// Whether a book of one tenant serves a call of seat 1 so, and enters it at this place; none where a growth was refused.
+/// Whether a book of one tenant serves a call of seat 1 so, and enters it at this place; none where an allocation failed.
 fn serves(book: &mut Book, number: u64, said: Said, place: u64) -> Option<bool> {
     let (call, reply) = (call("x", said)?, reply("x", said)?);
     if book.tenants() == 0 {
@@ -67,7 +67,7 @@ fn serves(book: &mut Book, number: u64, said: Said, place: u64) -> Option<bool> 
     }
 }
 
-/// The epoch that is over of the one tenant's journal; none where a growth was refused.
+/// The epoch that is over of the one tenant's journal; none where an allocation failed.
 fn cut(book: &mut Book) -> Option<Epoch> {
     if book.tenants() == 0 {
         return None;
@@ -98,7 +98,7 @@ fn join(
     Some(closed.join(epochs, Vec::new(alloc)))
 }
 
-/// How many events the one journal has once it is joined with its epochs, or why it is not; none where a growth was refused.
+/// How many events the one journal has once it is joined with its epochs, or why it is not; none where an allocation failed.
 fn joined(
     alloc: Global,
     its: Limits,
@@ -112,7 +112,7 @@ fn joined(
     }
 }
 
-/// Whether an epoch has this number and so many events, is sound, and leads to this base; none where a growth was refused.
+/// Whether an epoch has this number and so many events, is sound, and leads to this base; none where an allocation failed.
 fn leads(alloc: Global, epoch: &Epoch, number: u64, events: usize, base: &Base) -> Option<bool> {
     let is_cut = epoch.number == number && epoch.events.len() == events;
     match check_epoch(alloc, epoch) {
@@ -143,7 +143,7 @@ fn are_epochs_of_a_book(alloc: Global, is_repeated: bool) -> Option<bool> {
     Some(holds && joined(alloc, its, book, [first, second])? == wanted)
 }
 
-/// Whatever growth is refused, nothing else is answered in its place.
+/// Whatever allocation fails, nothing else is answered in its place.
 #[test]
 fn the_epochs_of_a_book_lead_from_one_to_the_next(rt: HostRuntime) -> io::Result<()> {
     for is_repeated in [false, true] {

@@ -10,7 +10,7 @@ use plain_store::{
 use stamps::{Client, Counter, Item, Keep, Key, Limits, Record, Stamp, Tag, Value, WriteSet};
 use std::alloc::Global;
 
-/// What a partition was asked of the key that is at home there, and what it replied. A write is told by its counter: each is
+/// What a partition was asked of the key that is at home there, and what it replied. A write is recognised by its counter: each is
 /// client 1's, and writes x and y.
 #[derive(Clone, Copy)]
 pub enum Said {

@@ -59,7 +59,7 @@ const WRITE_AND_READ: Case<'static> = Case {
     ..EMPTY
 };
 
-/// The first seat writes x and y twice, where each partition has room for one version: the second write is taken back.
+/// The first seat writes x and y twice, where each partition has room for one version: the second write is rolled back.
 const NO_ROOM: Case<'static> = Case {
     slots: 1,
     journals: [
@@ -97,7 +97,7 @@ const NO_ROOM: Case<'static> = Case {
     ..EMPTY
 };
 
-/// A seat names no rows of an end: rows that are named differ from what is told.
+/// A seat names no rows of an end: rows that are named differ from what is reported.
 const NAMED_ROWS: Case<'static> = Case {
     transcripts: &[(
         1,
@@ -144,7 +144,7 @@ const OTHER_TENANT: Case<'static> = Case {
     ..EMPTY
 };
 
-/// Journals that handed out an epoch before, which is missing.
+/// Journals that returned an epoch before, which is missing.
 const SECOND_EPOCH: Case<'static> = Case {
     epoch: 2,
     verdict: Err(SettleFault::Missing),

@@ -52,7 +52,7 @@ impl Reached {
         }
     }
 
-    /// Whether it is what a base holds, as `is` tells. Where it is, a replica shares the base's parts then.
+    /// Whether it is what a base holds, as `is` reports. Where it is, a replica shares the base's parts then.
     pub(crate) fn begins_at(&mut self, base: &Base) -> Result<bool, OutOfMemory>
         ensures exact { IfOk result (λ yes. IsTrue yes ↔ (self.old ≡ base.now)) }
         ensures same { self.new ≡ self.old }

@@ -79,7 +79,7 @@ fn is_right_in(
 }
 
 /// Whether the journal is under these limits, its epochs were right, and the one that was left in it follows them. Where it
-/// is under others, or an epoch of it was not checked, that counts as want of memory.
+/// is under others, or an epoch of it was not checked, that counts as an allocation failure.
 fn is_right(alloc: Global, ending: &Ending, limits: &Limits) -> Result<bool, OutOfMemory>
     ensures told { IfOk result (λ yes. MatchBool yes (IsRight limits.now ending.now) (IsWrong limits.now ending.now)) }
     ensures untold { IfErr result (λ _. IsUntold limits.now ending.now) }

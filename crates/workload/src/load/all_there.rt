@@ -116,7 +116,7 @@ fn are_known(given: &[(u32, u32, Epoch)], rows: &[Vec<Journal>]) -> bool
 }
 
 /// Whether of each journal of a store that was closed just the epochs numbered below the one that is left in it are given,
-/// each once, and none of a journal that is not there. 2^32 partitions or tenants, or more, count as want of memory.
+/// each once, and none of a journal that is not there. 2^32 partitions or tenants, or more, count as an allocation failure.
 pub(crate) fn are_all_there(
     alloc: Global,
     closed: &Closed,

@@ -1,4 +1,4 @@
-//! What is told of a load whose epochs were kept: they are joined, and what they join to is settled.
+//! What is reported of a load whose epochs were kept: they are joined, and what they join to is settled.
 ghost use Rattle.std.specs.Prelude.{◌≡◌, ◌≤◌, false};
 ghost use Rattle.workload.specs.Loading.{IsToldOfKept, TellsJoined, TellsNone};
 

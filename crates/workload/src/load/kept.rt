@@ -21,7 +21,7 @@ pub(crate) struct KeptEpochs<H> {
 
 impl<H: Wait> Sink for KeptEpochs<H> {
     fn epoch(&self, partition: u32, tenant: u32, epoch: Epoch) {
-        // One that finds no memory is missing from then on: `epochs` tells so.
+        // One that finds no memory is missing from then on: `epochs` reports so.
         let _ = self.came.lock(&self.rt).push((partition, tenant, epoch));
     }
 }

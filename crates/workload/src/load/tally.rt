@@ -1,4 +1,4 @@
-//! What is told of a load: how many operations the seats of each tenant began.
+//! What is reported of a load: how many operations the seats of each tenant began.
 ghost use Rattle.std.specs.Prelude.{◌≡◌, ◌+◌, ◌++◌, IfErr, OnOk, decimal, sum_by};
 ghost use Rattle.std.specs.Io.KnownBytes.{Appends};
 ghost use Rattle.verdicts.specs.Begun.{counts_begun, counts_in, counts_of, counts_of_entry, counts_of_operation, told_count};
@@ -114,7 +114,7 @@ impl Begun {
     }
 }
 
-/// Writes the line that tells how many operations the tenant of a name began.
+/// Writes the line that reports how many operations the tenant of a name began.
 fn write_begun<W: Write>(
     alloc: Global,
     name: Name,

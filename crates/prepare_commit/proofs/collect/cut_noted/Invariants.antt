@@ -5,7 +5,7 @@ use Rattle.prepare_commit.specs.Layout.{held_in, chain_lists, HaveAll}
 use Rattle.prepare_commit.proofs.CollectedChains.{paired, half_collected}
 use Rattle.prepare_commit.proofs.collect.cut_noted.Given as goal
 
--- of the items whose chains are not noted the floors are raised, and the versions below them given up
+-- of the items whose chains are not noted the floors are raised, and the versions below them dropped
 abbrev pub invariant-loop-chain : goal.invariant-loop-chain
 invariant-loop-chain l = record {
   lies : AreIn l.block l.versions.chains l.versions.is_swept;

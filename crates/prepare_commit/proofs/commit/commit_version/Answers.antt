@@ -19,7 +19,7 @@ own c = subst (λ n. All (IsVersionOf c.requires.known.0) (chain_versions c.args
 in_range : (c : After-mark_slot-chain) → c.mark_slot-chain.result < length c.mark_slot-chain.new.self.heads
 in_range c = subst (λ (h : Heads). c.mark_slot-chain.result < length h.heads) (sym c.mark_slot-chain.ensures.rest) c.mark_slot-chain.ensures.known
 
--- what is told is the latest
+-- what is reported is the latest
 latest : (c : After-mark_slot-chain) (key : List ℕ) → All (IsVersionOf key) (chain_versions c.args.block.now c.args.chains.now c.mark_slot-chain.result)
     → (o : Option Record) → o ≡ slice_get (committed_records (chain_versions c.mark_slot-chain.new.block c.mark_slot-chain.new.self c.mark_slot-chain.result)) 0
     → IsLatest key (chain_versions c.mark_slot-chain.new.block c.mark_slot-chain.new.self c.mark_slot-chain.result) (committed_version o)

@@ -30,7 +30,7 @@ returns-in_err-make_room-clause-begun g c =
     at_any c.from_residual.result (λ fault. BreaksTelling c.args.connection.now.terms.options.newest c.args.hub.now.epoch first last old new c.args.out.now.items)
     (λ fault. breaks_line c.args.connection.now.terms.options.newest c.args.hub.now.epoch old new c.args.out.now.items c.put_answer.new.out.items (answer_line c.answer.new.self.answer) first last begun.0 c.put_answer.ensures.text c.in_default.ensures.told begun.1)
 
--- nothing is told
+-- nothing is reported
 pub returns-in-Some-clause-told : goal.returns-in-Some-clause-told
 returns-in-Some-clause-told g c = ([], Gathers-none (g.W.Write.contents c.args.writer.now) c.args.out.now.items, c.in-Some.ensures.untold)
 

@@ -7,7 +7,7 @@ use Rattle.hub.proofs.Behind.{behind-start, behind-more, behind-all, next-same}
 use Rattle.hub.proofs.Rooms.{room_for_fewer, open_retry}
 use Rattle.hub.proofs.operation.RunningOperation.stage_calls.Goals as goal
 
--- an open session tells what it waits for
+-- an open session reports what it waits for
 pub unwrap-count-requires : goal.unwrap-count-requires
 unwrap-count-requires g c = open_retry c.args.self.now.session c.args.self.now.opened c.retry.result c.retry.ensures.refused
 

@@ -84,7 +84,7 @@ returns-clause-served g c =
 pub returns-in-Some-clause-served : goal.returns-in-Some-clause-served
 returns-in-Some-clause-served g c = served-start c.args.self.now.name _ _ c.args.self.now.entries
 
--- a refusal tells no stamp
+-- a refusal reports no stamp
 pub returns-in-Some-clause-told : goal.returns-in-Some-clause-told
 returns-in-Some-clause-told g c =
     reads-refused c.args.self.now.name c.args.self.now.parts _ c.args.request.now c.in-Some.refusal _ _ _ c.tell_refusal.ensures

@@ -22,7 +22,7 @@ use Rattle.prepare_commit.proofs.cell.Cell.fill.Goals.{After-add_items}
 
 -- ---- the items, while their chains are empty
 
--- what the base has, as its type tells
+-- what the base has, as its type reports
 abbrev held : (c : After-add_items) → Frozen
 held c = record {
   room = record { slots = c.base.inside.slots; items = c.base.inside.items; clients = c.base.inside.clients };

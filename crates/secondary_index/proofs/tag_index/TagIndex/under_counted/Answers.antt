@@ -11,7 +11,7 @@ use Rattle.secondary_index.proofs.Telling.{nothing_told, copied_is, copied_IsFou
 use Rattle.secondary_index.proofs.tag_index.TagIndex.under_counted.Goals as goal
 use Rattle.secondary_index.proofs.tag_index.TagIndex.under_counted.Goals.{After-under-first, After-copy_keys}
 
--- what the index tells is what its entries' map tells
+-- what the index reports is what its entries' map reports
 told_of : (c : After-under-first) → ◌≡◌ {A = Findings} (findings_of (keys_under (tags_of c.self.inside.entries.items) c.args.tag.now)) (findings_of (keys_under c.args.self.now.tags c.args.tag.now))
 told_of c = ap (λ tags. findings_of (keys_under tags c.args.tag.now)) (tags_are c.args.self.now c.self.inside.room c.self.inside.entries.items c.self.invariant.0.in_order c.self.view_is)
 

@@ -30,7 +30,7 @@ same_counts (Began act) = same_act act
 same_counts (Took number partition place reply) = refl
 same_counts (Answered answer) = refl
 
--- what is told of the operation at a place is what its entry says
+-- what is reported of the operation at a place is what its entry says
 told_there : (entries : List Entry) (at : ℕ) (operation : Option Operation) → at < length entries → operation ≡ option_and_then operation_of (slice_get entries at)
     → counts_of_operation operation ≡ counts_of_entry (get_or entries at (Answered Ignored))
 told_there entries at operation within is =
