@@ -2,7 +2,7 @@
 ghost use Rattle.std.specs.Prelude.{◌≡◌, IsTrue, length, map};
 ghost use Rattle.std.specs.Arc.{arc_value};
 ghost use Rattle.hub.specs.Hubs.{config_view, IsSoundBook};
-ghost use Rattle.hub.specs.Desks.{IsPostOf};
+ghost use Rattle.hub.specs.Shards.{IsConfigOf};
 
 use closed_store::Config;
 use partition::{Counts, Journal};
@@ -17,13 +17,13 @@ pub fn take_out(
     alloc: Global,
     config: &Config,
     partition: u32,
-    desk: Arc<Shard>,
+    shard: Arc<Shard>,
 ) -> (Vec<Journal>, Counts)
-    requires { IsPostOf config.now partition (arc_value desk).post }
+    requires { IsConfigOf config.now partition (arc_value shard).config }
     ensures { IsSoundBook (config_view config.now) partition result.0 result.1 }
 {
-    if let Some(desk) = Arc::into_inner(desk)
-        && let Some(book) = desk.into_book()
+    if let Some(shard) = Arc::into_inner(shard)
+        && let Some(book) = shard.into_book()
     {
         let (journals, counts) = book.into_journals();
         if are_under(journals.as_slice(), config.limits.as_slice()) {

@@ -29,7 +29,7 @@ pub struct Dispatcher<'a, G> {
     alloc: Global,
     client: Client,
     parts: u32,
-    desks: &'a [Arc<Shard>],
+    shards: &'a [Arc<Shard>],
     gate: &'a G,
     jobs: Vec<JobSender>,
     reply_to: Sender<SeatReply>,
@@ -57,7 +57,7 @@ impl<'a, G> Drop for Dispatcher<'a, G> {
             alloc: _,
             client: _,
             parts: _,
-            desks: _,
+            shards: _,
             gate: _,
             jobs: _,
             reply_to: _,
@@ -80,12 +80,12 @@ impl<'a, G> Dispatcher<'a, G> {
         alloc: Global,
         client: Client,
         parts: u32,
-        desks: &'a [Arc<Shard>],
+        shards: &'a [Arc<Shard>],
         gate: &'a G,
         jobs: Vec<JobSender>,
     ) -> Result<Dispatcher<'a, G>, AllocError>
         requires { IsParts parts }
-        ensures given { IfOk result (λ queues. (queues.client ≡ client) × (queues.parts ≡ parts) × (queues.jobs ≡ jobs) × (queues.desks.now ≡ desks.now)) }
+        ensures given { IfOk result (λ queues. (queues.client ≡ client) × (queues.parts ≡ parts) × (queues.jobs ≡ jobs) × (queues.shards.now ≡ shards.now)) }
         ensures none_staged { IfOk result (λ queues. (queues.calls.items ≡ []) × (queues.served ≡ 0) × (queues.queued ≡ 0) × (queues.sent ≡ 0)) }
         ensures places { IfOk result (λ queues. max_calls ≤ deque_capacity queues.calls) }
     {
@@ -95,7 +95,7 @@ impl<'a, G> Dispatcher<'a, G> {
             alloc,
             client,
             parts,
-            desks,
+            shards,
             gate,
             jobs,
             reply_to,
@@ -341,15 +341,15 @@ impl<'a, G> Dispatcher<'a, G> {
     }
 
     /// Does what is due at a partition once its lock is released.
-    fn follow_up<R: Wait>(&mut self, rt: &R, desk: &Shard, due: FollowUp)
+    fn follow_up<R: Wait>(&mut self, rt: &R, shard: &Shard, follow_up: FollowUp)
         ensures sent { self.new.sent ≡ self.old.sent }
         ensures calls { (self.new.calls ≡ self.old.calls) × (self.new.queued ≡ self.old.queued) }
         ensures room { SameRoom self.old self.new }
         ensures served { self.new.served ≡ self.old.served }
     {
-        let collected = due.collects && collect_at(rt, desk).cuts();
-        if (due.cuts || collected)
-            && let Some(queue) = self.jobs.get_mut(desk.post.partition as usize)
+        let collected = follow_up.collects && collect_at(rt, shard).cuts();
+        if (follow_up.cuts || collected)
+            && let Some(queue) = self.jobs.get_mut(shard.config.partition as usize)
         {
             let _ = queue.send(rt, Task::Cut);
         }
@@ -414,10 +414,10 @@ impl<'a, G: Gate> Dispatcher<'a, G> {
         let Some(staged) = self.calls.get_mut(at) else {
             return;
         };
-        let Some(desk) = self.desks.get(staged.call.partition as usize) else {
+        let Some(shard) = self.shards.get(staged.call.partition as usize) else {
             return;
         };
-        staged.call.arrival = desk.next_arrival();
+        staged.call.arrival = shard.next_arrival();
         self.gate.pass(staged.call.partition, staged.call.arrival);
     }
 
@@ -429,16 +429,16 @@ impl<'a, G: Gate> Dispatcher<'a, G> {
         ensures calls { (deque_len self.new.calls ≡ deque_len self.old.calls) × (self.new.queued ≡ self.old.queued) }
         ensures asked { map asked_by self.new.calls.items ≡ map asked_by self.old.calls.items }
     {
-        let desks = self.desks;
+        let shards = self.shards;
         for at in self.served..self.calls.len() {
             if let Some(partition) = self.open_at(at)
-                && let Some(desk) = desks.get(partition as usize)
-                && let Some(guard) = desk.try_lock()
+                && let Some(shard) = shards.get(partition as usize)
+                && let Some(guard) = shard.try_lock()
             {
                 let mut guard = guard;
-                let due = self.serve_under(desk, &mut guard);
+                let follow_up = self.serve_under(shard, &mut guard);
                 drop(guard);
-                self.follow_up(rt, desk, due);
+                self.follow_up(rt, shard, follow_up);
             }
         }
     }
@@ -451,28 +451,28 @@ impl<'a, G: Gate> Dispatcher<'a, G> {
         ensures calls { (deque_len self.new.calls ≡ deque_len self.old.calls) × (self.new.queued ≡ self.old.queued) }
         ensures asked { map asked_by self.new.calls.items ≡ map asked_by self.old.calls.items }
     {
-        let desks = self.desks;
+        let shards = self.shards;
         for at in self.served..self.calls.len() {
             if let Some(partition) = self.open_at(at)
-                && let Some(desk) = desks.get(partition as usize)
+                && let Some(shard) = shards.get(partition as usize)
             {
-                let mut guard = desk.lock_soon(rt);
-                let due = self.serve_under(desk, &mut guard);
+                let mut guard = shard.lock_soon(rt);
+                let follow_up = self.serve_under(shard, &mut guard);
                 drop(guard);
-                self.follow_up(rt, desk, due);
+                self.follow_up(rt, shard, follow_up);
             }
         }
     }
 
     /// Serves the staged calls of a partition whose lock is held.
-    fn serve_under(&mut self, desk: &Shard, guarded: &mut ShardState) -> FollowUp
+    fn serve_under(&mut self, shard: &Shard, state: &mut ShardState) -> FollowUp
         ensures sent { self.new.sent ≡ self.old.sent }
         ensures room { SameRoom self.old self.new }
         ensures served { self.new.served ≡ self.old.served }
         ensures calls { (deque_len self.new.calls ≡ deque_len self.old.calls) × (self.new.queued ≡ self.old.queued) }
         ensures asked { map asked_by self.new.calls.items ≡ map asked_by self.old.calls.items }
     {
-        guarded.serve_round(&desk.post, self.gate, &mut self.calls)
+        state.serve_round(&shard.config, self.gate, &mut self.calls)
     }
 }
 

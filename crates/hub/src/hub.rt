@@ -33,7 +33,7 @@ pub struct Hub<G> {
     clients: Mutex<Register>,
     collector: Arc<Collector>,
     gate: Arc<G>,
-    desks: Vec<Arc<Shard>>,
+    shards: Vec<Arc<Shard>>,
     threads: Sealed<Vec<JoinHandle<()>>>,
     journals: Vec<Vec<Journal>>,
     counts: Vec<Counts>,
@@ -42,13 +42,13 @@ pub struct Hub<G> {
 impl<G> Model for Hub<G> {
     ghost use Rattle.std.specs.Prelude.{◌≡◌, ◌≤◌, length, vec_len, vec_capacity};
     ghost use Rattle.hub.specs.Hubs.{ConfigView, config_view};
-    ghost use Rattle.hub.specs.Desks.{AreDesksFrom};
+    ghost use Rattle.hub.specs.Shards.{AreShardsFrom};
 
     ghost Value = { ConfigView };
 
     ghost view = { λ h. config_view h.config };
 
-    ghost invariant = { λ h. (length h.desks.items ≡ h.config.parts) × (vec_len h.journals ≡ 0) × (vec_len h.counts ≡ 0) × (h.config.parts ≤ vec_capacity h.journals) × (h.config.parts ≤ vec_capacity h.counts) × AreDesksFrom h.config 0 h.desks.items };
+    ghost invariant = { λ h. (length h.shards.items ≡ h.config.parts) × (vec_len h.journals ≡ 0) × (vec_len h.counts ≡ 0) × (h.config.parts ≤ vec_capacity h.journals) × (h.config.parts ≤ vec_capacity h.counts) × AreShardsFrom h.config 0 h.shards.items };
 }
 
 impl<G: Gate + Send + Sync + Drop + 'static> Hub<G> {
@@ -68,7 +68,7 @@ impl<G: Gate + Send + Sync + Drop + 'static> Hub<G> {
         let mut lists = PartitionLists::of(alloc, parts)?;
         let started = start_all(rt, alloc, &config, &gate, &sink, &collector, &mut lists);
         let PartitionLists {
-            desks,
+            shards,
             queues,
             threads,
             journals,
@@ -86,7 +86,7 @@ impl<G: Gate + Send + Sync + Drop + 'static> Hub<G> {
             clients,
             collector,
             gate,
-            desks,
+            shards,
             threads: Sealed::new(threads),
             journals,
             counts,
@@ -108,16 +108,16 @@ impl<G: Gate + Send + Sync + Drop + 'static> Hub<G> {
             clients: _,
             collector: _,
             gate: _,
-            desks,
+            shards,
             threads,
             mut journals,
             mut counts,
         } = self;
         drop(queues);
         join_all(rt, threads.into_inner());
-        for desk in desks {
+        for shard in shards {
             let partition = journals.len() as u32;
-            let (of_book, count) = take_out(alloc, &config, partition, desk);
+            let (of_book, count) = take_out(alloc, &config, partition, shard);
             journals.push_reserved(of_book);
             counts.push_reserved(count);
         }
@@ -176,8 +176,8 @@ impl<G: Gate> Hub<G> {
         ensures used { IfOk result (λ is_there. IsTrue is_there → AreUsagesAt self.now.parts partition usages.new.items) }
         ensures past { self.now.parts ≤ partition → result ≡ Ok false }
     {
-        match self.desks.get(partition as usize) {
-            Some(desk) => desk.put_usages(rt, self.config.parts, partition, usages),
+        match self.shards.get(partition as usize) {
+            Some(shard) => shard.put_usages(rt, self.config.parts, partition, usages),
             None => Ok(false),
         }
     }
@@ -258,8 +258,8 @@ impl<G: Gate> Hub<G> {
     {
         let parts = self.config.parts;
         let jobs = self.more_queues(rt)?;
-        let desks = self.desks.as_slice();
-        let queues = Dispatcher::new(self.alloc, client, parts, desks, &*self.gate, jobs)?;
+        let shards = self.shards.as_slice();
+        let queues = Dispatcher::new(self.alloc, client, parts, shards, &*self.gate, jobs)?;
         let Ok(session) = ClientSession::hello(self.alloc, counter) else {
             return Err(AllocError);
         };

@@ -1,7 +1,7 @@
 //! The threads of a hub, and how they are started.
 ghost use Rattle.std.specs.Prelude.{◌≡◌, ◌≤◌, ◌<◌, ◌+◌, [], All, length, vec_len, vec_capacity, IfErr, IfOk, OnOk};
 ghost use Rattle.std.specs.Arc.{arc_value};
-ghost use Rattle.hub.specs.Desks.{IsPostOf, AreDesksFrom};
+ghost use Rattle.hub.specs.Shards.{IsConfigOf, AreShardsFrom};
 
 use closed_store::Config;
 use partition::{Book, Counts, Journal};
@@ -56,7 +56,7 @@ pub fn collector_of(alloc: Global, config: &Config) -> Result<Arc<Collector>, Hu
 /// The lists of a hub in which something stands for each partition.
 #[derive(Drop)]
 pub struct PartitionLists {
-    pub desks: Vec<Arc<Shard>>,
+    pub shards: Vec<Arc<Shard>>,
     pub queues: Vec<JobSender>,
     pub threads: Vec<JoinHandle<()>>,
     pub journals: Vec<Vec<Journal>>,
@@ -66,14 +66,14 @@ pub struct PartitionLists {
 impl PartitionLists {
     /// Empty lists with room for so many partitions. The one error is that memory was refused.
     pub fn of(alloc: Global, parts: usize) -> Result<PartitionLists, AllocError>
-        ensures desks { IfOk result (λ lists. (lists.desks.items ≡ []) × (vec_len lists.desks ≡ 0) × (parts ≤ vec_capacity lists.desks)) }
+        ensures shards { IfOk result (λ lists. (lists.shards.items ≡ []) × (vec_len lists.shards ≡ 0) × (parts ≤ vec_capacity lists.shards)) }
         ensures queues { IfOk result (λ lists. (lists.queues.items ≡ []) × (vec_len lists.queues ≡ 0) × (parts ≤ vec_capacity lists.queues)) }
         ensures threads { IfOk result (λ lists. (vec_len lists.threads ≡ 0) × (parts ≤ vec_capacity lists.threads)) }
         ensures journals { IfOk result (λ lists. (vec_len lists.journals ≡ 0) × (parts ≤ vec_capacity lists.journals)) }
         ensures counts { IfOk result (λ lists. (vec_len lists.counts ≡ 0) × (parts ≤ vec_capacity lists.counts)) }
     {
         Ok(PartitionLists {
-            desks: Vec::with_capacity(alloc, parts)?,
+            shards: Vec::with_capacity(alloc, parts)?,
             queues: Vec::with_capacity(alloc, parts)?,
             threads: Vec::with_capacity(alloc, parts)?,
             journals: Vec::with_capacity(alloc, parts)?,
@@ -89,7 +89,7 @@ pub fn join_all<R: Threads>(rt: &R, threads: Vec<JoinHandle<()>>) {
     }
 }
 
-/// Starts a worker for each partition, with its desk and its queue. Where it fails, the threads started so far are in the lists.
+/// Starts a worker for each partition, with its shard and its queue. Where it fails, the threads started so far are in the lists.
 pub fn start_all<
     G: Gate + Send + Sync + Drop + 'static,
     S: Sink + Send + Sync + Drop + 'static,
@@ -103,38 +103,38 @@ pub fn start_all<
     collector: &Arc<Collector>,
     lists: &mut PartitionLists,
 ) -> Result<(), HubFault>
-    requires desks { vec_len lists.old.desks + config.now.parts ≤ vec_capacity lists.old.desks }
+    requires shards { vec_len lists.old.shards + config.now.parts ≤ vec_capacity lists.old.shards }
     requires queues { vec_len lists.old.queues + config.now.parts ≤ vec_capacity lists.old.queues }
     requires threads { vec_len lists.old.threads + config.now.parts ≤ vec_capacity lists.old.threads }
-    ensures started { OnOk result (length lists.new.desks.items ≡ length lists.old.desks.items + config.now.parts) }
-    ensures desks { OnOk result (lists.old.desks.items ≡ [] → AreDesksFrom config.now 0 lists.new.desks.items) }
+    ensures started { OnOk result (length lists.new.shards.items ≡ length lists.old.shards.items + config.now.parts) }
+    ensures shards { OnOk result (lists.old.shards.items ≡ [] → AreShardsFrom config.now 0 lists.new.shards.items) }
     ensures queues { OnOk result (lists.old.queues.items ≡ [] → All (λ queue. queue ≡ config.now.queue) lists.new.queues.items) }
     ensures rest { (lists.new.journals ≡ lists.old.journals) × (lists.new.counts ≡ lists.old.counts) }
 {
     for partition in 0..config.parts {
-        let desk = desk_of(alloc, config, collector, partition)?;
+        let shard = shard_of(alloc, config, collector, partition)?;
         let (queue, tasks) = job_queue(alloc, config.queue as usize)?;
-        let theirs = Arc::try_clone(&desk)?;
+        let theirs = Arc::try_clone(&shard)?;
         let thread = start_worker(rt, tasks, theirs, gate, sink)?;
-        lists.desks.push_reserved(desk);
+        lists.shards.push_reserved(shard);
         lists.queues.push_reserved(queue);
         lists.threads.push_reserved(thread);
     }
     Ok(())
 }
 
-/// The desk of a partition, whose book has no event yet. The one fault is that memory was refused.
-fn desk_of(
+/// The shard of a partition, whose book has no event yet. The one fault is that memory was refused.
+fn shard_of(
     alloc: Global,
     config: &Config,
     collector: &Arc<Collector>,
     partition: u32,
 ) -> Result<Arc<Shard>, HubFault>
-    ensures post { IfOk result (λ desk. IsPostOf config.now partition (arc_value desk).post) }
+    ensures config { IfOk result (λ shard. IsConfigOf config.now partition (arc_value shard).config) }
     ensures refused { IfErr result (λ fault. fault ≡ HubFault.OutOfMemory) }
 {
     let collector = Arc::try_clone(collector)?;
-    let post = ShardConfig {
+    let its = ShardConfig {
         partition,
         parts: config.parts,
         tenants: config.limits.len() as u32,
@@ -142,7 +142,7 @@ fn desk_of(
         epoch: config.epoch,
     };
     let book = Book::open(alloc, config.limits.as_slice())?;
-    share(alloc, Shard::new(post, collector, book))
+    share(alloc, Shard::new(its, collector, book))
 }
 
 /// Starts the worker of a partition.
@@ -153,14 +153,14 @@ fn start_worker<
 >(
     rt: &R,
     tasks: JobReceiver,
-    desk: Arc<Shard>,
+    shard: Arc<Shard>,
     gate: &Arc<G>,
     sink: &Arc<S>,
 ) -> Result<JoinHandle<()>, HubFault> {
     let handle = rt.clone()?;
     let gate = Arc::try_clone(gate)?;
     let sink = Arc::try_clone(sink)?;
-    match thread::spawn(rt, move || work(&handle, tasks, &desk, &*gate, &*sink)) {
+    match thread::spawn(rt, move || work(&handle, tasks, &shard, &*gate, &*sink)) {
         Ok(thread) => Ok(thread),
         Err(_) => Err(HubFault::Thread),
     }

@@ -39,21 +39,21 @@ pub struct Search {
 
 /// Cuts a tenant's journal, and answers its epoch, where it has at least so many events and can be cut now. It stays as it is
 /// where not.
-fn cut_long(guarded: &mut ShardState, tenant: u32, least: u32) -> Result<CutEpoch, Uncut>
-    requires { tenant < length guarded.old.book }
-    ensures cut { IfOk result (λ cut. IsCut guarded.old.book guarded.new.book tenant cut.epoch) }
-    ensures of_journal { IfOk result (λ cut. (cut.partition ≡ guarded.old.partition) × (cut.tenant ≡ tenant)) }
+fn cut_long(state: &mut ShardState, tenant: u32, least: u32) -> Result<CutEpoch, Uncut>
+    requires { tenant < length state.old.book }
+    ensures cut { IfOk result (λ cut. IsCut state.old.book state.new.book tenant cut.epoch) }
+    ensures of_journal { IfOk result (λ cut. (cut.partition ≡ state.old.partition) × (cut.tenant ≡ tenant)) }
     ensures long { IfOk result (λ cut. least ≤ length cut.epoch.events.items) }
-    ensures short { IsErrOf result Uncut.Short → length (events_at guarded.old.book tenant) < least }
-    ensures unchanged { OnErr result (guarded.new.book ≡ guarded.old.book) }
-    ensures partition { guarded.new.partition ≡ guarded.old.partition }
+    ensures short { IsErrOf result Uncut.Short → length (events_at state.old.book tenant) < least }
+    ensures unchanged { OnErr result (state.new.book ≡ state.old.book) }
+    ensures partition { state.new.partition ≡ state.old.partition }
 {
-    if guarded.book.events(tenant) < least as u64 {
+    if state.book.events(tenant) < least as u64 {
         return Err(Uncut::Short);
     }
-    match guarded.book.cut(tenant) {
+    match state.book.cut(tenant) {
         Ok(epoch) => Ok(CutEpoch {
-            partition: guarded.partition,
+            partition: state.partition,
             tenant,
             epoch,
         }),
@@ -62,16 +62,16 @@ fn cut_long(guarded: &mut ShardState, tenant: u32, least: u32) -> Result<CutEpoc
 }
 
 /// Cuts a tenant's journal, and answers its epoch, where it is full and can be cut now. It stays as it is where not.
-pub fn cut_full(guarded: &mut ShardState, tenant: u32, epoch: u32) -> Result<CutEpoch, Uncut>
-    ensures cut { IfOk result (λ cut. IsCut guarded.old.book guarded.new.book tenant cut.epoch) }
+pub fn cut_full(state: &mut ShardState, tenant: u32, epoch: u32) -> Result<CutEpoch, Uncut>
+    ensures cut { IfOk result (λ cut. IsCut state.old.book state.new.book tenant cut.epoch) }
     ensures full { IfOk result (λ cut. (0 < epoch) × (2 * epoch ≤ length cut.epoch.events.items)) }
-    ensures short { IsErrOf result Uncut.Short → 0 < epoch → length (events_at guarded.old.book tenant) < 2 * epoch }
-    ensures of_journal { IfOk result (λ cut. (cut.partition ≡ guarded.old.partition) × (cut.tenant ≡ tenant)) }
-    ensures unchanged { OnErr result (guarded.new.book ≡ guarded.old.book) }
-    ensures partition { guarded.new.partition ≡ guarded.old.partition }
+    ensures short { IsErrOf result Uncut.Short → 0 < epoch → length (events_at state.old.book tenant) < 2 * epoch }
+    ensures of_journal { IfOk result (λ cut. (cut.partition ≡ state.old.partition) × (cut.tenant ≡ tenant)) }
+    ensures unchanged { OnErr result (state.new.book ≡ state.old.book) }
+    ensures partition { state.new.partition ≡ state.old.partition }
 {
-    if is_full(&guarded.book, epoch, tenant) {
-        cut_long(guarded, tenant, epoch)
+    if is_full(&state.book, epoch, tenant) {
+        cut_long(state, tenant, epoch)
     } else {
         Err(Uncut::Short)
     }
@@ -91,21 +91,21 @@ impl Search {
 
     /// Cuts the first journal, from where the search stands, that has at least so many events and can be cut now, and answers its
     /// epoch. The search goes on behind it, or is over.
-    fn cut_next(&mut self, guarded: &mut ShardState, least: u32) -> Option<CutEpoch>
+    fn cut_next(&mut self, state: &mut ShardState, least: u32) -> Option<CutEpoch>
         requires { 0 < least }
-        ensures cut { IfSome result (λ cut. IsCut guarded.old.book guarded.new.book cut.tenant cut.epoch) }
-        ensures of_partition { IfSome result (λ cut. cut.partition ≡ guarded.old.partition) }
+        ensures cut { IfSome result (λ cut. IsCut state.old.book state.new.book cut.tenant cut.epoch) }
+        ensures of_partition { IfSome result (λ cut. cut.partition ≡ state.old.partition) }
         ensures long { IfSome result (λ cut. least ≤ length cut.epoch.events.items) }
         ensures later { IfSome result (λ cut. (self.old.from ≤ cut.tenant) × (self.new.from ≡ cut.tenant + 1)) }
         // A journal that it passed over is short, where all could be cut.
-        ensures passed { IfSome result (λ cut. self.new.is_refused ≡ false → AreFewer least guarded.old.book self.old.from cut.tenant) }
-        ensures none { IfNone result (self.new.is_refused ≡ false → AreFewer least guarded.old.book self.old.from (length guarded.old.book)) }
-        ensures unchanged { IfNone result (guarded.new.book ≡ guarded.old.book) }
+        ensures passed { IfSome result (λ cut. self.new.is_refused ≡ false → AreFewer least state.old.book self.old.from cut.tenant) }
+        ensures none { IfNone result (self.new.is_refused ≡ false → AreFewer least state.old.book self.old.from (length state.old.book)) }
+        ensures unchanged { IfNone result (state.new.book ≡ state.old.book) }
         ensures over { IfNone result (self.new.is_over ≡ true) }
         ensures going { IfSome result (λ _. self.new.is_over ≡ self.old.is_over) }
     {
-        for tenant in self.from..guarded.book.tenants() {
-            match cut_long(guarded, tenant, least) {
+        for tenant in self.from..state.book.tenants() {
+            match cut_long(state, tenant, least) {
                 Ok(cut) => {
                     self.from = tenant + 1;
                     return Some(cut);
@@ -133,13 +133,13 @@ pub fn hand_over<S: Sink>(sink: &S, cut: CutEpoch)
 
 /// Cuts each journal that has so many events, and hands its epoch to the sink once the lock is released. What could not be cut
 /// is tried again after the next task.
-pub fn cut_all<S: Sink, R: Wait>(rt: &R, desk: &Shard, sink: &S) -> Search
-    requires { 0 < desk.now.post.epoch }
+pub fn cut_all<S: Sink, R: Wait>(rt: &R, shard: &Shard, sink: &S) -> Search
+    requires { 0 < shard.now.config.epoch }
     ensures over { result.is_over ≡ true }
 {
     let mut search = Search::new();
     for _ in rt.forever() {
-        let found = search.cut_next(&mut *desk.lock(rt), desk.post.epoch);
+        let found = search.cut_next(&mut *shard.lock(rt), shard.config.epoch);
         match found {
             Some(cut) => hand_over(sink, cut),
             None => return search,

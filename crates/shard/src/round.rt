@@ -55,32 +55,32 @@ impl Round {
     /// for it. One whose journal is full is left out until it was cut.
     fn take_turn(
         &mut self,
-        guarded: &mut ShardState,
-        post: &ShardConfig,
+        state: &mut ShardState,
+        config: &ShardConfig,
         collector: &Collector,
         its: &TenantKeep,
     ) -> Result<(), Skipped>
         requires { its.now.tenant ≡ self.old.next }
         ensures next { self.new.next ≡ self.old.next + 1 }
-        ensures collected { OnOk result (IsCollected guarded.old.book guarded.new.book self.old.next its.now.keep) }
-        ensures full { IsErrOf result Skipped.Full → (0 < post.now.epoch) × (2 * post.now.epoch ≤ length (events_at guarded.old.book self.old.next)) }
-        ensures no_tenant { IsErrOf result (Skipped.Refused Fault.NoTenant) → length guarded.old.book ≤ self.old.next }
-        ensures unchanged { OnErr result ((guarded.new.book ≡ guarded.old.book) × (self.new.cuts ≡ self.old.cuts)) }
-        ensures cuts { OnOk result (IsTrue self.new.cuts ↔ (IsTrue self.old.cuts ⊎ IsLongAt post.now.epoch guarded.new.book self.old.next)) }
-        ensures short { AreShort post.now.epoch guarded.old.book → AreShort post.now.epoch guarded.new.book }
+        ensures collected { OnOk result (IsCollected state.old.book state.new.book self.old.next its.now.keep) }
+        ensures full { IsErrOf result Skipped.Full → (0 < config.now.epoch) × (2 * config.now.epoch ≤ length (events_at state.old.book self.old.next)) }
+        ensures no_tenant { IsErrOf result (Skipped.Refused Fault.NoTenant) → length state.old.book ≤ self.old.next }
+        ensures unchanged { OnErr result ((state.new.book ≡ state.old.book) × (self.new.cuts ≡ self.old.cuts)) }
+        ensures cuts { OnOk result (IsTrue self.new.cuts ↔ (IsTrue self.old.cuts ⊎ IsLongAt config.now.epoch state.new.book self.old.next)) }
+        ensures short { AreShort config.now.epoch state.old.book → AreShort config.now.epoch state.new.book }
     {
         self.next += 1;
         let tenant = its.tenant();
-        if is_full(&guarded.book, post.epoch, tenant) {
+        if is_full(&state.book, config.epoch, tenant) {
             return Err(Skipped::Full);
         }
         let Some(number) = collector.next_number() else {
             return Err(Skipped::Numbers);
         };
         let call = Call::Collect(its.keep());
-        match answer(&mut guarded.book, COLLECTOR, number, tenant, &call) {
+        match answer(&mut state.book, COLLECTOR, number, tenant, &call) {
             Ok(_) => {
-                self.cuts = self.cuts || is_long(&guarded.book, post.epoch, tenant);
+                self.cuts = self.cuts || is_long(&state.book, config.epoch, tenant);
                 Ok(())
             }
             Err(fault) => Err(Skipped::Refused(fault)),
@@ -89,15 +89,15 @@ impl Round {
 }
 
 /// Collects for each tenant in turn, one lock for each: it keeps as many versions as are set when its turn comes.
-pub fn collect_at<R: Wait>(rt: &R, desk: &Shard) -> Round
-    ensures each { result.next ≡ desk.now.post.tenants }
+pub fn collect_at<R: Wait>(rt: &R, shard: &Shard) -> Round
+    ensures each { result.next ≡ shard.now.config.tenants }
 {
     let mut round = Round::new();
-    for tenant in 0..desk.post.tenants {
-        let its = desk.collector.keep_of(rt, tenant);
-        let mut guard = desk.lock_soon(rt);
-        let guarded = &mut *guard;
-        let _ = round.take_turn(guarded, &desk.post, &desk.collector, &its);
+    for tenant in 0..shard.config.tenants {
+        let its = shard.collector.keep_of(rt, tenant);
+        let mut guard = shard.lock_soon(rt);
+        let state = &mut *guard;
+        let _ = round.take_turn(state, &shard.config, &shard.collector, &its);
     }
     round
 }

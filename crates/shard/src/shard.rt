@@ -72,13 +72,13 @@ pub struct FollowUp {
 /// One partition.
 #[derive(Drop)]
 pub struct Shard {
-    pub post: ShardConfig,
+    pub config: ShardConfig,
     pub collector: Arc<Collector>,
     /// What all threads only read lies before it.
     before_arrivals: Gap,
     arrivals: AtomicU64,
     behind_arrivals: Gap,
-    guarded: Mutex<ShardState>,
+    state: Mutex<ShardState>,
 }
 
 /// How far a staged call has come.
@@ -125,24 +125,24 @@ impl FollowUp {
 
 impl Shard {
     /// A partition with this book, whose journals are its own.
-    pub fn new(post: ShardConfig, collector: Arc<Collector>, book: Book) -> Shard
-        requires { ∥ AreOf post.parts post.partition book ∥₁ }
-        ensures { result.post ≡ post }
+    pub fn new(config: ShardConfig, collector: Arc<Collector>, book: Book) -> Shard
+        requires { ∥ AreOf config.parts config.partition book ∥₁ }
+        ensures { result.config ≡ config }
     {
-        let guarded = ShardState {
+        let state = ShardState {
             behind_lock: GAP,
             book,
-            partition: post.partition,
-            parts: post.parts,
+            partition: config.partition,
+            parts: config.parts,
             events: 0,
         };
         Shard {
-            post,
+            config,
             collector,
             before_arrivals: GAP,
             arrivals: AtomicU64::new(0),
             behind_arrivals: GAP,
-            guarded: Mutex::new(guarded),
+            state: Mutex::new(state),
         }
     }
 
@@ -156,12 +156,12 @@ impl Shard {
 
     /// Takes the lock where it is free.
     pub fn try_lock(&self) -> Option<MutexGuard<'_, ShardState>> {
-        self.guarded.try_lock()
+        self.state.try_lock()
     }
 
     /// Waits for the lock.
     pub fn lock<R: Wait>(&self, rt: &R) -> MutexGuard<'_, ShardState> {
-        self.guarded.lock(rt)
+        self.state.lock(rt)
     }
 
     /// Waits for the lock, and looks for a while before it sleeps: a partition is held for a microsecond or two, and a thread that
@@ -173,13 +173,13 @@ impl Shard {
             }
             thread::yield_now();
         }
-        self.guarded.lock(rt)
+        self.state.lock(rt)
     }
 
     /// Takes the lock where it gets free within so many looks.
     fn look(&self) -> Option<MutexGuard<'_, ShardState>> {
         for _ in 0..LOOKS {
-            if let Some(guard) = self.guarded.try_lock() {
+            if let Some(guard) = self.state.try_lock() {
                 return Some(guard);
             }
             for _ in 0..WAITS {
@@ -192,25 +192,25 @@ impl Shard {
     /// The book, which no thread has any more. None where it is not this partition's, or has not so many tenants: what lies
     /// behind a lock is known only by its type.
     pub fn into_book(self) -> Option<Book>
-        ensures journals { IfSome result (λ book. ∥ AreOf self.post.parts self.post.partition book ∥₁) }
-        ensures tenants { IfSome result (λ book. length book ≡ self.post.tenants) }
+        ensures journals { IfSome result (λ book. ∥ AreOf self.config.parts self.config.partition book ∥₁) }
+        ensures tenants { IfSome result (λ book. length book ≡ self.config.tenants) }
     {
         let Shard {
-            post,
+            config,
             collector: _,
             before_arrivals: _,
             arrivals: _,
             behind_arrivals: _,
-            guarded,
+            state,
         } = self;
         let ShardState {
             book,
             partition,
             parts,
             ..
-        } = guarded.into_inner();
-        let is_here = partition == post.partition && parts == post.parts;
-        if is_here && book.tenants() == post.tenants {
+        } = state.into_inner();
+        let is_here = partition == config.partition && parts == config.parts;
+        if is_here && book.tenants() == config.tenants {
             Some(book)
         } else {
             None
@@ -225,11 +225,11 @@ impl ShardState {
     /// is full is left to the worker.
     pub fn serve_round<G: Gate>(
         &mut self,
-        post: &ShardConfig,
+        config: &ShardConfig,
         gate: &G,
         calls: &mut VecDeque<Staged>,
     ) -> FollowUp
-        ensures short { AreShort post.now.epoch self.old.book → AreShort post.now.epoch self.new.book }
+        ensures short { AreShort config.now.epoch self.old.book → AreShort config.now.epoch self.new.book }
         ensures calls { deque_len calls.new ≡ deque_len calls.old }
         ensures room { deque_capacity calls.new ≡ deque_capacity calls.old }
         // Each asks what it asked.
@@ -238,16 +238,16 @@ impl ShardState {
         ensures all { All (λ staged. IsOpenAt self.old.partition self.old.parts staged → ⊥) calls.new.items }
         ensures partition { (self.new.partition ≡ self.old.partition) × (self.new.parts ≡ self.old.parts) }
     {
-        let mut due = FollowUp::nothing();
+        let mut follow_up = FollowUp::nothing();
         for at in 0..calls.len() {
             let Some(staged) = calls.get_mut(at) else {
                 break;
             };
             if self.is_home_of(&staged.call) && matches!(staged.stage, CallState::Pending) {
-                self.serve_staged(post, gate, staged, &mut due);
+                self.serve_staged(config, gate, staged, &mut follow_up);
             }
         }
-        due
+        follow_up
     }
 
     /// Whether this is the partition that the call is for.
@@ -260,33 +260,33 @@ impl ShardState {
     /// Serves a staged call that is for this partition, or leaves it to the worker where its journal is full.
     fn serve_staged<G: Gate>(
         &mut self,
-        post: &ShardConfig,
+        config: &ShardConfig,
         gate: &G,
         staged: &mut Staged,
-        due: &mut FollowUp,
+        follow_up: &mut FollowUp,
     )
         requires { (staged.old.call.partition ≡ self.old.partition) × (staged.old.call.parts ≡ self.old.parts) }
-        ensures short { AreShort post.now.epoch self.old.book → AreShort post.now.epoch self.new.book }
+        ensures short { AreShort config.now.epoch self.old.book → AreShort config.now.epoch self.new.book }
         ensures asked { asked_by staged.new ≡ asked_by staged.old }
-        ensures left { staged.new.stage ≡ CallState.Deferred → (0 < post.now.epoch) × (2 * post.now.epoch ≤ length (events_at self.old.book staged.old.call.tenant)) × (self.new.book ≡ self.old.book) }
+        ensures left { staged.new.stage ≡ CallState.Deferred → (0 < config.now.epoch) × (2 * config.now.epoch ≤ length (events_at self.old.book staged.old.call.tenant)) × (self.new.book ≡ self.old.book) }
         ensures served { staged.new.stage ≡ CallState.Pending → ⊥ }
         ensures partition { (self.new.partition ≡ self.old.partition) × (self.new.parts ≡ self.old.parts) }
     {
-        if is_full(&self.book, post.epoch, staged.call.tenant) {
+        if is_full(&self.book, config.epoch, staged.call.tenant) {
             staged.stage = CallState::Deferred;
             return;
         }
-        let outcome = self.serve(post, gate, &mut staged.call, due);
+        let outcome = self.serve(config, gate, &mut staged.call, follow_up);
         staged.stage = CallState::Served(outcome);
     }
 
     /// Serves a call that a worker was sent. One that is for another partition has no tenant here.
     pub fn serve_sent<G: Gate>(
         &mut self,
-        post: &ShardConfig,
+        config: &ShardConfig,
         gate: &G,
         call: &mut SeatCall,
-        due: &mut FollowUp,
+        follow_up: &mut FollowUp,
     ) -> Result<u64, Fault>
         ensures came { CameSo call.new.partition call.new.tenant call.new.seat call.new.number call.new.message.value result }
         ensures call { (call.new.partition ≡ call.old.partition) × (call.new.tenant ≡ call.old.tenant) × (call.new.seat ≡ call.old.seat) × (call.new.number ≡ call.old.number) }
@@ -295,24 +295,24 @@ impl ShardState {
         ensures no_tenant { call.old.partition ≡ self.old.partition → call.old.parts ≡ self.old.parts → (IsErrOf result Fault.NoTenant ↔ (length self.old.book ≤ call.old.tenant)) }
         ensures place { IfOk result (λ place. place ≡ before_at self.old.book call.old.tenant + length (events_at self.old.book call.old.tenant) + 1) }
         ensures late { call.old.partition ≡ self.old.partition → call.old.parts ≡ self.old.parts → call.old.tenant < length self.old.book → (IsErrOf result Fault.Late ↔ IsLate (events_at self.old.book call.old.tenant) call.old.seat call.old.number) }
-        ensures cuts { IfOk result (λ _. 0 < post.now.epoch → length (events_at self.new.book call.old.tenant) ≡ post.now.epoch → due.new.cuts ≡ true) }
+        ensures cuts { IfOk result (λ _. 0 < config.now.epoch → length (events_at self.new.book call.old.tenant) ≡ config.now.epoch → follow_up.new.cuts ≡ true) }
         ensures unchanged { OnErr result (self.new.book ≡ self.old.book) }
         ensures partition { (self.new.partition ≡ self.old.partition) × (self.new.parts ≡ self.old.parts) }
     {
         if !self.is_home_of(call) {
             return Err(Fault::NoTenant);
         }
-        self.serve(post, gate, call, due)
+        self.serve(config, gate, call, follow_up)
     }
 
     /// Serves a call that came to its partition, with the reply written into its message, and notes what is due then. Answers
     /// its event's place in the journal.
     fn serve<G: Gate>(
         &mut self,
-        post: &ShardConfig,
+        config: &ShardConfig,
         gate: &G,
         call: &mut SeatCall,
-        due: &mut FollowUp,
+        follow_up: &mut FollowUp,
     ) -> Result<u64, Fault>
         requires { (call.old.partition ≡ self.old.partition) × (call.old.parts ≡ self.old.parts) }
         ensures came { CameSo call.new.partition call.new.tenant call.new.seat call.new.number call.new.message.value result }
@@ -324,9 +324,9 @@ impl ShardState {
         ensures partition { (self.new.partition ≡ self.old.partition) × (self.new.parts ≡ self.old.parts) }
         ensures call { (call.new.partition ≡ call.old.partition) × (call.new.tenant ≡ call.old.tenant) × (call.new.seat ≡ call.old.seat) × (call.new.number ≡ call.old.number) }
         ensures asked { asked_of call.new ≡ asked_of call.old }
-        ensures cuts { IfOk result (λ _. 0 < post.now.epoch → length (events_at self.new.book call.old.tenant) ≡ post.now.epoch → due.new.cuts ≡ true) }
+        ensures cuts { IfOk result (λ _. 0 < config.now.epoch → length (events_at self.new.book call.old.tenant) ≡ config.now.epoch → follow_up.new.cuts ≡ true) }
         // where its journal was not full
-        ensures short { (0 < post.now.epoch → length (events_at self.old.book call.old.tenant) < 2 * post.now.epoch) → AreShort post.now.epoch self.old.book → AreShort post.now.epoch self.new.book }
+        ensures short { (0 < config.now.epoch → length (events_at self.old.book call.old.tenant) < 2 * config.now.epoch) → AreShort config.now.epoch self.old.book → AreShort config.now.epoch self.new.book }
     {
         gate.inside(self.partition, call.arrival);
         let place = serve_message(
@@ -339,25 +339,25 @@ impl ShardState {
             call.tenant,
             &mut call.message,
         )?;
-        self.count(post, due);
-        if is_long(&self.book, post.epoch, call.tenant) {
-            due.cuts = true;
+        self.count(config, follow_up);
+        if is_long(&self.book, config.epoch, call.tenant) {
+            follow_up.cuts = true;
         }
         Ok(place)
     }
 
     /// Counts an event of a seat.
-    fn count(&mut self, post: &ShardConfig, due: &mut FollowUp)
+    fn count(&mut self, config: &ShardConfig, follow_up: &mut FollowUp)
         ensures book { self.new.book ≡ self.old.book }
         ensures partition { (self.new.partition ≡ self.old.partition) × (self.new.parts ≡ self.old.parts) }
-        ensures cuts { due.new.cuts ≡ due.old.cuts }
-        ensures collects { due.new.collects ≡ (due.old.collects || nat_le post.now.every (min (self.old.events + 1) (2 ^ 32 - 1))) }
-        ensures events { self.new.events ≡ cond (nat_le post.now.every (min (self.old.events + 1) (2 ^ 32 - 1))) 0 (min (self.old.events + 1) (2 ^ 32 - 1)) }
+        ensures cuts { follow_up.new.cuts ≡ follow_up.old.cuts }
+        ensures collects { follow_up.new.collects ≡ (follow_up.old.collects || nat_le config.now.every (min (self.old.events + 1) (2 ^ 32 - 1))) }
+        ensures events { self.new.events ≡ cond (nat_le config.now.every (min (self.old.events + 1) (2 ^ 32 - 1))) 0 (min (self.old.events + 1) (2 ^ 32 - 1)) }
     {
         self.events = self.events.saturating_add(1);
-        if self.events >= post.every {
+        if self.events >= config.every {
             self.events = 0;
-            due.collects = true;
+            follow_up.collects = true;
         }
     }
 }

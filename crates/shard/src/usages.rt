@@ -51,7 +51,7 @@ impl Shard {
     {
         // Memory is asked for before the lock.
         usages.clear();
-        usages.reserve(self.post.tenants as usize)?;
+        usages.reserve(self.config.tenants as usize)?;
         self.lock_soon(rt).put_usages_at(parts, partition, usages)
     }
 }

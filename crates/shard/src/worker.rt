@@ -46,7 +46,7 @@ fn send_again<R: Wait>(rt: &R, to: &Sender<SeatReply>, reply: SeatReply) {
 pub fn work<G: Gate, S: Sink, R: Wait>(
     rt: &R,
     mut tasks: JobReceiver,
-    desk: &Shard,
+    shard: &Shard,
     gate: &G,
     sink: &S,
 ) {
@@ -55,31 +55,31 @@ pub fn work<G: Gate, S: Sink, R: Wait>(
             break;
         };
         if let Task::Serve(job) = task {
-            serve_job(rt, desk, gate, sink, job);
+            serve_job(rt, shard, gate, sink, job);
         }
-        if desk.post.epoch > 0 {
-            let _ = cut_all(rt, desk, sink);
+        if shard.config.epoch > 0 {
+            let _ = cut_all(rt, shard, sink);
         }
     }
 }
 
 /// Serves a job and sends the reply. A journal that is full is cut first, under the same lock, and its epoch goes to the sink
 /// after the reply.
-fn serve_job<G: Gate, S: Sink, R: Wait>(rt: &R, desk: &Shard, gate: &G, sink: &S, job: Job) {
+fn serve_job<G: Gate, S: Sink, R: Wait>(rt: &R, shard: &Shard, gate: &G, sink: &S, job: Job) {
     let Job { mut call, reply_to } = job;
-    let mut due = FollowUp::nothing();
+    let mut follow_up = FollowUp::nothing();
     let tenant = call.tenant;
-    let mut guard = desk.lock(rt);
-    let guarded = &mut *guard;
-    let cut = cut_full(guarded, tenant, desk.post.epoch);
-    let outcome = guarded.serve_sent(&desk.post, gate, &mut call, &mut due);
+    let mut guard = shard.lock(rt);
+    let state = &mut *guard;
+    let cut = cut_full(state, tenant, shard.config.epoch);
+    let outcome = state.serve_sent(&shard.config, gate, &mut call, &mut follow_up);
     drop(guard);
     send_reply(rt, &reply_to, replied(call, outcome));
     if let Ok(cut) = cut {
         hand_over(sink, cut);
     }
-    if due.collects {
-        let _ = collect_at(rt, desk);
+    if follow_up.collects {
+        let _ = collect_at(rt, shard);
     }
 }
 

@@ -2,8 +2,8 @@
 #![tactic(auto)]
 
 #[cfg(test)]
-mod desk_tests;
-#[cfg(test)]
 mod hub_tests;
 #[cfg(test)]
 mod settle_tests;
+#[cfg(test)]
+mod shard_tests;

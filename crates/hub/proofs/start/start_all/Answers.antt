@@ -5,14 +5,14 @@ use Rattle.std.specs.Arc.{arc_value}
 use Rattle.std.specs.declared.sync.Arc.{Arc}
 use Rattle.std.specs.declared.alloc.Global.{Global}
 use Rattle.shard.specs.declared.shard.Shard.{Shard}
-use Rattle.hub.specs.Desks.{IsPostOf, AreDesksFrom}
-use Rattle.hub.proofs.Started.{desks-more}
+use Rattle.hub.specs.Shards.{IsConfigOf, AreShardsFrom}
+use Rattle.hub.proofs.Started.{shards-more}
 use Rattle.hub.proofs.start.start_all.Goals as goal
 
 -- there is none yet
 pub loop-partition-init : goal.loop-partition-init
 loop-partition-init g c = record {
-  desks = omega arith;
+  shards = omega arith;
   queues = omega arith;
   started = omega arith;
   threads = omega arith;
@@ -20,7 +20,7 @@ loop-partition-init g c = record {
   counts = refl;
   of_room = λ none. subst (All (λ (queue : ℕ). queue ≡ c.args.config.now.queue)) (sym none) (All-nil (λ (queue : ℕ). queue ≡ c.args.config.now.queue));
   of_config = λ none.
-      let P : List (Arc Shard Global) → Type 0 = λ desks. AreDesksFrom c.args.config.now 0 desks in
+      let P : List (Arc Shard Global) → Type 0 = λ shards. AreShardsFrom c.args.config.now 0 shards in
       subst P (sym none) tt;
 }
 
@@ -28,11 +28,11 @@ loop-partition-init g c = record {
 pub loop-partition-preserved : goal.loop-partition-preserved
 loop-partition-preserved g c =
     let so_far = c.loop-partition.invariant in
-    let desks = c.loop-partition.lists.desks.items in
+    let shards = c.loop-partition.lists.shards.items in
     let config = c.args.config.now in
-    let long = ap length c.push_reserved.ensures.items ∙ length-append desks (c.in_ok-desk.desk ∷ []) in
+    let long = ap length c.push_reserved.ensures.items ∙ length-append shards (c.in_ok-shard.shard ∷ []) in
     record {
-      desks = omega (arith, c.push_reserved.ensures.len, c.push_reserved.ensures.capacity, so_far.desks);
+      shards = omega (arith, c.push_reserved.ensures.len, c.push_reserved.ensures.capacity, so_far.shards);
       queues = omega (arith, c.push_reserved-in-loop-partition.ensures.len, c.push_reserved-in-loop-partition.ensures.capacity, so_far.queues);
       started = omega (arith, long, so_far.started);
       threads = omega (arith, c.push_reserved-in-loop-partition-2.ensures.len, c.push_reserved-in-loop-partition-2.ensures.capacity, so_far.threads);
@@ -42,8 +42,8 @@ loop-partition-preserved g c =
           let P : ℕ → Type 0 = λ queue. queue ≡ config.queue in
           subst (All P) (sym c.push_reserved-in-loop-partition.ensures.items) (All-append P _ _ (so_far.of_room none) (All-cons P _ [] c.in_ok-queue.ensures.0 (All-nil P)));
       of_config = λ none.
-          let P : List (Arc Shard Global) → Type 0 = λ ds. AreDesksFrom config 0 ds in
-          let Q : ℕ → Type 0 = λ n. IsPostOf config n (arc_value c.in_ok-desk.desk).post in
-          let count : c.loop-partition.partition ≡ 0 + length desks = omega (arith, so_far.started, ap length none) in
-          subst P (sym c.push_reserved.ensures.items) (desks-more config 0 desks c.in_ok-desk.desk (so_far.of_config none) (subst Q count c.in_ok-desk.ensures.post));
+          let P : List (Arc Shard Global) → Type 0 = λ ds. AreShardsFrom config 0 ds in
+          let Q : ℕ → Type 0 = λ n. IsConfigOf config n (arc_value c.in_ok-shard.shard).config in
+          let count : c.loop-partition.partition ≡ 0 + length shards = omega (arith, so_far.started, ap length none) in
+          subst P (sym c.push_reserved.ensures.items) (shards-more config 0 shards c.in_ok-shard.shard (so_far.of_config none) (subst Q count c.in_ok-shard.ensures.config));
     }

@@ -1,17 +1,17 @@
 use Rattle.std.proofs.Common.{◌≡◌, ◌≤◌, ◌+◌, [], length, vec_len, vec_capacity}
 use Rattle.std.specs.Prelude.{All}
-use Rattle.hub.specs.Desks.{AreDesksFrom}
+use Rattle.hub.specs.Shards.{AreShardsFrom}
 use Rattle.hub.proofs.start.start_all.Given as goal
 
--- there is room for each partition that is still to start, and the desks so far are those of the first ones
+-- there is room for each partition that is still to start, and the shards so far are those of the first ones
 abbrev pub invariant-loop-partition : goal.invariant-loop-partition
 invariant-loop-partition g l = record {
-  desks : vec_len l.lists.desks + l.config.parts ≤ vec_capacity l.lists.desks + l.partition;
+  shards : vec_len l.lists.shards + l.config.parts ≤ vec_capacity l.lists.shards + l.partition;
   queues : vec_len l.lists.queues + l.config.parts ≤ vec_capacity l.lists.queues + l.partition;
-  started : length l.lists.desks.items ≡ length l.fn.lists.desks.items + l.partition;
+  started : length l.lists.shards.items ≡ length l.fn.lists.shards.items + l.partition;
   threads : vec_len l.lists.threads + l.config.parts ≤ vec_capacity l.lists.threads + l.partition;
   journals : l.lists.journals ≡ l.fn.lists.journals;
   counts : l.lists.counts ≡ l.fn.lists.counts;
   of_room : l.fn.lists.queues.items ≡ [] → All (λ queue. queue ≡ l.config.queue) l.lists.queues.items;
-  of_config : l.fn.lists.desks.items ≡ [] → AreDesksFrom l.config 0 l.lists.desks.items;
+  of_config : l.fn.lists.shards.items ≡ [] → AreShardsFrom l.config 0 l.lists.shards.items;
 }

@@ -9,13 +9,13 @@ returns-in-Ok-clause-long c =
     let events = cut_events _ _ _ _ c.requires c.in-Ok.ensures.cut in
     omega (arith, ap length events, c.events.ensures)
 
-pub invariant_of-guarded : goal.invariant_of-guarded
-invariant_of-guarded c =
-    let guarded = c.args.guarded.now in
-    record { journals = cut-or-not guarded.parts guarded.partition guarded.book c.cut.new.self c.args.tenant c.cut.result c.requires c.cut.ensures.cut c.cut.ensures.unchanged guarded.journals }
+pub invariant_of-state : goal.invariant_of-state
+invariant_of-state c =
+    let state = c.args.state.now in
+    record { journals = cut-or-not state.parts state.partition state.book c.cut.new.self c.args.tenant c.cut.result c.requires c.cut.ensures.cut c.cut.ensures.unchanged state.journals }
 
 -- the epoch is that of this tenant's journal here
 pub invariant_of-result : goal.invariant_of-result
 invariant_of-result c =
-    let guarded = c.args.guarded.now in
-    record { was_cut = epoch-of guarded.parts guarded.partition guarded.book c.cut.new.self c.args.tenant c.in-Ok.epoch c.requires c.in-Ok.ensures.cut guarded.journals }
+    let state = c.args.state.now in
+    record { was_cut = epoch-of state.parts state.partition state.book c.cut.new.self c.args.tenant c.in-Ok.epoch c.requires c.in-Ok.ensures.cut state.journals }

@@ -34,14 +34,14 @@ into_inner_spec 𝓤 𝓛 𝓜 𝓡 wired T L =
     let fn = inst_fn (layouts (a_type ∷ []) (T, tt)) code.function in let 𝓣 = tables 𝓤 𝓛.H 𝓜 𝓡 𝓡.env in
     proved_at 𝓛 E stays c 𝓜 𝓡 (Goes-dropped 𝓛 1 (plain (λ _. sealed.the_row P)) no (λ κs x w. refl), tt)
     (name (layouts (a_type ∷ []) (T, tt))) fn (code.unfolded 𝓤 𝓛.H 𝓜 𝓡 wired (T, tt)) (λ y are.
-    let vs = y.0.4.0 in let ShardConfig = (walk_of 𝓛 E stays c).post y in
+    let vs = y.0.4.0 in let Post = (walk_of 𝓛 E stays c).post y in
     qed 𝓛 ((raw (alive 𝓛 E.signature y.0.0 y.0.1) ⊛ ‵ (owns (types_at E.signature.params y.0.0) y.0.3 y.0.4)) ∷ raw ((c y.0.0 y.0.3).requires y.1) ∷ []) ∵
     split ! $ move ! (1 ∷ []) $ fsplit ! $ keep ! (0 ∷ 2 ∷ []) $
     fsplit ! $ drop ! $ fpick ! (λ i. fpick ! (λ vss. fsplit ! $ feq_l ! (λ shape. fsplit ! $ move ! (1 ∷ []) $ drop ! $
     peeks ! P _ (shows 𝓛 P) i.value vss.0 (λ is.
     let got = single (layout P) vss.0 (((param_laws 0 T L).lawful 𝓛).typed i.value vss.0 is) in let v = got.0 in let good = got.2 in
     rewrite ! 0 (λ (us : List Val). ‵ (P.own_val i.value us)) got.1 refl $
-    regoal ! (λ (us : List Val). prop (WpFn 𝓤 𝓛.H 𝓣.C 𝓣.Λ fn (us ++ []) ShardConfig)) (shape ∙ ap (λ (us : List Val). vstruct (of_list (us ++ [])) ∷ []) got.1) refl $
+    regoal ! (λ (us : List Val). prop (WpFn 𝓤 𝓛.H 𝓣.C 𝓣.Λ fn (us ++ []) Post)) (shape ∙ ap (λ (us : List Val). vstruct (of_list (us ++ [])) ∷ []) got.1) refl $
     enter ! _ _ _ (wrapped v ∷ []) _ $ alloc_all ! (λ l. pass_all ! refl (as_fields (layout P ∷ []) (v ∷ []) (good, tt), tt) $
     sets ! (of_opd ! (get_in ! (fld ! refl (stop !)) (sub ! 0 refl (whole !)))) refl good $
     sets ! (of_opd ! (get ! refl)) refl good $

@@ -10,10 +10,10 @@ returns-after-self-clause-short c = answered-short _ _ _ _ c.answer.result _ c.a
     (c.is_full.ensures.short c.if-is_full.false)
 
 -- the call of a collection has its home everywhere
-pub invariant_of-guarded : goal.invariant_of-guarded
-invariant_of-guarded c =
-    let guarded = c.args.guarded.now in
+pub invariant_of-state : goal.invariant_of-state
+invariant_of-state c =
+    let state = c.args.state.now in
     record {
-      journals = ∥∥₁_map guarded.journals (λ of. answered-of guarded.parts guarded.partition _ _ _ guarded.book c.answer.new.book _ c.answer.result
+      journals = ∥∥₁_map state.journals (λ of. answered-of state.parts state.partition _ _ _ state.book c.answer.new.book _ c.answer.result
           c.answer.ensures.no_tenant c.answer.ensures.late c.answer.ensures.entered c.answer.ensures.reply c.answer.ensures.unchanged refl of);
     }

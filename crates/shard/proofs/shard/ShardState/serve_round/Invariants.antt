@@ -9,7 +9,7 @@ use Rattle.shard.proofs.shard.ShardState.serve_round.Given as goal
 -- left where they are for this partition.
 abbrev pub invariant-loop-at : goal.invariant-loop-at
 invariant-loop-at g l =
-    (AreShort l.post.epoch l.fn.self.book → AreShort l.post.epoch l.self.book)
+    (AreShort l.config.epoch l.fn.self.book → AreShort l.config.epoch l.self.book)
     × (deque_len l.calls ≡ deque_len l.fn.calls)
     × (deque_capacity l.calls ≡ deque_capacity l.fn.calls)
     × (map asked_by l.calls.items ≡ map asked_by l.fn.calls.items)

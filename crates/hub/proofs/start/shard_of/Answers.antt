@@ -1,16 +1,16 @@
 use Rattle.std.proofs.Common.{sym, subst, refl}
 use Rattle.shard.proofs.Journals.{new-of}
 use Rattle.shard.specs.declared.shard.ShardConfig.{ShardConfig}
-use Rattle.hub.specs.Desks.{IsPostOf}
-use Rattle.hub.proofs.Started.{shared-post}
-use Rattle.hub.proofs.start.desk_of.Goals as goal
+use Rattle.hub.specs.Shards.{IsConfigOf}
+use Rattle.hub.proofs.Started.{shared-config}
+use Rattle.hub.proofs.start.shard_of.Goals as goal
 
 -- a book without events has the journals of any partition
 pub new-requires : goal.new-requires
 new-requires c = new-of _ _ _ _ c.in_ok-book.ensures
 
-pub returns-clause-post : goal.returns-clause-post
-returns-clause-post c =
-    let P : ShardConfig → Type 0 = λ post. IsPostOf c.args.config.now c.args.partition post in
-    shared-post c.args.config.now c.args.partition c.new.result c.share.result c.share.ensures.shared
+pub returns-clause-config : goal.returns-clause-config
+returns-clause-config c =
+    let P : ShardConfig → Type 0 = λ its. IsConfigOf c.args.config.now c.args.partition its in
+    shared-config c.args.config.now c.args.partition c.new.result c.share.result c.share.ensures.shared
     (subst P (sym c.new.ensures) (record { partition = refl; parts = refl; tenants = c.len.ensures; every = refl; epoch = refl }))

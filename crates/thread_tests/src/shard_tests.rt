@@ -3,7 +3,8 @@ use crossbeam_channel::{Receiver, unbounded};
 use partition::{Book, Epoch};
 use plain_store::{Call, Message};
 use shard::{
-    Collector, Desk, Gate, Job, Keeps, Post, SeatCall, SeatReply, Sink, Task, job_queue, work,
+    Collector, Gate, Job, KeepSettings, SeatCall, SeatReply, Shard, ShardConfig, Sink, Task,
+    job_queue, work,
 };
 use stamps::{Client, Keep, Limits, Stamp};
 use std::alloc::Global;
@@ -20,7 +21,7 @@ struct Found {
 /// Tries the lock of this partition: it is to be held where a call is served, and free where an epoch is handed over.
 #[derive(Drop)]
 struct Trier {
-    desk: Arc<Desk>,
+    shard: Arc<Shard>,
     found: Arc<Found>,
 }
 
@@ -39,32 +40,32 @@ impl Gate for Trier {
     fn pass(&self, _partition: u32, _nth: u64) {}
 
     fn inside(&self, _partition: u32, _nth: u64) {
-        self.note(self.desk.try_lock().is_none());
+        self.note(self.shard.try_lock().is_none());
     }
 }
 
 impl Sink for Trier {
     fn epoch(&self, _partition: u32, _tenant: u32, _epoch: Epoch) {
-        self.note(self.desk.try_lock().is_some());
+        self.note(self.shard.try_lock().is_some());
     }
 }
 
 /// The one partition of a store of one tenant, whose journal is cut at each event.
-fn desk(alloc: Global) -> Option<Arc<Desk>> {
+fn shard(alloc: Global) -> Option<Arc<Shard>> {
     let limits = [Limits::new(16, 16, Keep::new(1)?, 4)?];
-    let keeps = Keeps::of(alloc, &limits).ok()?;
+    let keeps = KeepSettings::of(alloc, &limits).ok()?;
     let collector = Arc::new(alloc, Collector::new(keeps)).ok()?;
     let Ok(book) = Book::open(alloc, &limits) else {
         return None;
     };
-    let post = Post {
+    let config = ShardConfig {
         partition: 0,
         parts: 1,
         tenants: 1,
         every: 1000,
         epoch: 1,
     };
-    Arc::new(alloc, Desk::new(post, collector, book)).ok()
+    Arc::new(alloc, Shard::new(config, collector, book)).ok()
 }
 
 /// A job of this number, which names no key.
@@ -91,14 +92,14 @@ fn job(alloc: Global, number: u64) -> Option<(Job, Receiver<SeatReply>)> {
 
 /// How often the lock was found right and wrong by three jobs that a queue of three holds, and how many of them were answered.
 fn serve_three<R: Wait>(rt: &R, alloc: Global) -> Option<[u64; 3]> {
-    let desk = desk(alloc)?;
+    let shard = shard(alloc)?;
     let counts = Found {
         right: AtomicU64::new(0),
         wrong: AtomicU64::new(0),
     };
     let found = Arc::new(alloc, counts).ok()?;
     let trier = Trier {
-        desk: Arc::try_clone(&desk).ok()?,
+        shard: Arc::try_clone(&shard).ok()?,
         found: Arc::try_clone(&found).ok()?,
     };
     let (mut sender, receiver) = job_queue(alloc, 3).ok()?;
@@ -109,7 +110,7 @@ fn serve_three<R: Wait>(rt: &R, alloc: Global) -> Option<[u64; 3]> {
         answered.push(replies).ok()?;
     }
     drop(sender);
-    work(rt, receiver, &desk, &trier, &trier);
+    work(rt, receiver, &shard, &trier, &trier);
     let mut count = 0u64;
     for replies in answered {
         if let Ok(reply) = replies.recv(rt)
