@@ -1,12 +1,12 @@
 //! Lists of partitions.
 ghost use Rattle.std.specs.Prelude.{◌≡◌, ◌<◌, ◌++◌, [], ◌∷◌, length};
-ghost use Rattle.stamps.specs.Limits.{max_parts};
+ghost use Rattle.stamps.specs.Limits.{max_keys};
 
 use lists::SmallList;
 use stamps::limits;
 use std::marker::Model;
 
-/// Partitions in ascending order, each once: up to 64. A byte holds the number of each, so that a list of them is small.
+/// Partitions in ascending order, each once: those of one write, up to 16. A byte holds the number of each, so that a list of them is small.
 #[derive(Drop)]
 pub struct Partitions(SmallList<u8, { Partitions::MAX_LEN }>);
 
@@ -19,8 +19,8 @@ impl Model for Partitions {
 }
 
 impl Partitions {
-    /// The most partitions of a store.
-    pub const MAX_LEN: usize = limits::MAX_PARTS as usize;
+    /// The most partitions of a write, which has no more items.
+    pub const MAX_LEN: usize = limits::MAX_KEYS;
 
     /// No partition.
     pub fn none() -> Partitions
@@ -30,7 +30,7 @@ impl Partitions {
     }
 
     pub(crate) fn push(&mut self, partition: u8)
-        requires { length self.old < max_parts }
+        requires { length self.old < max_keys }
         ensures { self.new ≡ self.old ++ partition ∷ [] }
     {
         self.0.push(partition);

@@ -110,9 +110,18 @@ impl WriteProgress {
     }
 
     fn as_slice(&self) -> &[ItemProgress]
-        ensures { result.now ≡ self.now }
+        ensures places { result.now ≡ self.now }
+        ensures few { length result.now ≤ max_keys }
     {
         self.0.as_slice()
+    }
+
+    /// How many they are.
+    pub(crate) fn len(&self) -> usize
+        ensures count { result ≡ length self.now }
+        ensures few { length self.now ≤ max_keys }
+    {
+        self.as_slice().len()
     }
 
     /// Whether an item of this key waits for its Prepared.
