@@ -65,7 +65,7 @@ fn reply_of(text: &str) -> Option<Reply> {
     }
 }
 
-/// Whether the call goes to the partition and asks for what is said so.
+/// Whether the call goes to the partition and asks for what is written here.
 fn is_call(call: &Message, wanted: &str) -> bool {
     let (place, line) = wanted.split_once(' ').unwrap_or((wanted, ""));
     match read_cell_line(line.as_bytes()) {

@@ -89,7 +89,7 @@ impl ProgramFault {
         }
     }
 
-    /// Writes the one line that reports of the fault, as `ramp: Options`, and gives the exit status. A
+    /// Writes the one line that reports the fault, as `ramp: Options`, and gives the exit status. A
     /// write that fails changes nothing.
     pub fn report<E: Write>(self, errors: &mut E) -> u8
         ensures { result ≡ status_of self }

@@ -360,7 +360,7 @@ fn answer_next<'s, G: Gate, H: Wait, W: Write>(
         (terminated line.now) [] (W.contents writer.old) (W.contents writer.new) out.old.items out.new.items) }
     ensures broke { IfErr result (λ _. IsLine line.now → BreaksOffIn connection.old.terms.options hub.now connection.old.terms.names.now connection.old.seat connection.new.seat
         (terminated line.now) (W.contents writer.old) (W.contents writer.new) out.old.items) }
-    // An allocation failure that its seat told does not leave it going on.
+    // A session whose seat answered that an allocation failed does not go on.
     ensures goes_on { IfOk result (λ ending. ending ≡ None → IsSome connection.new.seat → connection.new.answer ≡ Refused OutOfMemory → ⊥) }
 {
     if let Some(ending) = connection.answer(rt, hub, line) {

@@ -15,7 +15,7 @@ pub trait Accept {
     fn close(&self);
 }
 
-/// A listener at a port of 127.0.0.1: the system reports of no other address of it.
+/// A listener at a port of 127.0.0.1: the system reports no other address for it.
 #[derive(Drop)]
 pub struct Listener {
     listener: TcpListener,
@@ -39,7 +39,7 @@ fn is_home(address: &SocketAddr) -> bool
 impl Listener {
     ghost use Rattle.sessions.specs.Ports.{IsPortFor, port_of};
 
-    /// Listens at this port of 127.0.0.1, or, where it is 0, at one that is free. Where the system reports of another address or
+    /// Listens at this port of 127.0.0.1, or, where it is 0, at one that is free. Where the system reports another address or
     /// port, it fails with `AddrNotAvailable`, and nothing listens.
     pub fn bind<H: Net<Listener = TcpListener, Stream = TcpStream>>(
         rt: &H,

@@ -1,4 +1,4 @@
-//! Plays the rows that lie in `data/`, and compares what comes of each with what it says. A file reports at its top how its rows
+//! Plays the rows that lie in `data/`, and compares what comes of each with what it says. A file says at its top how its rows
 //! are spelled, and so does docs/CHANGING.md.
 #![tactic(auto)]
 

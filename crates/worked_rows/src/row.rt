@@ -21,7 +21,7 @@ pub struct Row<'t> {
     pub words: Vec<&'t str>,
     /// The exit status.
     pub status: u8,
-    /// The line that reports of the fault, empty where there is none.
+    /// The line that reports the fault, empty where there is none.
     pub error: &'t str,
     /// What the output has to hold. Where there is something, the output is not compared otherwise.
     pub held: Vec<Vec<u8>>,

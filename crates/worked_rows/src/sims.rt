@@ -113,8 +113,8 @@ fn is_right_slowly(
     words::is_answered(rt, row, "by the slow evaluator", &answers.text)
 }
 
-/// The steps of the row, and of each line why it is none. A step of `v`, which is no tenant's name, is left to the slow
-/// evaluator to refuse.
+/// The steps of the row, and of each line why it is none. A step of `v`, which is no tenant's name, is left to the
+/// reference interpreter to refuse.
 fn steps_of(
     alloc: Global,
     row: &Row<'_>,

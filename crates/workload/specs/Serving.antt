@@ -1,4 +1,4 @@
--- What a server reports of itself, and what one did that the words ask for.
+-- What a server reports about itself, and what one did that the words ask for.
 use Rattle.std.specs.Prelude.{◌≡◌, ◌⊎◌, ℕ, ◌<◌, ◌^◌, ◌++◌, length, List, Option, Result, Ok, Err}
 use Rattle.std.specs.Prelude.{codes, decimal, if◌then◌else◌, map, nat_lt, take}
 use Rattle.std.specs.Io.KnownBytes.{Appends, Keeps}
@@ -73,8 +73,8 @@ IsFaultBefore (Err Options) = ⊥
 IsFaultBefore (Err OutOfMemory) = Unit {0}
 IsFaultBefore (Err Device) = Unit {0}
 
--- Of two faults the greater is reported, which is the one of the lower status: answers that were not right come before want
--- of memory, and that before a device.
+-- Of two faults the greater is reported, which is the one of the lower status: answers that were not right come before an
+-- allocation failure, and that before a device.
 abbrev pub greater_fault : Result (Unit {0}) ProgramFault → Result (Unit {0}) ProgramFault
     → Result (Unit {0}) ProgramFault
 greater_fault (Ok done) told = told

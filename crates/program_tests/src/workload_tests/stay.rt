@@ -353,7 +353,7 @@ fn the_program_serves_as_its_words_ask(rt: HostRuntime) {
             0,
             "",
         ),
-        // Nobody is answered that a line is cut which the server's own end cut.
+        // A line that the server's own end cuts is not answered as a cut line.
         (
             "ramp serve --stay t",
             HALF,

@@ -1,4 +1,4 @@
-//! What stands where an allocation failed, whichever it was. `./refuse-memory` refuses each in turn; in a plain run none is.
+//! What stands where an allocation failed, whichever it was. `tools/refuse-memory` has each fail; in a plain run none does.
 use super::asking::{config, opened, seated, two_items};
 use super::epochs::{journal, write_four};
 use hub::{Config, Gate, Hub, HubFault, Seat, Sink, Transcript};
