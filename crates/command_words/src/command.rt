@@ -25,7 +25,7 @@ const EXAMPLES: &str = "Examples:
 
 The forms of the lines: ramp cell --help, ramp sim --help, ramp serve --help, ramp load --help";
 
-const CELL_ABOUT: &str = "Answers the lines that ask one cell, until the input ends";
+const CELL_ABOUT: &str = "Answers the calls of one cell, a line each, until the input ends";
 
 const CELL_LINES: &str = "Lines:
   prepare KEY@STAMP=VALUE KEYS      keep a version; with a tag KEY@STAMP#TAG=VALUE
@@ -33,17 +33,17 @@ const CELL_LINES: &str = "Lines:
   get KEY                           the latest committed version
   get KEY STAMP                     the version of this stamp, committed or not
   found TAG                         the items that stand under the tag
-  collect K                         give up what is below the K-th latest committed version
-  discard STAMP                     give up what is not committed of this stamp, and refuse it
+  collect K                         drop versions below the K-th latest committed one of each item
+  discard STAMP                     drop this stamp's uncommitted versions, and refuse it from then on
 
 KEY is 1 to 32 bytes of a-z 0-9 _ . / -, TAG 1 to 16 of these, and VALUE up to 128 bytes
 that are no space. STAMP is COUNTER.CLIENT, as 2.1. KEYS are the keys that the transaction
-writes, in byte order, parted by commas; KEY is one of them. K is 1 to 255.
+writes, in byte order, separated by commas; KEY is one of them. K is 1 to 255.
 
 Example, in which client 1 writes a key that is then read:
   printf 'prepare x@1.1=a x\\ncommit 1.1\\nget x\\n' | ramp cell --slots 16 --items 4";
 
-const SIM_ABOUT: &str = "Answers the lines of steps of tenants, until the input ends";
+const SIM_ABOUT: &str = "Answers the steps of a store's tenants, a line each, until the input ends";
 
 const SIM_LINES: &str = "Lines:
   TENANT hello CLIENT               open the client's session; hello CLIENT BASE sets its counter
@@ -52,14 +52,14 @@ const SIM_LINES: &str = "Lines:
   TENANT find CLIENT TAG            begin a search
   TENANT deliver ROW                deliver the message of this row
   TENANT lose ROW                   lose it: it can be delivered no more
-  TENANT retry CLIENT               send again the calls that no reply was taken of
+  TENANT retry CLIENT               send each call again that no reply was taken to
   TENANT stop CLIENT                close the session, and end its transaction
-  TENANT collect PART               give up old versions at this partition
+  TENANT collect PART               drop old versions at this partition
   TENANT keep K                     from now on a collection keeps K committed versions of an item
 
 CLIENT is 1 to 65535, and PART counts from 0. KEY is 1 to 32 bytes of a-z 0-9 _ . / -,
-TAG 1 to 16 of these, and VALUE up to 128 bytes that are no space. What a step sends
-are messages, which its answer tells by their rows.
+TAG 1 to 16 of these, and VALUE up to 128 bytes that are no space. The answer to
+a step names the messages that it sends by their rows.
 
 Example, in which client 1 of tenant t reads a key that no one wrote:
   printf 't hello 1\\nt get 1 x\\nt deliver 1\\nt deliver 2\\n' | ramp sim --parts 2 t";
@@ -90,13 +90,14 @@ or, until Ctrl-D is typed:
   ramp serve --port 7000 --sessions 100 --stay --epoch 1000 t";
 
 const LOAD_ABOUT: &str =
-    "Has seats of each tenant put, get and search as they draw it, and settles what they were told";
+    "Runs a seeded random workload with several clients per tenant, then verifies the answers";
 
 const LOAD_LINES: &str = "Lines that are printed, first the one for each tenant, and then the other:
-  load TENANT puts N gets N finds N   so many operations its seats began
+  load TENANT puts N gets N finds N   how many operations its seats began
   settled TENANT yes                  its answers were those of one list of its steps, or
   settled TENANT no                   no such list was found, and the status is 1
-With --epoch what is settled is joined of all epochs; where they do not join, each line says no.
+
+With --epoch all epochs are joined before they are settled; where they do not join, each line says no.
 
 Each seat has a thread of its own. What it does depends on the seed, its tenant and its
 client alone.

@@ -10,7 +10,7 @@ pub struct LoadOptions {
     pub rounds: u32,
     /// What the seats' draws begin with, any number.
     pub seed: u32,
-    /// Among how many keys they draw, 4 to 256.
+    /// From how many keys they choose at random, 4 to 256.
     pub keys: u32,
     /// How many calls may wait at a partition, 1 to 1024.
     pub queue: u32,

@@ -147,16 +147,16 @@ pub(crate) const SEED: NumberOption = NumberOption {
     default: "1",
     least: 0,
     most: u32::MAX,
-    help: "What the draws of the seats begin with, 0 to 4294967295",
+    help: "The seed of the random workload, 0 to 4294967295",
 };
 
-/// Among how many keys the seats draw.
+/// From how many keys the seats choose at random.
 pub(crate) const KEYS: NumberOption = NumberOption {
     name: "keys",
     default: "16",
     least: 4,
     most: 256,
-    help: "Among how many keys the seats draw, 4 to 256",
+    help: "From how many keys the seats choose, 4 to 256",
 };
 
 /// A store of so many partitions and tenants of these names, with these limits each.
