@@ -6,7 +6,7 @@ import re
 TOP = pathlib.Path(__file__).resolve().parent.parent
 CRATES = TOP / "crates"
 LIMITS = TOP / "tools" / "limits.txt"
-TESTS = {"base_tests", "integration_tests", "program_tests", "surface", "thread_tests", "worked_rows"}
+TESTS = {"tests_base", "tests_integration", "tests_programs", "tests_surface", "tests_threads", "tests_rows"}
 MODEL = "oracle"
 """A program that has the names of the definitions that it evaluates."""
 REQUIRED = {"StandsFor"}

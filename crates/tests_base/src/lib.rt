@@ -1,4 +1,4 @@
-//! Tests over the public items of the crates that the sessions and the cells stand on. As `integration_tests`, this crate is nothing but tests.
+//! Tests over the public items of the crates that the sessions and the cells stand on. As `tests_integration`, this crate is nothing but tests.
 #![tactic(auto)]
 
 #[cfg(test)]

@@ -1,5 +1,5 @@
 //! An allocation that fails in the midst of a run: `tools/refuse-memory` has each fail. What a world answers to these steps
-//! stands in `worked_rows/data/sims.rows`. Of two partitions, x and z belong to the first and y at the second.
+//! stands in `tests_rows/data/sims.rows`. Of two partitions, x and z belong to the first and y at the second.
 use line_protocol::{Name, read_step_line};
 use plain_store::{Answer, Step};
 use stamps::{Keep, Limits};

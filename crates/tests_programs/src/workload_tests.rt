@@ -1,5 +1,5 @@
 //! The programs over readers and writers that are slow, small or fail. What they answer otherwise is said by the rows of
-//! `worked_rows`.
+//! `tests_rows`.
 use line_runs::{End, ProgramFault, RunFault, run_cell};
 use std::alloc::Global;
 use std::io::{self, Read, Write};

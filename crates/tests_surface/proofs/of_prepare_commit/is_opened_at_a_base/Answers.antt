@@ -6,7 +6,7 @@ use Rattle.version_chain.specs.Chain.{Cells}
 use Rattle.version_chain.specs.declared.version.Node.{Node}
 use Rattle.prepare_commit.specs.Bases.{Frozen}
 use Rattle.prepare_commit.proofs.Chaining.{none_live, none_of}
-use Rattle.surface.proofs.of_prepare_commit.is_opened_at_a_base.Goals as goal
+use Rattle.tests_surface.proofs.of_prepare_commit.is_opened_at_a_base.Goals as goal
 
 pub base-requires : goal.base-requires
 base-requires c =

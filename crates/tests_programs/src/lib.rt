@@ -1,4 +1,4 @@
-//! Tests over the public items of the programs. As `integration_tests`, this crate is nothing but tests.
+//! Tests over the public items of the programs. As `tests_integration`, this crate is nothing but tests.
 #![tactic(auto)]
 
 #[cfg(test)]

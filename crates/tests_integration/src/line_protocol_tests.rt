@@ -327,7 +327,7 @@ fn lines_have_less_than_4096_bytes(rt: HostRuntime) {
     assert!(rt; the_longest_line_has_3189_bytes(rt.alloc()) == yes);
 }
 
-/// Replies, and how they are spelled. `worked_rows/data/cells.rows` has those that tell of versions, stamps and keys.
+/// Replies, and how they are spelled. `tests_rows/data/cells.rows` has those that tell of versions, stamps and keys.
 const REPLIES: [(Reply, &str); 12] = [
     (Reply::Prepare(PrepareReply::Prepared), "prepared"),
     (Reply::Prepare(PrepareReply::FullSlots), "refused 15"),
@@ -345,7 +345,7 @@ const REPLIES: [(Reply, &str); 12] = [
 
 const ROWS: Rows = Rows { first: 1, last: 12 };
 
-/// Answers, and how they are spelled. `worked_rows/data/sims.rows` has those that tell of versions, stamps and keys.
+/// Answers, and how they are spelled. `tests_rows/data/sims.rows` has those that tell of versions, stamps and keys.
 const ANSWERS: [(Answer, &str); 16] = [
     (Answer::Refused(Refusal::BadItems), "refused 13"),
     (Answer::GetBegun(ROWS), "get rows 1-12"),

@@ -4,7 +4,7 @@ use Rattle.std.specs.Prelude.{Option, None}
 use Rattle.version_chain.specs.Chain.{Cells}
 use Rattle.version_chain.specs.declared.version.Node.{Node}
 use Rattle.prepare_commit.proofs.Chaining.{none_live, none_of}
-use Rattle.surface.proofs.of_prepare_commit.serves.Goals as goal
+use Rattle.tests_surface.proofs.of_prepare_commit.serves.Goals as goal
 
 pub prepare-prepared-requires : goal.prepare-prepared-requires
 prepare-prepared-requires c =
