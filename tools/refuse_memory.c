@@ -1,6 +1,6 @@
-/* A malloc before the C library's that refuses one growth, loaded by `LD_PRELOAD`: the one whose number is in REFUSE_MEMORY, counted
-   from 1, or none where that is 0. Where it refuses one it makes the file named by REFUSE_MEMORY_MET. Where REFUSE_MEMORY_MAIN is set, only the
-   growths of the first thread are counted, whose number does not hang on what other threads do beside it.
+/* A malloc before the C library's that fails one allocation, loaded by `LD_PRELOAD`: the one whose number is in REFUSE_MEMORY, counted
+   from 1, or none where that is 0. Where it fails one it makes the file named by REFUSE_MEMORY_MET. Where REFUSE_MEMORY_MAIN is set, only the
+   allocations of the first thread are counted, whose number does not depend on other threads.
 
    It reads no header: the kit's compiler, which has none of the C library's, builds it too. What it calls is declared as Linux has it. */
 #define NULL ((void *)0)

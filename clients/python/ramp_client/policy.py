@@ -86,7 +86,7 @@ class Options:
         return f"[{self.host}]:{self.port}" if ":" in self.host else f"{self.host}:{self.port}"
 
 
-FORM = "ramp://HOST:PORT/TENANT, and behind it ?client=NUMBER&timeout=SECONDS&newest=server as wanted"
+FORM = "ramp://HOST:PORT/TENANT, and behind it ?client=NUMBER&timeout=SECONDS&newest=server as needed"
 
 
 def read_url(url: str, client: Optional[int] = None, timeout: Optional[float] = 5.0, newest: str = CLIENT, retry: Optional[Retry] = None) -> Options:

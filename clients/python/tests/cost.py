@@ -1,5 +1,5 @@
 #!/usr/bin/env python3
-"""The processor time that a call takes in the client, beside redis-py: microseconds a call, the middle of several interleaved rounds.
+"""The CPU time that a call takes in the client, compared with redis-py: microseconds per call, the median of several interleaved rounds.
 
 Needs redis-server and the Python package redis. Both servers run beside it; their time is not counted."""
 from __future__ import annotations

@@ -74,7 +74,7 @@ class History:
         put.outcome = outcome
 
     def faults(self) -> list[str]:
-        """What does not hold; nothing where each get is right and each put's outcome was told truly."""
+        """What does not hold; nothing where each get is right and each put's outcome was reported truly."""
         found = list(self.strange)
         done = self._done_by_key()
         for get in self.gets:
@@ -119,7 +119,7 @@ class History:
                 found.append(f"{key} is read as {value}, which nobody wrote there")
                 continue
             if put.outcome == NOT_DONE:
-                found.append(f"{key} is read as {value}, which was told not to be done")
+                found.append(f"{key} is read as {value}, which was reported as not done")
             if put.stamp and put.stamp != stamp:
                 found.append(f"{key} is read as {value} at {stamp}, and was done at {put.stamp}")
             if get.end < put.begin or oldest(get.first) > newest(put.last) or oldest(put.first) > newest(get.last):

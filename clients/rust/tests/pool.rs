@@ -1,4 +1,4 @@
-//! Many threads over one pool, whose server is restarted under them. Each get is right, and each put's outcome is told truly.
+//! Many threads over one pool, whose server is restarted under them. Each get is right, and each put's outcome is reported truly.
 //!
 //! RAMP_SECONDS and RAMP_THREADS make it longer and wider: 4 seconds and 40 threads where nothing is said.
 
@@ -46,7 +46,7 @@ impl History {
     }
 }
 
-/// Puts and gets until it is told to stop. Gives how many puts were done, and of how many the outcome was unknown.
+/// Puts and gets until it is asked to stop. Gives how many puts were done, and of how many the outcome was unknown.
 fn work(pool: &Pool, thread: usize, starts: &AtomicU64, is_over: &AtomicBool) -> Result<(u64, u64), String> {
     let mut history = History::new(thread);
     let (mut done, mut unknown) = (0, 0);

@@ -52,7 +52,7 @@ fn is_right_slowly(
     let cell = LoneCell::open(alloc, slots, items, clients)?;
     if let Some(number) = first_difference(cell, &calls, &replies) {
         println!(rt;
-            "{}: a cell and the slow evaluator differ at call {number}",
+            "{}: a cell and the reference interpreter differ at call {number}",
             row.name
         )?;
         return Ok(false);
@@ -62,7 +62,7 @@ fn is_right_slowly(
         return Ok(false);
     }
     let answers = answers_of(alloc, row, &replies)?;
-    words::is_answered(rt, row, "by the slow evaluator", &answers.text)
+    words::is_answered(rt, row, "by the reference interpreter", &answers.text)
 }
 
 /// The calls of the row, without the lines that are none.

@@ -110,7 +110,7 @@ fn is_right_slowly(
         return Err(io::Error::from(ErrorKind::OutOfMemory));
     };
     let answers = answers_of(alloc, &refused, &told)?;
-    words::is_answered(rt, row, "by the slow evaluator", &answers.text)
+    words::is_answered(rt, row, "by the reference interpreter", &answers.text)
 }
 
 /// The steps of the row, and of each line why it is none. A step of `v`, which is no tenant's name, is left to the

@@ -21,7 +21,7 @@ fn program() -> PathBuf {
     named.or_else(|| built.into_iter().find(|program| program.exists())).expect("a program: ./try --where builds one")
 }
 
-/// `ramp serve` with these words, which ends when as many connections as it was told have ended.
+/// `ramp serve` with these words, which ends when as many connections as it was asked for have ended.
 pub struct Server {
     process: Child,
     output: BufReader<ChildStdout>,

@@ -1,4 +1,4 @@
-//! How fast a running server answers, and how late. `--help` tells what it takes.
+//! How fast a running server answers, and how late. `--help` says what it takes.
 
 mod histogram;
 mod load;

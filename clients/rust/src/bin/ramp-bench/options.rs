@@ -93,7 +93,7 @@ impl Options {
                 "--csv" => options.form = Form::Csv,
                 "--json" => options.form = Form::Json,
                 name if name.starts_with("--") => {
-                    let value = words.next().ok_or_else(|| format!("{name} takes a value: --help tells which"))?;
+                    let value = words.next().ok_or_else(|| format!("{name} takes a value: --help says which"))?;
                     options.set(name, &value)?;
                 }
                 _ if url.is_some() => return Err(format!("{word:?} is a second URL, and one is measured")),
@@ -148,7 +148,7 @@ impl Options {
             "--warmup" => self.warmup = seconds(name, value, 0.0)?,
             "--rate" => self.rate = Some(number(name, value, 1, 100_000_000)? as f64),
             "--seed" => self.seed = number(name, value, 0, usize::MAX)? as u64,
-            _ => return Err(format!("there is no option {name}: --help tells which there are")),
+            _ => return Err(format!("there is no option {name}: --help lists them")),
         }
         Ok(())
     }
@@ -222,13 +222,13 @@ mod tests {
     fn what_is_wrong_is_told_with_what_is_right() {
         for (words, told) in [
             ("--depth 0", "--depth takes a number from 1 to 64, and not \"0\""),
-            ("--depth", "--depth takes a value: --help tells which"),
+            ("--depth", "--depth takes a value: --help says which"),
             ("--mix set", "--mix takes put, get or find, or parts as in put=1,get=4, and not \"set\""),
             ("--mix put=0", "--mix takes put, get or find, or parts as in put=1,get=4, and not \"put=0\""),
             ("--seconds nan", "--seconds takes seconds, 0.001 to 86400, and not \"nan\""),
             ("--size 9-8", "--size 9-8 goes down: the lesser one comes first"),
             ("--keys 3", "--items 4 of --keys 3: a request's keys differ, so there are at least as many"),
-            ("--speed 9", "there is no option --speed: --help tells which there are"),
+            ("--speed 9", "there is no option --speed: --help lists them"),
             ("a b", "the URL \"a\" is none, and takes ramp://HOST:PORT/TENANT"),
             ("ramp://127.0.0.1:1/t b", "\"b\" is a second URL, and one is measured"),
             ("redis://127.0.0.1:1 --mix find", "a Redis server has no find, no tenants, and nothing to read before a put"),
