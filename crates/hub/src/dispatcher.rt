@@ -24,7 +24,7 @@ use std::sync::{Arc, Wait};
 /// rounds.
 pub const MOST_CALLS: usize = MAX_PARTS as usize + 2 * MAX_KEYS;
 
-/// A seat's way to the partitions, and the calls of the operation that runs.
+/// What has a seat's calls served at their partitions, with the calls of the operation that runs.
 pub struct Dispatcher<'a, G> {
     alloc: Global,
     client: Client,
@@ -75,7 +75,7 @@ impl<'a, G> Drop for Dispatcher<'a, G> {
 impl<'a, G> Dispatcher<'a, G> {
     ghost use Rattle.hub.specs.Rooms.{HasPlaces, HasRoom, SameRoom};
 
-    /// The way of a client's seat.
+    /// A call dispatcher for a client's seat.
     pub fn new(
         alloc: Global,
         client: Client,

@@ -246,7 +246,7 @@ impl<G: Gate> Hub<G> {
         Ok(())
     }
 
-    /// What a seat needs: an end of each queue, a queue for its replies, and its client's session.
+    /// The resources of a seat: an endpoint of each queue, a queue for its replies, and its client's session.
     fn ends<R: Wait>(
         &self,
         rt: &R,

@@ -53,7 +53,8 @@ fn is_under(call: &Call, own: Stamp) -> bool
     }
 }
 
-/// Answers by a refusal. It stands alone, so that nothing else has room for an answer of its own: one has some 3,200 bytes.
+/// Writes a refusal into `answer`. Kept out of line, so that no caller reserves stack space for a second `Answer`, of some 3,200
+/// bytes.
 #[cold]
 #[inline(never)]
 pub(crate) fn tell_refusal(refusal: Refusal, answer: &mut Answer)
@@ -323,7 +324,8 @@ impl<'a, G: Gate> RunningOperation<'a, G> {
         }
     }
 
-    /// Takes a worker's reply to a call of the operation under this stamp. After a fault nothing is entered any more.
+    /// Enters a reply to a call of the operation under this stamp, which this thread or a worker served. After a fault nothing is
+    /// entered any more.
     fn enter_reply<R: Wait>(&mut self, rt: &R, own: Stamp, reply: &SeatReply, answer: &mut Answer)
         requires room { 1 + spare self.old.place ≤ self.old.entries.room }
         requires calls { HasRoom (calls_left self.old.session.running) self.old.queues }

@@ -26,7 +26,7 @@ use tenant_sessions::ClientSession;
 /// A seat that has sent more calls begins no operation.
 const LAST_CALL: u64 = (1 << 62) - 128;
 
-/// What a seat needs: its ends of the queues, its client's session, which is open, and a place for what that reads.
+/// The resources of a seat: its queue endpoints, its client's open session, and a buffer for what is read.
 #[derive(Drop)]
 pub(crate) struct Ends<'a, G> {
     pub(crate) queues: Dispatcher<'a, G>,

@@ -32,7 +32,7 @@ pub enum RunFault {
     /// A write failed, or took no byte.
     #[error("a write failed")]
     Write,
-    /// Memory was refused.
+    /// An allocation failed.
     #[error("out of memory")]
     OutOfMemory,
 }
@@ -65,10 +65,10 @@ pub enum ProgramFault {
     /// A tenant of a store that was closed is not settled.
     #[error("Settle")]
     Settle,
-    /// The program does not know its words.
+    /// Invalid command-line arguments.
     #[error("Options")]
     Options,
-    /// Memory was refused.
+    /// An allocation failed.
     #[error("OutOfMemory")]
     OutOfMemory,
     /// A read or a write failed, or the input does not end.

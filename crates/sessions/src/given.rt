@@ -63,7 +63,7 @@ pub(crate) fn put_answer(answer: &Given, out: &mut BytesMut)
     line_runs::put_answer(&answer.answer, out);
 }
 
-/// Answers by a refusal. It stands alone, so that no other line has room for an answer of its own.
+/// Writes a refusal into the answer. A function of its own, so that no caller reserves stack space for a second `Answer`.
 pub(crate) fn tell_refusal(refusal: Refusal, answer: &mut Given)
     ensures { answer.new ≡ Refused refusal }
 {
