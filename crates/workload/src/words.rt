@@ -24,19 +24,29 @@ use std::sync::Wait;
 use std::thread::Threads;
 use std::time::Clock;
 
-/// The whole program, over its words, of which the first is the program's name, and its three streams.
+/// The whole program, over its command-line arguments, of which the first is the program's name, and its three streams.
 ///
-/// `ramp cell [--slots N] [--items N] [--clients N]` answers the lines that ask one cell; the slots and items are 1 to
-/// 65536, and 1024 and 256 where they are not given, the clients 1 to 1024, and 16. `ramp sim [--parts P] [--slots N] [--items N] [--clients N] [--keep K] TENANT..`
-/// answers the lines of steps of tenants of these 1 to 64 names, none given twice, which have the same limits; there
-/// are 1 to 64 partitions, 1 to 1024 clients and 1 to 255 kept versions, and 2, 16 and 2 where they are not given.
-/// `ramp serve` takes the words of `ramp sim`, and `[--port N] [--sessions N] [--stay] [--strict] [--newest] [--queue N] [--every N] [--epoch N]`, and serves
-/// sessions of the tenants over TCP, as [`run_server`] says. The port is 0 to 65535, and 0 where it is not given; 1 to
-/// 1024 connections are served, and 1, or with `--stay` so many at a time; with `--strict` a line that can't be read ends one that has no seat, and with `--newest` each put reads its keys first; 1 to 1024 calls may wait at a partition, and 64; a partition is collected after 1
-/// to 65536 calls, and 64; a journal is cut after 1 to 1048576 events, or never, as where it is 0 or not given. `ramp load` takes the words of `ramp sim`, `--queue`, `--every` and `--epoch` as `ramp serve`, and
-/// `[--seats N] [--rounds N] [--seed N] [--keys N]`, and runs seats of the tenants, as [`run_load`] says: 1 to 16 of each
-/// tenant, no more than it has clients, and 4; 1 to 10000 rounds, and 100; any seed, and 1; 4 to 256 keys, and 16. `--help`
-/// prints how the program is used, and `--version` which one it is.
+/// The next one is a command, and the others are its options and tenants. With `--help` it prints how the program is
+/// used, and with `--version` which one it is.
+///
+/// - `ramp cell [--slots N] [--items N] [--clients N]` answers the calls of one cell, as [`line_runs::run_cell`] says.
+/// - `ramp sim [--parts P] [--slots N] [--items N] [--clients N] [--keep K] TENANT..` answers the steps of these 1 to 64 tenants, none
+///   named twice, which have the same limits.
+/// - `ramp serve` takes what `ramp sim` takes, and `[--port N] [--sessions N] [--stay] [--strict] [--newest] [--queue N] [--every N]
+///   [--epoch N]`, and serves sessions of the tenants over TCP, as [`run_server`] says. With `--stay` the number of sessions is of those at
+///   a time. With `--strict` a line that can't be read ends a connection that has no seat. With `--newest` each put reads its keys first.
+/// - `ramp load` takes what `ramp sim` takes, `--queue`, `--every` and `--epoch`, and `[--seats N] [--rounds N] [--seed N] [--keys N]`, and
+///   runs seats of the tenants, as [`run_load`] says: no more of a tenant than it has clients.
+///
+/// | option | range | default |
+/// |---|---|---|
+/// | `--slots`, `--items` | 1 to 65536 | 1024, 256 |
+/// | `--clients`, `--parts`, `--keep` | 1 to 1024, 1 to 64, 1 to 255 | 16, 2, 2 |
+/// | `--port`, `--sessions` | 0 to 65535, 1 to 1024 | 0, 1 |
+/// | `--queue`, `--every` | 1 to 1024, 1 to 65536 | 64, 64 |
+/// | `--epoch`; 0 is never | 0 to 1048576 | 0 |
+/// | `--seats`, `--rounds` | 1 to 16, 1 to 10000 | 4, 100 |
+/// | `--seed`, `--keys` | 0 to 4294967295, 4 to 256 | 1, 16 |
 ///
 /// The result is the exit status: 0, or that of a fault of which `errors` got one line. A write to
 /// `errors` that fails changes nothing.
