@@ -1,6 +1,7 @@
 pub mod Counted
 pub mod Entries
 pub mod Given
+pub mod Operations
 pub mod ReadsFirst
 pub mod Refusals
 mod Single

@@ -1,45 +1,31 @@
 -- A read and then a write: what both entered.
-use Rattle.std.proofs.Common.{◌≡◌, ◌≤◌, ℕ, List, ◌++◌, Bool, true, false, inl, inr, Some, refl, sym, ap, ◌∙◌, subst, arith}
+use Rattle.std.proofs.Common.{◌≡◌, ◌≤◌, ◌*◌, ℕ, List, ◌++◌, true, false, inl, inr, refl, sym, ap, ◌∙◌, subst, arith}
 use Rattle.std.specs.Prelude.{◌↔◌}
 use Rattle.std.proofs.lemmas.List.{append_assoc}
 use Rattle.std.proofs.lemmas.List.Elements.{All-append, All-weaker}
 use Rattle.plain_store.specs.declared.answer.Answer.{Answer}
 use Rattle.plain_store.specs.declared.answer.Answer.TheVariants.{Refused}
 use Rattle.plain_store.specs.declared.refusal.Refusal.{Refusal}
-use Rattle.plain_store.specs.declared.refusal.Refusal.TheVariants.{Stopped, RowsUsed, OutOfMemory}
+use Rattle.plain_store.specs.declared.refusal.Refusal.TheVariants.{Stopped}
 use Rattle.plain_store.specs.declared.step.Act.{Act}
 use Rattle.plain_store.specs.declared.step.Act.TheVariants.{Get}
 use Rattle.plain_store.specs.Words.{Key}
 use Rattle.entry_list.specs.declared.kinds.Entry.{Entry}
 use Rattle.entry_list.specs.declared.kinds.Entry.TheVariants.{Began, Took, Answered}
 use Rattle.shard.specs.declared.seat_name.SeatName.{SeatName}
-use Rattle.hub.specs.Replies.{AreServed, IfRead, IsReadOf, IsServedFor}
-use Rattle.hub.specs.ReadsFirst.{IsEntered, IsReadBy, begun_entries}
-use Rattle.hub.specs.Seats.{SeatView, Extends, Follows, IsLeftBy, is_unbegun, is_unrecorded}
+use Rattle.hub.specs.Limits.{max_calls}
+use Rattle.hub.specs.Operations.{IsLater, ReportsRead}
+use Rattle.hub.specs.Replies.{AreServed, IsServedFor}
+use Rattle.hub.specs.ReadsFirst.{IsReadBy}
+use Rattle.hub.specs.Seats.{SeatView, Extends, IsEntered, is_unbegun, is_unrecorded}
 use Rattle.hub.proofs.Given.{wider}
-
--- an answer that a transcript has was entered by a seat that was not stopped
-pub entered-by : (act : Act) (answer : Answer) (old new : SeatView) → (is_unrecorded answer ≡ false → Follows (begun_entries old act) (Some answer) new.entries)
-    → (is_unrecorded answer ≡ true → IsLeftBy act answer old new) → (is_unrecorded answer ≡ false → new.stopped ≡ false) → (answer ≡ Refused Stopped) ↔ (old.stopped ≡ true) → IsEntered act old answer new
-entered-by act answer old new recorded unrecorded goes_on stopped = go (is_unrecorded answer) refl old.stopped refl
-  where
-    go : (b : Bool) → is_unrecorded answer ≡ b → (s : Bool) → old.stopped ≡ s → IsEntered act old answer new
-    go true is s at = inr (is, unrecorded is)
-    go false is false at = inl (is, at, goes_on is, recorded is)
-    go false is true at = let both : true ≡ false = sym (ap is_unrecorded (stopped.1 at)) ∙ is in cc
-
--- why a seat begins nothing, no transcript has
-unbegun-outside : (refusal : Refusal) → is_unbegun refusal ≡ true → is_unrecorded (Refused refusal) ≡ true
-unbegun-outside Stopped is = refl
-unbegun-outside RowsUsed is = refl
-unbegun-outside OutOfMemory is = refl
-unbegun-outside refusal is = cc
+use Rattle.hub.proofs.Operations.{unbegun-entered}
 
 -- a read that did not begin
 pub read-refused : (keys : List Key) (seat : SeatView) (answer : Answer) (refusal : Refusal) → answer ≡ Refused refusal → is_unbegun refusal ≡ true → IsReadBy keys seat answer seat
 read-refused keys seat answer refusal is unbegun = record {
-  entered = inr (ap is_unrecorded is ∙ unbegun-outside refusal unbegun, (refusal, is, inl (unbegun, refl)));
-  read = subst (λ (a : Answer). IfRead a (IsReadOf seat.name keys (begun_entries seat (Get seat.name.client keys)) seat.entries)) (sym is) tt;
+  entered = unbegun-entered (Get seat.name.client keys) seat answer refusal is unbegun;
+  read = subst (λ (a : Answer). ReportsRead keys seat a seat) (sym is) tt;
   name = refl;
   parts = refl;
 }
@@ -77,3 +63,25 @@ served-both name other first since last start entries next same before most one 
       served = All-append P one.more later.more (All-weaker (IsServedFor name first since) P (λ e. wider name first since last e most) one.more one.served)
           (All-weaker (IsServedFor name since last) P (λ e. earlier name first since last e before) later.more later.served);
     }
+
+-- two operations, one behind the other
+pub later-both : (old between new : SeatView) → IsLater max_calls old between → IsLater max_calls between new → IsLater (2 * max_calls) old new
+later-both old between new one two = record {
+  name = two.name ∙ one.name;
+  parts = two.parts ∙ one.parts;
+  kept = extends-both old.entries between.entries new.entries one.kept two.kept;
+  served = served-both old.name between.name old.sent between.sent new.sent old.entries between.entries new.entries one.name one.sent.0 two.sent.0 one.served two.served;
+  sent = (omega (arith, one.sent.0, two.sent.0), omega (arith, one.sent.1, two.sent.1));
+  counter = omega (arith, one.counter, two.counter);
+}
+
+-- one operation of the two
+pub later-one : (old new : SeatView) → IsLater max_calls old new → IsLater (2 * max_calls) old new
+later-one old new one = record {
+  name = one.name;
+  parts = one.parts;
+  kept = one.kept;
+  served = one.served;
+  sent = (one.sent.0, omega (arith, one.sent.1));
+  counter = one.counter;
+}

@@ -138,3 +138,15 @@ abbrev pub IsLeftBy : Act → Answer → SeatView → SeatView → Type 0
 IsLeftBy act answer old new =
     (refusal : Refusal) × (answer ≡ Refused refusal)
     × (((is_unbegun refusal ≡ true) × (new ≡ old)) ⊎ ((is_of_worker refusal ≡ true) × IsStopped act old new))
+
+-- the entries of a seat that has begun this act
+abbrev pub begun_entries : SeatView → Act → List Entry
+begun_entries seat act = seat.entries ++ Began act ∷ []
+
+-- The seat began just this act and goes on, and the answer is the one that it entered; or the answer is a refusal that
+-- no transcript has.
+abbrev pub IsEntered : Act → SeatView → Answer → SeatView → Type 0
+IsEntered act old answer new =
+    ((is_unrecorded answer ≡ false) × (old.stopped ≡ false) × (new.stopped ≡ false)
+    × Follows (begun_entries old act) (Some answer) new.entries)
+    ⊎ ((is_unrecorded answer ≡ true) × IsLeftBy act answer old new)

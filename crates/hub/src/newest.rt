@@ -12,11 +12,11 @@ use std::alloc::{AllocError, Global};
 use std::sync::Wait;
 
 impl<'a, G: Gate> Seat<'a, G> {
-    ghost use Rattle.std.specs.Prelude.{◌≡◌, ◌<◌, ◌≤◌, ◌+◌, ◌-◌, ◌*◌, ◌^◌, ◌↔◌, true, false, Some};
+    ghost use Rattle.std.specs.Prelude.{◌≡◌, ◌<◌, ◌-◌, ◌*◌, ◌^◌, ◌↔◌, true, false, Some};
     ghost use Rattle.hub.specs.Limits.{max_calls};
     ghost use Rattle.hub.specs.ReadsFirst.{IsReadAndWritten, IsReadBy};
-    ghost use Rattle.hub.specs.Replies.{AreServed};
-    ghost use Rattle.hub.specs.Seats.{Extends, is_unrecorded, last_answer};
+    ghost use Rattle.hub.specs.Operations.{IsLater};
+    ghost use Rattle.hub.specs.Seats.{is_unrecorded, last_answer};
     ghost use Rattle.plain_store.specs.Writing.{keys_written};
 
     /// Reads the keys of the items, and then writes the items, whatever it read: so its stamp is above that of each write to
@@ -33,12 +33,7 @@ impl<'a, G: Gate> Seat<'a, G> {
         ensures stopped { (result ≡ Answer.Refused Refusal.Stopped) ↔ (self.old.stopped ≡ true) }
         ensures past { result ≡ Answer.Refused Refusal.RowsUsed → 2 ^ 62 - 128 < self.new.sent }
         ensures used_up { (self.old.stopped ≡ false) × (2 ^ 62 - 128 < self.old.sent) → result ≡ Answer.Refused Refusal.RowsUsed }
-        ensures kept { Extends self.old.entries self.new.entries }
-        ensures counter { self.old.counter ≤ self.new.counter }
-        ensures served { AreServed self.old.name self.old.sent self.new.sent self.old.entries self.new.entries }
-        ensures sent { (self.old.sent ≤ self.new.sent) × (self.new.sent ≤ self.old.sent + 2 * max_calls) }
-        ensures name { self.new.name ≡ self.old.name }
-        ensures parts { self.new.parts ≡ self.old.parts }
+        ensures later { IsLater (2 * max_calls) self.old self.new }
     {
         let mut answer = Answer::Ignored;
         self.put_newest_into(rt, items, &mut answer);
@@ -53,12 +48,7 @@ impl<'a, G: Gate> Seat<'a, G> {
         ensures stopped { (answer.new ≡ Answer.Refused Refusal.Stopped) ↔ (self.old.stopped ≡ true) }
         ensures past { answer.new ≡ Answer.Refused Refusal.RowsUsed → 2 ^ 62 - 128 < self.new.sent }
         ensures used_up { (self.old.stopped ≡ false) × (2 ^ 62 - 128 < self.old.sent) → answer.new ≡ Answer.Refused Refusal.RowsUsed }
-        ensures kept { Extends self.old.entries self.new.entries }
-        ensures counter { self.old.counter ≤ self.new.counter }
-        ensures served { AreServed self.old.name self.old.sent self.new.sent self.old.entries self.new.entries }
-        ensures sent { (self.old.sent ≤ self.new.sent) × (self.new.sent ≤ self.old.sent + 2 * max_calls) }
-        ensures name { self.new.name ≡ self.old.name }
-        ensures parts { self.new.parts ≡ self.old.parts }
+        ensures later { IsLater (2 * max_calls) self.old self.new }
     {
         self.read_first(rt, items, answer);
         if has_no_entry(answer) {
@@ -72,12 +62,7 @@ impl<'a, G: Gate> Seat<'a, G> {
         ensures read { IsReadBy (keys_written items.now) self.old answer.new self.new }
         ensures stopped { (answer.new ≡ Answer.Refused Refusal.Stopped) ↔ (self.old.stopped ≡ true) }
         ensures past { (answer.new ≡ Answer.Refused Refusal.RowsUsed) ↔ ((self.old.stopped ≡ false) × (2 ^ 62 - 128 < self.old.sent)) }
-        ensures kept { Extends self.old.entries self.new.entries }
-        ensures counter { self.old.counter ≤ self.new.counter }
-        ensures served { AreServed self.old.name self.old.sent self.new.sent self.old.entries self.new.entries }
-        ensures sent { (self.old.sent ≤ self.new.sent) × (self.new.sent ≤ self.old.sent + max_calls) }
-        ensures name { self.new.name ≡ self.old.name }
-        ensures parts { self.new.parts ≡ self.old.parts }
+        ensures later { IsLater max_calls self.old self.new }
     {
         if let Some(refusal) = self.refuses() {
             return tell_refusal(refusal, answer);

@@ -1,12 +1,12 @@
 //! A client's session.
-ghost use Rattle.std.specs.Prelude.{◌≡◌, ◌<◌, ◌≤◌, ◌+◌, ◌-◌, ◌^◌, ◌↔◌, ◌⊎◌, [], ◌∷◌, ◌++◌, true, false, Some, ◌||◌, is_err, OnOk, IfErr, IfSome, IfNone};
+ghost use Rattle.std.specs.Prelude.{◌≡◌, ◌<◌, ◌≤◌, ◌+◌, ◌-◌, ◌^◌, ◌↔◌, ◌⊎◌, [], ◌∷◌, ◌++◌, true, false, Some, OnOk, IfErr, IfSome, IfNone};
 ghost use Rattle.plain_store.specs.declared.step.Act.TheVariants.{Put, Get as GetAll, Find};
-ghost use Rattle.hub.specs.Limits.{max_calls};
 ghost use Rattle.hub.specs.Rooms.{awaited};
-ghost use Rattle.plain_store.specs.Words.{Setup};
-ghost use Rattle.hub.specs.Replies.{AreServed, IfDone, IsDrawn, IfRead, IfListed, IsToldFor, IsWriteOf, IsReadOf, IsListOf};
+ghost use Rattle.hub.specs.Limits.{max_calls};
+ghost use Rattle.hub.specs.Operations.{IsLater, IsOperation, ReportsList, ReportsRead, ReportsWrite};
+ghost use Rattle.hub.specs.Replies.{IfDone, IsDrawn, IsToldFor};
 ghost use Rattle.hub.specs.Requests.{act_of};
-ghost use Rattle.hub.specs.Seats.{SeatView, last_answer, is_unrecorded, Extends, Follows, IsLeftBy, IsNamed, is_unbegun};
+ghost use Rattle.hub.specs.Seats.{SeatView, Extends, IsEntered, IsNamed, begun_entries, is_unbegun};
 ghost use Rattle.hub.specs.Taken.{replies_in};
 ghost use Rattle.shard.specs.Jobs.{refusal_of};
 
@@ -112,20 +112,9 @@ impl<'a, G: Gate> Seat<'a, G> {
     /// That it is done is the writer's answer to replies that this operation entered, whatever they are, each given to just the
     /// call that was answered by it, but for its stamp: each item's PREPARE was accepted, and then the COMMIT done at each home.
     pub fn put_all<R: Wait>(&mut self, rt: &R, items: &[Item]) -> Answer
-        ensures answered { is_unrecorded result ≡ false → last_answer self.new.entries ≡ Some result }
-        ensures recorded { is_unrecorded result ≡ false → Follows (self.old.entries ++ Entry.Began (Put self.old.name.client items.now) ∷ []) (Some result) self.new.entries }
+        ensures operated { IsOperation (Put self.old.name.client items.now) self.old result self.new }
         ensures stamp { IfDone result (IsDrawn self.old.name.client self.old.counter self.new.counter) }
-        ensures written { (setup : Setup) → setup.partitions ≡ self.old.parts → IfDone result (λ own. IsWriteOf self.old.name setup own items.now (self.old.entries ++ Entry.Began (Put self.old.name.client items.now) ∷ []) self.new.entries) }
-        ensures unrecorded { is_unrecorded result ≡ true → IsLeftBy (Put self.old.name.client items.now) result self.old self.new }
-        ensures goes_on { is_unrecorded result ≡ false → self.new.stopped ≡ false }
-        ensures stopped { (result ≡ Answer.Refused Refusal.Stopped) ↔ (self.old.stopped ≡ true) }
-        ensures past { (result ≡ Answer.Refused Refusal.RowsUsed) ↔ ((self.old.stopped ≡ false) × (2 ^ 62 - 128 < self.old.sent)) }
-        ensures kept { Extends self.old.entries self.new.entries }
-        ensures counter { self.old.counter ≤ self.new.counter }
-        ensures served { AreServed self.old.name self.old.sent self.new.sent self.old.entries self.new.entries }
-        ensures sent { (self.old.sent ≤ self.new.sent) × (self.new.sent ≤ self.old.sent + max_calls) }
-        ensures name { self.new.name ≡ self.old.name }
-        ensures parts { self.new.parts ≡ self.old.parts }
+        ensures written { ReportsWrite items.now self.old result self.new }
     {
         let mut answer = Answer::Ignored;
         self.put_all_into(rt, items, &mut answer);
@@ -134,20 +123,9 @@ impl<'a, G: Gate> Seat<'a, G> {
 
     /// As `put_all`, with the answer written into the caller's buffer.
     pub fn put_all_into<R: Wait>(&mut self, rt: &R, items: &[Item], answer: &mut Answer)
-        ensures answered { is_unrecorded answer.new ≡ false → last_answer self.new.entries ≡ Some answer.new }
-        ensures recorded { is_unrecorded answer.new ≡ false → Follows (self.old.entries ++ Entry.Began (Put self.old.name.client items.now) ∷ []) (Some answer.new) self.new.entries }
+        ensures operated { IsOperation (Put self.old.name.client items.now) self.old answer.new self.new }
         ensures stamp { IfDone answer.new (IsDrawn self.old.name.client self.old.counter self.new.counter) }
-        ensures written { (setup : Setup) → setup.partitions ≡ self.old.parts → IfDone answer.new (λ own. IsWriteOf self.old.name setup own items.now (self.old.entries ++ Entry.Began (Put self.old.name.client items.now) ∷ []) self.new.entries) }
-        ensures unrecorded { is_unrecorded answer.new ≡ true → IsLeftBy (Put self.old.name.client items.now) answer.new self.old self.new }
-        ensures goes_on { is_unrecorded answer.new ≡ false → self.new.stopped ≡ false }
-        ensures stopped { (answer.new ≡ Answer.Refused Refusal.Stopped) ↔ (self.old.stopped ≡ true) }
-        ensures past { (answer.new ≡ Answer.Refused Refusal.RowsUsed) ↔ ((self.old.stopped ≡ false) × (2 ^ 62 - 128 < self.old.sent)) }
-        ensures kept { Extends self.old.entries self.new.entries }
-        ensures counter { self.old.counter ≤ self.new.counter }
-        ensures served { AreServed self.old.name self.old.sent self.new.sent self.old.entries self.new.entries }
-        ensures sent { (self.old.sent ≤ self.new.sent) × (self.new.sent ≤ self.old.sent + max_calls) }
-        ensures name { self.new.name ≡ self.old.name }
-        ensures parts { self.new.parts ≡ self.old.parts }
+        ensures written { ReportsWrite items.now self.old answer.new self.new }
     {
         self.run(rt, &SeatRequest::Put(items), usize::MAX, answer);
     }
@@ -158,19 +136,8 @@ impl<'a, G: Gate> Seat<'a, G> {
     /// call that was answered by it: each version that it reports was in one of them, and it shows no write in part among those
     /// whose write sets they told.
     pub fn get_all<R: Wait>(&mut self, rt: &R, keys: &[Key]) -> Answer
-        ensures answered { is_unrecorded result ≡ false → last_answer self.new.entries ≡ Some result }
-        ensures recorded { is_unrecorded result ≡ false → Follows (self.old.entries ++ Entry.Began (GetAll self.old.name.client keys.now) ∷ []) (Some result) self.new.entries }
-        ensures read { IfRead result (IsReadOf self.old.name keys.now (self.old.entries ++ Entry.Began (GetAll self.old.name.client keys.now) ∷ []) self.new.entries) }
-        ensures unrecorded { is_unrecorded result ≡ true → IsLeftBy (GetAll self.old.name.client keys.now) result self.old self.new }
-        ensures goes_on { is_unrecorded result ≡ false → self.new.stopped ≡ false }
-        ensures stopped { (result ≡ Answer.Refused Refusal.Stopped) ↔ (self.old.stopped ≡ true) }
-        ensures past { (result ≡ Answer.Refused Refusal.RowsUsed) ↔ ((self.old.stopped ≡ false) × (2 ^ 62 - 128 < self.old.sent)) }
-        ensures kept { Extends self.old.entries self.new.entries }
-        ensures counter { self.old.counter ≤ self.new.counter }
-        ensures served { AreServed self.old.name self.old.sent self.new.sent self.old.entries self.new.entries }
-        ensures sent { (self.old.sent ≤ self.new.sent) × (self.new.sent ≤ self.old.sent + max_calls) }
-        ensures name { self.new.name ≡ self.old.name }
-        ensures parts { self.new.parts ≡ self.old.parts }
+        ensures operated { IsOperation (GetAll self.old.name.client keys.now) self.old result self.new }
+        ensures read { ReportsRead keys.now self.old result self.new }
     {
         let mut answer = Answer::Ignored;
         self.get_all_into(rt, keys, &mut answer);
@@ -179,19 +146,8 @@ impl<'a, G: Gate> Seat<'a, G> {
 
     /// As `get_all`, with the answer written into the caller's buffer.
     pub fn get_all_into<R: Wait>(&mut self, rt: &R, keys: &[Key], answer: &mut Answer)
-        ensures answered { is_unrecorded answer.new ≡ false → last_answer self.new.entries ≡ Some answer.new }
-        ensures recorded { is_unrecorded answer.new ≡ false → Follows (self.old.entries ++ Entry.Began (GetAll self.old.name.client keys.now) ∷ []) (Some answer.new) self.new.entries }
-        ensures read { IfRead answer.new (IsReadOf self.old.name keys.now (self.old.entries ++ Entry.Began (GetAll self.old.name.client keys.now) ∷ []) self.new.entries) }
-        ensures unrecorded { is_unrecorded answer.new ≡ true → IsLeftBy (GetAll self.old.name.client keys.now) answer.new self.old self.new }
-        ensures goes_on { is_unrecorded answer.new ≡ false → self.new.stopped ≡ false }
-        ensures stopped { (answer.new ≡ Answer.Refused Refusal.Stopped) ↔ (self.old.stopped ≡ true) }
-        ensures past { (answer.new ≡ Answer.Refused Refusal.RowsUsed) ↔ ((self.old.stopped ≡ false) × (2 ^ 62 - 128 < self.old.sent)) }
-        ensures kept { Extends self.old.entries self.new.entries }
-        ensures counter { self.old.counter ≤ self.new.counter }
-        ensures served { AreServed self.old.name self.old.sent self.new.sent self.old.entries self.new.entries }
-        ensures sent { (self.old.sent ≤ self.new.sent) × (self.new.sent ≤ self.old.sent + max_calls) }
-        ensures name { self.new.name ≡ self.old.name }
-        ensures parts { self.new.parts ≡ self.old.parts }
+        ensures operated { IsOperation (GetAll self.old.name.client keys.now) self.old answer.new self.new }
+        ensures read { ReportsRead keys.now self.old answer.new self.new }
     {
         self.run(rt, &SeatRequest::Get(keys), usize::MAX, answer);
     }
@@ -202,19 +158,8 @@ impl<'a, G: Gate> Seat<'a, G> {
     /// call that was answered by it: each version that it lists was in one of them, and it shows no write in part among those
     /// whose write sets they told.
     pub fn find<R: Wait>(&mut self, rt: &R, tag: Tag) -> Answer
-        ensures answered { is_unrecorded result ≡ false → last_answer self.new.entries ≡ Some result }
-        ensures recorded { is_unrecorded result ≡ false → Follows (self.old.entries ++ Entry.Began (Find self.old.name.client tag) ∷ []) (Some result) self.new.entries }
-        ensures listed { (setup : Setup) → setup.partitions ≡ self.old.parts → IfListed result (IsListOf self.old.name setup tag (self.old.entries ++ Entry.Began (Find self.old.name.client tag) ∷ []) self.new.entries) }
-        ensures unrecorded { is_unrecorded result ≡ true → IsLeftBy (Find self.old.name.client tag) result self.old self.new }
-        ensures goes_on { is_unrecorded result ≡ false → self.new.stopped ≡ false }
-        ensures stopped { (result ≡ Answer.Refused Refusal.Stopped) ↔ (self.old.stopped ≡ true) }
-        ensures past { (result ≡ Answer.Refused Refusal.RowsUsed) ↔ ((self.old.stopped ≡ false) × (2 ^ 62 - 128 < self.old.sent)) }
-        ensures kept { Extends self.old.entries self.new.entries }
-        ensures counter { self.old.counter ≤ self.new.counter }
-        ensures served { AreServed self.old.name self.old.sent self.new.sent self.old.entries self.new.entries }
-        ensures sent { (self.old.sent ≤ self.new.sent) × (self.new.sent ≤ self.old.sent + max_calls) }
-        ensures name { self.new.name ≡ self.old.name }
-        ensures parts { self.new.parts ≡ self.old.parts }
+        ensures operated { IsOperation (Find self.old.name.client tag) self.old result self.new }
+        ensures listed { ReportsList tag self.old result self.new }
     {
         let mut answer = Answer::Ignored;
         self.find_into(rt, tag, &mut answer);
@@ -223,19 +168,8 @@ impl<'a, G: Gate> Seat<'a, G> {
 
     /// As `find`, with the answer written into the caller's buffer.
     pub fn find_into<R: Wait>(&mut self, rt: &R, tag: Tag, answer: &mut Answer)
-        ensures answered { is_unrecorded answer.new ≡ false → last_answer self.new.entries ≡ Some answer.new }
-        ensures recorded { is_unrecorded answer.new ≡ false → Follows (self.old.entries ++ Entry.Began (Find self.old.name.client tag) ∷ []) (Some answer.new) self.new.entries }
-        ensures listed { (setup : Setup) → setup.partitions ≡ self.old.parts → IfListed answer.new (IsListOf self.old.name setup tag (self.old.entries ++ Entry.Began (Find self.old.name.client tag) ∷ []) self.new.entries) }
-        ensures unrecorded { is_unrecorded answer.new ≡ true → IsLeftBy (Find self.old.name.client tag) answer.new self.old self.new }
-        ensures goes_on { is_unrecorded answer.new ≡ false → self.new.stopped ≡ false }
-        ensures stopped { (answer.new ≡ Answer.Refused Refusal.Stopped) ↔ (self.old.stopped ≡ true) }
-        ensures past { (answer.new ≡ Answer.Refused Refusal.RowsUsed) ↔ ((self.old.stopped ≡ false) × (2 ^ 62 - 128 < self.old.sent)) }
-        ensures kept { Extends self.old.entries self.new.entries }
-        ensures counter { self.old.counter ≤ self.new.counter }
-        ensures served { AreServed self.old.name self.old.sent self.new.sent self.old.entries self.new.entries }
-        ensures sent { (self.old.sent ≤ self.new.sent) × (self.new.sent ≤ self.old.sent + max_calls) }
-        ensures name { self.new.name ≡ self.old.name }
-        ensures parts { self.new.parts ≡ self.old.parts }
+        ensures operated { IsOperation (Find self.old.name.client tag) self.old answer.new self.new }
+        ensures listed { ReportsList tag self.old answer.new self.new }
     {
         self.run(rt, &SeatRequest::Find(tag), usize::MAX, answer);
     }
@@ -244,7 +178,7 @@ impl<'a, G: Gate> Seat<'a, G> {
     /// it ends. Where `put_all` would be refused without an entry, it only ends the session.
     pub fn abandon<R: Wait>(self, rt: &R, items: &[Item], takes: u32) -> Transcript
         ensures entries { Extends self.entry.entries result.entries.items }
-        ensures began { (result.entries.items ≡ self.entry.entries) ⊎ Extends (self.entry.entries ++ Entry.Began (Put self.entry.name.client items.now) ∷ []) result.entries.items }
+        ensures began { (result.entries.items ≡ self.entry.entries) ⊎ Extends (begun_entries self.entry (Put self.entry.name.client items.now)) result.entries.items }
         ensures few { replies_in result.entries.items ≤ replies_in self.entry.entries + takes }
         ensures name { IsNamed result self.entry.name }
     {
@@ -278,20 +212,12 @@ impl<'a, G: Gate> Seat<'a, G> {
 
     /// Runs an operation, takes at most so many replies, and writes its answer into the caller's buffer.
     fn run<R: Wait>(&mut self, rt: &R, request: &SeatRequest<'_>, takes: usize, answer: &mut Answer)
-        ensures answered { is_unrecorded answer.new ≡ false → last_answer self.new.entries ≡ Some answer.new }
-        ensures recorded { is_unrecorded answer.new ≡ false → Follows (self.old.entries ++ Entry.Began (act_of self.old.name.client request.now) ∷ []) (Some answer.new) self.new.entries }
-        ensures told { IsToldFor self.old.name self.old.parts (IsDrawn self.old.name.client self.old.counter self.new.counter) request.now answer.new (self.old.entries ++ Entry.Began (act_of self.old.name.client request.now) ∷ []) self.new.entries }
-        ensures few { replies_in self.new.entries ≤ replies_in self.old.entries + takes }
-        ensures unrecorded { is_unrecorded answer.new ≡ true → IsLeftBy (act_of self.old.name.client request.now) answer.new self.old self.new }
-        ensures goes_on { is_unrecorded answer.new ≡ false → self.new.stopped ≡ false }
+        ensures entered { IsEntered (act_of self.old.name.client request.now) self.old answer.new self.new }
         ensures stopped { (answer.new ≡ Answer.Refused Refusal.Stopped) ↔ (self.old.stopped ≡ true) }
         ensures past { (answer.new ≡ Answer.Refused Refusal.RowsUsed) ↔ ((self.old.stopped ≡ false) × (2 ^ 62 - 128 < self.old.sent)) }
-        ensures kept { Extends self.old.entries self.new.entries }
-        ensures counter { self.old.counter ≤ self.new.counter }
-        ensures served { AreServed self.old.name self.old.sent self.new.sent self.old.entries self.new.entries }
-        ensures sent { (self.old.sent ≤ self.new.sent) × (self.new.sent ≤ self.old.sent + max_calls) }
-        ensures name { self.new.name ≡ self.old.name }
-        ensures parts { self.new.parts ≡ self.old.parts }
+        ensures later { IsLater max_calls self.old self.new }
+        ensures told { IsToldFor self.old.name self.old.parts (IsDrawn self.old.name.client self.old.counter self.new.counter) request.now answer.new (begun_entries self.old (act_of self.old.name.client request.now)) self.new.entries }
+        ensures few { replies_in self.new.entries ≤ replies_in self.old.entries + takes }
     {
         if let Some(refusal) = self.refuses() {
             tell_refusal(refusal, answer);

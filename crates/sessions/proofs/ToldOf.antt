@@ -18,8 +18,8 @@ use Rattle.plain_store.specs.declared.answer.Answer.TheVariants.{Refused, Ready,
 use Rattle.entry_list.specs.declared.kinds.Entry.{Entry}
 use Rattle.entry_list.specs.declared.kinds.Entry.TheVariants.{Began}
 use Rattle.plain_store.specs.Writing.{keys_written}
-use Rattle.hub.specs.ReadsFirst.{IsEntered, IsReadAndWritten, IsWrittenBy}
-use Rattle.hub.specs.Seats.{SeatView, Follows, IsLeftBy, IsStopped, answer_in, is_of_worker, is_unrecorded}
+use Rattle.hub.specs.ReadsFirst.{IsReadAndWritten, IsWrittenBy}
+use Rattle.hub.specs.Seats.{SeatView, Follows, IsEntered, IsLeftBy, IsStopped, answer_in, is_of_worker, is_unrecorded}
 use Rattle.shard.specs.declared.seat_name.SeatName.{SeatName}
 use Rattle.closed_store.specs.declared.transcript.Transcript.{Transcript}
 use Rattle.line_protocol.specs.AnswerSpelling.{answer_line}
@@ -231,18 +231,9 @@ told_stopped newest epoch old between new act refusal worker stop name drained =
     told_broken newest epoch old between new None stop.told refusal worker (one_grown old.entries between.entries act stop.told stop.entered) (λ plain. refl) stop.went_on stop.stops name drained
 
 -- an operation that a seat ran was served
-pub served_by : (act : Act) (old new : SeatView) (answer : Answer) → (is_unrecorded answer ≡ false → Follows (old.entries ++ Began act ∷ []) (Some answer) new.entries)
-    → (is_unrecorded answer ≡ true → IsLeftBy act answer old new) → (is_unrecorded answer ≡ false → new.stopped ≡ false)
-    → ((answer ≡ Refused Stopped) ↔ (old.stopped ≡ true)) → IsServed act old answer new
-served_by act old new answer recorded left goes stopped = go (is_unrecorded answer) refl
-  where
-    going : (b : Bool) → old.stopped ≡ b → is_unrecorded answer ≡ false → old.stopped ≡ false
-    going false is inside = is
-    going true is inside = let both : true ≡ false = sym (ap is_unrecorded (stopped.1 is)) ∙ inside in cc
-
-    go : (b : Bool) → is_unrecorded answer ≡ b → IsServed act old answer new
-    go true outside = inr (left outside)
-    go false inside = inl (recorded inside, going old.stopped refl inside, goes inside)
+pub served_by : (act : Act) (old new : SeatView) (answer : Answer) → IsEntered act old answer new → IsServed act old answer new
+served_by act old new answer (inl (inside, going, goes, follows)) = inl (follows, going, goes)
+served_by act old new answer (inr (outside, left)) = inr left
 
 -- the same of the request that asked for it
 pub asked_put : (newest : Bool) (tenants : ℕ) (request : Request) (items given : List Item) (old new : SeatView) (answer : Answer) → request ≡ Put items → given ≡ items

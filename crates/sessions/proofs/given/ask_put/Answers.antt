@@ -8,5 +8,4 @@ returns-then-newest-clause-answered g c = rw c.if-newest.true c.put_newest_into.
 pub returns-clause-answered : goal.returns-clause-answered
 returns-clause-answered g c =
     rw c.if-newest.false
-    (served_by (Put c.args.seat.now.name.client c.args.items.now) c.args.seat.now c.put_all_into.new.self c.put_all_into.new.answer
-    c.put_all_into.ensures.recorded c.put_all_into.ensures.unrecorded c.put_all_into.ensures.goes_on c.put_all_into.ensures.stopped)
+    (served_by (Put c.args.seat.now.name.client c.args.items.now) c.args.seat.now c.put_all_into.new.self c.put_all_into.new.answer c.put_all_into.ensures.operated.entered)

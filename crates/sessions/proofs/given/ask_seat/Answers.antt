@@ -9,11 +9,9 @@ returns-in-Put-clause-answered g c = λ is.
 pub returns-in-Get-clause-answered : goal.returns-in-Get-clause-answered
 returns-in-Get-clause-answered g c = λ is.
     asked_get c.args.newest _ c.args.request.now _ c.as_slice-in-Get.result.now c.args.seat.now c.get_all_into.new.self c.get_all_into.new.answer c.in-Get.is c.as_slice-in-Get.ensures
-    (served_by (Get c.args.seat.now.name.client c.as_slice-in-Get.result.now) c.args.seat.now c.get_all_into.new.self c.get_all_into.new.answer
-    c.get_all_into.ensures.recorded c.get_all_into.ensures.unrecorded c.get_all_into.ensures.goes_on c.get_all_into.ensures.stopped)
+    (served_by (Get c.args.seat.now.name.client c.as_slice-in-Get.result.now) c.args.seat.now c.get_all_into.new.self c.get_all_into.new.answer c.get_all_into.ensures.operated.entered)
 
 pub returns-in-Find-clause-answered : goal.returns-in-Find-clause-answered
 returns-in-Find-clause-answered g c = λ is.
     asked_find c.args.newest _ c.args.request.now c.in-Find.tag c.args.seat.now c.find_into.new.self c.find_into.new.answer c.in-Find.is
-    (served_by (Find c.args.seat.now.name.client c.in-Find.tag) c.args.seat.now c.find_into.new.self c.find_into.new.answer
-    c.find_into.ensures.recorded c.find_into.ensures.unrecorded c.find_into.ensures.goes_on c.find_into.ensures.stopped)
+    (served_by (Find c.args.seat.now.name.client c.in-Find.tag) c.args.seat.now c.find_into.new.self c.find_into.new.answer c.find_into.ensures.operated.entered)

@@ -9,11 +9,11 @@ use Rattle.hub.proofs.operation.RunningOperation.stage_calls.Goals as goal
 
 -- an open session reports what it waits for
 pub unwrap-count-requires : goal.unwrap-count-requires
-unwrap-count-requires g c = open_retry c.args.self.now.session c.args.self.now.opened c.retry.result c.retry.ensures.refused
+unwrap-count-requires g c = open_retry c.args.self.now.session c.args.self.now.opened c.pending_calls.result c.pending_calls.ensures.refused
 
 pub stage_call-requires-clause-room : goal.stage_call-requires-clause-room
 stage_call-requires-clause-room g c =
-    let count = rw c.unwrap-count.ensures at c.retry.ensures.waiting in
+    let count = rw c.unwrap-count.ensures at c.pending_calls.ensures.waiting in
     c.loop-nth.invariant.room 1 (room_for_fewer (c.loop-nth.nth + 1) _ c.args.self.now.queues (omega (arith, c.loop-nth-test.true, count)) c.requires)
 
 pub loop-nth-preserved : goal.loop-nth-preserved
@@ -44,14 +44,14 @@ loop-nth-preserved g c =
 
 pub returns-clause-room : goal.returns-clause-room
 returns-clause-room g c calls room =
-    let count = rw c.unwrap-count.ensures at c.retry.ensures.waiting in
+    let count = rw c.unwrap-count.ensures at c.pending_calls.ensures.waiting in
     c.loop-nth.invariant.room calls (room_for_fewer (c.loop-nth.nth + calls) _ c.args.self.now.queues (omega (arith, count)) room)
 
 -- as many as it waits for
 pub returns-clause-staged : goal.returns-clause-staged
 returns-clause-staged g c setup asked taken running is stands =
     let before = c.args.self.now in
-    let count = rw c.unwrap-count.ensures at c.retry.ensures.count setup asked taken running is stands in
+    let count = rw c.unwrap-count.ensures at c.pending_calls.ensures.count setup asked taken running is stands in
     let calls = map (call_message before.name.client before.session.ticket) (waiting_calls setup asked taken) in
     let past : length calls ≤ c.loop-nth.nth = omega (arith, count, c.loop-nth-test.false, length-map (waiting_calls setup asked taken) (call_message before.name.client before.session.ticket)) in
     behind-all _ _ _ c.loop-nth.nth calls _ _ past (c.loop-nth.invariant.staged setup asked taken running is stands)

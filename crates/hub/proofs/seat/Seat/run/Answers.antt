@@ -1,56 +1,69 @@
-use Rattle.std.proofs.Common.{◌≡◌, ◌≤◌, ◌+◌, ℕ, ap, subst, sym, refl, ◌∙◌, ◌++◌, ◌∷◌, [], List, Some, false, inl, arith}
+use Rattle.std.proofs.Common.{◌≡◌, ◌≤◌, ◌+◌, ℕ, ap, subst, sym, refl, ◌∙◌, ◌++◌, ◌∷◌, [], List, Some, true, false, inl, inr, arith}
 use Rattle.entry_list.specs.declared.kinds.Entry.{Entry}
 use Rattle.tenant_sessions.specs.declared.session.ClientSession.{ClientSession}
 use Rattle.entry_list.specs.declared.kinds.Entry.TheVariants.{Began}
+use Rattle.hub.specs.Operations.{IsLater}
+use Rattle.hub.specs.Limits.{max_calls}
 use Rattle.hub.specs.Replies.{IsDrawn, IsToldFor}
 use Rattle.shard.specs.declared.seat_name.SeatName.{SeatName}
 use Rattle.hub.specs.Requests.{act_of}
-use Rattle.hub.specs.Seats.{SeatView, Follows}
+use Rattle.hub.specs.Seats.{SeatView, Follows, IsEntered}
 use Rattle.hub.specs.Taken.{replies_in}
 use Rattle.hub.proofs.Taking.{replies-other}
-use Rattle.hub.proofs.Entries.{follows-extends, follows-last, extends-after, answer-entered, on_ok, fault-left, recorded-goes-on}
-use Rattle.hub.proofs.Given.{served-start, served-began, served-same}
+use Rattle.hub.proofs.Entries.{follows-extends, extends-after, answer-entered, on_ok, fault-left, recorded-goes-on}
+use Rattle.hub.proofs.Given.{served-began, served-same}
+use Rattle.hub.proofs.Operations.{entered-as, later-same, unbegun-entered}
 use Rattle.hub.proofs.Replies.{reads-refused, reads-run}
 use Rattle.hub.proofs.seat.Seat.run.Goals as goal
 
-pub returns-clause-recorded : goal.returns-clause-recorded
-returns-clause-recorded g c recorded =
+pub returns-clause-entered : goal.returns-clause-entered
+returns-clause-entered g c =
+    let going : c.args.self.now.stopped ≡ false = c.in_default.ensures.open.0 in
     let started = c.in-Ok.ensures.began ∙ (λ i. (c.self.view_is i).entries ++ Began (act_of (c.self.view_is i).name.client c.args.request.now) ∷ []) in
     let start = c.args.self.now.entries ++ Began (act_of c.args.self.now.name.client c.args.request.now) ∷ [] in
     let entries = c.perform-told.new.self.entries.items in
-    answer-entered c.perform-told.result start entries c.finish.new.self.entries c.perform-told.new.answer c.finish.new.answer
-    (on_ok _ _ (λ follows. subst (λ (es : List Entry). Follows es (Some c.perform-told.new.answer) entries) started follows) c.perform-told.result c.perform-told.ensures.answered)
-    c.finish.ensures.served c.finish.ensures.refused (c.finish.ensures.entries ∙ ap (λ e. e.items) c.count-sent.ensures.entries) recorded
-
-pub returns-clause-answered : goal.returns-clause-answered
-returns-clause-answered g c recorded = follows-last _ _ _ (returns-clause-recorded g c recorded)
-
-pub returns-clause-kept : goal.returns-clause-kept
-returns-clause-kept g c =
-    let started = c.in-Ok.ensures.began ∙ (λ i. (c.self.view_is i).entries ++ Began (act_of (c.self.view_is i).name.client c.args.request.now) ∷ []) in
-    let entries = c.perform-told.new.self.entries.items in
+    let same = c.finish.ensures.entries ∙ ap (λ e. e.items) c.count-sent.ensures.entries in
+    let stops = c.finish.ensures.stopped ∙ c.is_err-self-inside.ensures.value in
     let told = c.perform-told.ensures.entered in
-    rw (c.finish.ensures.entries ∙ ap (λ e. e.items) c.count-sent.ensures.entries)
-    (extends-after c.args.self.now.entries _ _ (follows-extends _ told.0 entries (subst (λ (es : List Entry). Follows es told.0 entries) started told.1)))
-
-pub returns-clause-unrecorded : goal.returns-clause-unrecorded
-returns-clause-unrecorded g c outside =
-    let going : c.args.self.now.stopped ≡ false = cc (c.in_default.ensures.open.0, ap (λ (s : SeatView). s.stopped) c.self.view_is) in
-    let started = c.in-Ok.ensures.began ∙ (λ i. (c.self.view_is i).entries ++ Began (act_of (c.self.view_is i).name.client c.args.request.now) ∷ []) in
-    let start = c.args.self.now.entries ++ Began (act_of c.args.self.now.name.client c.args.request.now) ∷ [] in
-    let told = c.perform-told.ensures.entered in
-    let follows = subst (λ (es : List Entry). Follows es told.0 c.perform-told.new.self.entries.items) started told.1 in
-    fault-left c.perform-told.result (act_of c.args.self.now.name.client c.args.request.now) c.args.self.now c.finish.new.self c.perform-told.new.answer c.finish.new.answer told.0
-    c.perform-told.ensures.recorded c.finish.ensures.served c.finish.ensures.refused (c.finish.ensures.stopped ∙ c.is_err-self-inside.ensures.value) going
-    (subst (λ (es : List Entry). Follows start told.0 es) (sym (c.finish.ensures.entries ∙ ap (λ e. e.items) c.count-sent.ensures.entries)) follows) outside
+    let follows = subst (λ (es : List Entry). Follows es told.0 entries) started told.1 in
+    entered-as (act_of c.args.self.now.name.client c.args.request.now) c.finish.new.answer c.args.self.now c.finish.new.self going
+    (answer-entered c.perform-told.result start entries c.finish.new.self.entries c.perform-told.new.answer c.finish.new.answer
+    (on_ok _ _ (λ its. subst (λ (es : List Entry). Follows es (Some c.perform-told.new.answer) entries) started its) c.perform-told.result c.perform-told.ensures.answered)
+    c.finish.ensures.served c.finish.ensures.refused same)
+    (fault-left c.perform-told.result (act_of c.args.self.now.name.client c.args.request.now) c.args.self.now c.finish.new.self c.perform-told.new.answer c.finish.new.answer told.0
+    c.perform-told.ensures.recorded c.finish.ensures.served c.finish.ensures.refused stops going
+    (subst (λ (es : List Entry). Follows start told.0 es) (sym same) follows))
+    (recorded-goes-on c.perform-told.result c.finish.new.self.stopped c.finish.new.answer c.finish.ensures.refused stops)
 
 -- nothing began
-pub returns-in-Some-clause-unrecorded : goal.returns-in-Some-clause-unrecorded
-returns-in-Some-clause-unrecorded g c outside = (c.in-Some.refusal, c.tell_refusal.ensures, inl (c.in-Some.ensures.unbegun, refl))
+pub returns-in-Some-clause-entered : goal.returns-in-Some-clause-entered
+returns-in-Some-clause-entered g c = unbegun-entered _ c.args.self.now c.tell_refusal.new.answer c.in-Some.refusal c.tell_refusal.ensures c.in-Some.ensures.unbegun
 
-pub returns-clause-goes_on : goal.returns-clause-goes_on
-returns-clause-goes_on g c recorded =
-    recorded-goes-on c.perform-told.result c.finish.new.self.stopped c.finish.new.answer c.finish.ensures.refused (c.finish.ensures.stopped ∙ c.is_err-self-inside.ensures.value) recorded
+pub returns-clause-later : goal.returns-clause-later
+returns-clause-later g c =
+    let started = c.in-Ok.ensures.began ∙ (λ i. (c.self.view_is i).entries ++ Began (act_of (c.self.view_is i).name.client c.args.request.now) ∷ []) in
+    let start = c.args.self.now.entries in
+    let entries = c.perform-told.new.self.entries.items in
+    let same = c.finish.ensures.entries ∙ ap (λ e. e.items) c.count-sent.ensures.entries in
+    let told = c.perform-told.ensures.entered in
+    let name = c.prepare.new.self.name in
+    let named = c.in-Ok.ensures.name ∙ ap (λ (s : SeatView). s.name) c.self.view_is in
+    let since = c.in-Ok.ensures.first ∙ ap (λ (s : SeatView). s.sent) c.self.view_is in
+    let counted = ap (λ (s : ClientSession). s.counter) c.in-Ok.ensures.session ∙ ap (λ (s : SeatView). s.counter) c.self.view_is in
+    let last = c.prepare.new.self.first + c.perform-told.new.self.queues.sent in
+    let later : last ≤ c.finish.new.self.sent = omega (arith, c.finish.ensures.sent, c.count-sent.ensures.first, c.perform-told.ensures.first) in
+    record {
+      name = c.finish.ensures.name ∙ c.count-sent.ensures.name ∙ c.perform-told.ensures.name ∙ named;
+      parts = c.finish.ensures.parts ∙ ap (λ (s : SeatView). s.parts) c.self.view_is;
+      kept = rw same (extends-after start _ _ (follows-extends _ told.0 entries (subst (λ (es : List Entry). Follows es told.0 entries) started told.1)));
+      served = served-same name c.args.self.now.name c.prepare.new.self.first c.args.self.now.sent last c.finish.new.self.sent start entries c.finish.new.self.entries (sym named) (sym since) later same
+          (c.perform-told.ensures.served start (served-began name _ _ start _ _ started));
+      sent = (omega (arith, since, c.finish.ensures.sent, c.count-sent.ensures.few.0, c.perform-told.ensures.first), omega (arith, since, c.finish.ensures.sent, c.count-sent.ensures.few.1, c.perform-told.ensures.first));
+      counter = omega (arith, counted, c.perform-told.ensures.counter, c.finish.ensures.counter, ap (λ (s : ClientSession). s.counter) c.count-sent.ensures.session);
+    }
+
+pub returns-in-Some-clause-later : goal.returns-in-Some-clause-later
+returns-in-Some-clause-later g c = later-same max_calls c.args.self.now
 
 pub returns-clause-told : goal.returns-clause-told
 returns-clause-told g c =
@@ -68,31 +81,10 @@ returns-clause-told g c =
     (reads-run c.prepare.new.self.name c.parts-parts.result _ c.perform-told.result c.args.request.now start _ c.perform-told.new.self.entries.items c.finish.new.self.entries c.perform-told.new.answer c.finish.new.answer
     c.perform-told.ensures.read started c.finish.ensures.served c.finish.ensures.refused (c.finish.ensures.entries ∙ ap (λ e. e.items) c.count-sent.ensures.entries)))))
 
--- each reply that was entered came to a call of this seat
-pub returns-clause-served : goal.returns-clause-served
-returns-clause-served g c =
-    let started = c.in-Ok.ensures.began ∙ (λ i. (c.self.view_is i).entries ++ Began (act_of (c.self.view_is i).name.client c.args.request.now) ∷ []) in
-    let start = c.args.self.now.entries in
-    let name = c.prepare.new.self.name in
-    let named = c.in-Ok.ensures.name ∙ ap (λ (s : SeatView). s.name) c.self.view_is in
-    let since = c.in-Ok.ensures.first ∙ ap (λ (s : SeatView). s.sent) c.self.view_is in
-    let last = c.prepare.new.self.first + c.perform-told.new.self.queues.sent in
-    let later : last ≤ c.finish.new.self.sent = omega (arith, c.finish.ensures.sent, c.count-sent.ensures.first, c.perform-told.ensures.first) in
-    served-same name c.args.self.now.name c.prepare.new.self.first c.args.self.now.sent last c.finish.new.self.sent start c.perform-told.new.self.entries.items c.finish.new.self.entries (sym named) (sym since) later (c.finish.ensures.entries ∙ ap (λ e. e.items) c.count-sent.ensures.entries)
-    (c.perform-told.ensures.served start (served-began name _ _ start _ _ started))
-
-pub returns-in-Some-clause-served : goal.returns-in-Some-clause-served
-returns-in-Some-clause-served g c = served-start c.args.self.now.name _ _ c.args.self.now.entries
-
 -- a refusal reports no stamp
 pub returns-in-Some-clause-told : goal.returns-in-Some-clause-told
 returns-in-Some-clause-told g c =
     reads-refused c.args.self.now.name c.args.self.now.parts _ c.args.request.now c.in-Some.refusal _ _ _ c.tell_refusal.ensures
-
-pub returns-clause-counter : goal.returns-clause-counter
-returns-clause-counter g c =
-    let counted = ap (λ (s : ClientSession). s.counter) c.in-Ok.ensures.session ∙ ap (λ (s : SeatView). s.counter) c.self.view_is in
-    omega (arith, counted, c.perform-told.ensures.counter, c.finish.ensures.counter, ap (λ (s : ClientSession). s.counter) c.count-sent.ensures.session)
 
 -- that it began is no reply
 pub returns-clause-few : goal.returns-clause-few

@@ -1,0 +1,59 @@
+-- What an operation of a seat leaves, in pieces.
+use Rattle.std.proofs.Common.{◌≡◌, ◌⊎◌, ℕ, List, [], Bool, true, false, inl, inr, Some, refl, sym, ap, ◌∙◌, arith}
+use Rattle.std.proofs.lemmas.List.{append-nil}
+use Rattle.plain_store.specs.declared.answer.Answer.{Answer}
+use Rattle.plain_store.specs.declared.answer.Answer.TheVariants.{Refused}
+use Rattle.plain_store.specs.declared.refusal.Refusal.{Refusal}
+use Rattle.plain_store.specs.declared.refusal.Refusal.TheVariants.{Stopped, RowsUsed, OutOfMemory}
+use Rattle.plain_store.specs.declared.step.Act.{Act}
+use Rattle.hub.specs.Operations.{IsLater}
+use Rattle.hub.specs.Seats.{SeatView, Extends, Follows, IsEntered, IsLeftBy, begun_entries, is_unbegun, is_unrecorded, last_answer}
+use Rattle.hub.proofs.Entries.{follows-extends, follows-last}
+use Rattle.hub.proofs.Given.{served-start}
+
+-- an answer of a seat that was not stopped
+pub entered-as : (act : Act) (answer : Answer) (old new : SeatView) → old.stopped ≡ false → (is_unrecorded answer ≡ false → Follows (begun_entries old act) (Some answer) new.entries)
+    → (is_unrecorded answer ≡ true → IsLeftBy act answer old new) → (is_unrecorded answer ≡ false → new.stopped ≡ false) → IsEntered act old answer new
+entered-as act answer old new going recorded unrecorded goes_on = go (is_unrecorded answer) refl
+  where
+    go : (b : Bool) → is_unrecorded answer ≡ b → IsEntered act old answer new
+    go true is = inr (is, unrecorded is)
+    go false is = inl (is, going, goes_on is, recorded is)
+
+-- why a seat begins nothing, no transcript has
+unbegun-outside : (refusal : Refusal) → is_unbegun refusal ≡ true → is_unrecorded (Refused refusal) ≡ true
+unbegun-outside Stopped is = refl
+unbegun-outside RowsUsed is = refl
+unbegun-outside OutOfMemory is = refl
+unbegun-outside refusal is = cc
+
+-- the answer of an operation that began nothing, and changed nothing
+pub unbegun-entered : (act : Act) (seat : SeatView) (answer : Answer) (refusal : Refusal) → answer ≡ Refused refusal → is_unbegun refusal ≡ true → IsEntered act seat answer seat
+unbegun-entered act seat answer refusal is unbegun = inr (ap is_unrecorded is ∙ unbegun-outside refusal unbegun, (refusal, is, inl (unbegun, refl)))
+
+-- an answer that was entered is the last one of the entries
+pub entered-last : (act : Act) (old new : SeatView) (answer : Answer) → IsEntered act old answer new → is_unrecorded answer ≡ false → last_answer new.entries ≡ Some answer
+entered-last act old new answer (inl (inside, going, goes, follows)) is = follows-last _ _ _ follows
+entered-last act old new answer (inr (outside, left)) is = let both : true ≡ false = sym outside ∙ is in cc
+
+-- a seat whose answer was entered goes on
+pub entered-stays : (act : Act) (old new : SeatView) (answer : Answer) → IsEntered act old answer new → is_unrecorded answer ≡ false → new.stopped ≡ false
+entered-stays act old new answer (inl (inside, going, goes, follows)) is = goes
+entered-stays act old new answer (inr (outside, left)) is = let both : true ≡ false = sym outside ∙ is in cc
+
+-- an operation entered nothing, or first that its act began
+pub entered-began : (act : Act) (old new : SeatView) (answer : Answer) → IsEntered act old answer new → (new.entries ≡ old.entries) ⊎ Extends (begun_entries old act) new.entries
+entered-began act old new answer (inl (inside, going, goes, follows)) = inr (follows-extends (begun_entries old act) (Some answer) new.entries follows)
+entered-began act old new answer (inr (outside, (refusal, is, inl (unbegun, same)))) = inl (ap (λ (s : SeatView). s.entries) same)
+entered-began act old new answer (inr (outside, (refusal, is, inr (worker, stops)))) = inr (follows-extends (begun_entries old act) stops.told new.entries stops.entered)
+
+-- nothing was done
+pub later-same : (most : ℕ) (seat : SeatView) → IsLater most seat seat
+later-same most seat = record {
+  name = refl;
+  parts = refl;
+  kept = ([], sym (append-nil seat.entries));
+  served = served-start seat.name seat.sent seat.sent seat.entries;
+  sent = (omega arith, omega arith);
+  counter = omega arith;
+}

@@ -1,0 +1,45 @@
+-- What each operation of a seat leaves, whatever it was asked for.
+use Rattle.std.specs.Prelude.{◌≡◌, ◌↔◌, ◌<◌, ◌≤◌, ◌+◌, ◌-◌, ◌^◌, ℕ, true, false, List}
+use Rattle.stamps.specs.declared.record.Item.{Item}
+use Rattle.plain_store.specs.declared.answer.Answer.{Answer}
+use Rattle.plain_store.specs.declared.answer.Answer.TheVariants.{Refused}
+use Rattle.plain_store.specs.declared.refusal.Refusal.TheVariants.{Stopped, RowsUsed}
+use Rattle.plain_store.specs.declared.step.Act.{Act}
+use Rattle.plain_store.specs.declared.step.Act.TheVariants.{Put, Get, Find}
+use Rattle.plain_store.specs.Words.{Key, Tag, Setup}
+use Rattle.hub.specs.Limits.{max_calls}
+use Rattle.hub.specs.Replies.{AreServed, IfDone, IfListed, IfRead, IsListOf, IsReadOf, IsWriteOf}
+use Rattle.hub.specs.Seats.{SeatView, Extends, IsEntered, begun_entries}
+
+-- The seat is that of the same session, later: its entries stay, it sent at most so many calls more, and each reply that
+-- it entered since came to one of these.
+pub record IsLater (most : ℕ) (old new : SeatView) : Type 0 where
+  pub name : new.name ≡ old.name
+  pub parts : new.parts ≡ old.parts
+  pub kept : Extends old.entries new.entries
+  pub served : AreServed old.name old.sent new.sent old.entries new.entries
+  pub sent : (old.sent ≤ new.sent) × (new.sent ≤ old.sent + most)
+  pub counter : old.counter ≤ new.counter
+
+-- An operation of this act was answered. A seat that was stopped answers 19, and one whose calls are used up 26.
+pub record IsOperation (act : Act) (old : SeatView) (answer : Answer) (new : SeatView) : Type 0 where
+  pub entered : IsEntered act old answer new
+  pub stopped : (answer ≡ Refused Stopped) ↔ (old.stopped ≡ true)
+  pub past : (answer ≡ Refused RowsUsed) ↔ ((old.stopped ≡ false) × (2 ^ 62 - 128 < old.sent))
+  pub later : IsLater max_calls old new
+
+-- ---- what is reported answers replies that the operation entered
+
+abbrev pub ReportsWrite : List Item → SeatView → Answer → SeatView → Type 0
+ReportsWrite items old answer new =
+    (setup : Setup) → setup.partitions ≡ old.parts
+    → IfDone answer (λ own. IsWriteOf old.name setup own items (begun_entries old (Put old.name.client items)) new.entries)
+
+abbrev pub ReportsRead : List Key → SeatView → Answer → SeatView → Type 0
+ReportsRead keys old answer new =
+    IfRead answer (IsReadOf old.name keys (begun_entries old (Get old.name.client keys)) new.entries)
+
+abbrev pub ReportsList : Tag → SeatView → Answer → SeatView → Type 0
+ReportsList tag old answer new =
+    (setup : Setup) → setup.partitions ≡ old.parts
+    → IfListed answer (IsListOf old.name setup tag (begun_entries old (Find old.name.client tag)) new.entries)
