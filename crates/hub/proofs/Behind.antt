@@ -4,6 +4,7 @@ use Rattle.std.proofs.lemmas.List.{append_assoc, append-nil, take_more, take_all
 use Rattle.std.proofs.lemmas.Option.{slice_get_within, get_or_from_slice_get}
 use Rattle.std.specs.Global.{Box}
 use Rattle.plain_store.specs.declared.message.Message.{Message}
+use Rattle.shard.specs.Asked.{without_reply}
 use Rattle.shard.specs.Homes.{place_of}
 use Rattle.shard.specs.declared.shard.CallState.TheVariants.{Pending}
 use Rattle.shard.specs.declared.shard.Staged.{Staged}
@@ -16,7 +17,7 @@ behind-start name parts nth calls = record { more = []; is = sym (append-nil cal
 
 -- one more of them
 for-more : (name : SeatName) (parts nth : ℕ) (messages : List Message) (calls : List Staged) (message : Message) (staged : Staged) → AreStagedFor name parts nth messages calls
-    → IsStagedFor name parts (nth + length messages) staged → staged.call.message.value ≡ message → AreStagedFor name parts nth (messages ++ message ∷ []) (calls ++ staged ∷ [])
+    → IsStagedFor name parts (nth + length messages) staged → without_reply staged.call.message.value ≡ message → AreStagedFor name parts nth (messages ++ message ∷ []) (calls ++ staged ∷ [])
 for-more name parts nth [] [] message staged are its is =
     let P : ℕ → Type 0 = λ n. IsStagedFor name parts n staged in
     let here : nth + 0 ≡ nth = omega arith in
@@ -32,7 +33,7 @@ for-more name parts nth (m ∷ ms) (s ∷ ss) message staged are its is =
 pub behind-more : (name : SeatName) (parts nth at : ℕ) (messages : List Message) (old now new : List Staged) → AreStagedBehind name parts nth (take at messages) old now
     → IsStagedNext name parts (nth + at) (slice_get messages at) now new → AreStagedBehind name parts nth (take (at + 1) messages) old new
 behind-more name parts nth at messages old now new so_far next =
-    let message : Message = next.staged.call.message.value in
+    let message : Message = without_reply next.staged.call.message.value in
     let within = slice_get_within messages at message next.in_message in
     let is = take_more messages at message within ∙ ap (λ m. take at messages ++ m ∷ []) (get_or_from_slice_get messages at message message next.in_message) in
     let long : length (take at messages) ≡ at = length-take-le at messages (omega (arith, within)) in
@@ -66,12 +67,12 @@ next-same name other parts of nth number message meant old before new named amon
 pub staged-as : (name : SeatName) (parts nth : ℕ) (message : Box Message) (staged : Staged) (old new : List Staged) → new ≡ old ++ staged ∷ []
     → staged.call.tenant ≡ name.tenant → staged.call.seat ≡ name.seat → staged.call.number ≡ nth → staged.call.parts ≡ parts
     → staged.call.message ≡ message → staged.call.partition ≡ place_of message.value.call parts message.value.partition → staged.stage ≡ Pending
-    → IsStagedNext name parts nth (Some message.value) old new
+    → IsStagedNext name parts nth (Some (without_reply message.value)) old new
 staged-as name parts nth message staged old new is tenant seat number among same partition stage =
     let P : Box Message → Type 0 = λ m. staged.call.partition ≡ place_of m.value.call parts m.value.partition in
     record {
       staged = staged;
       is = is;
       its = record { tenant = tenant; seat = seat; number = number; parts = among; partition = subst P (sym same) partition; stage = stage };
-      in_message = ap (λ (m : Box Message). Some m.value) (sym same);
+      in_message = ap (λ (m : Box Message). Some (without_reply m.value)) (sym same);
     }

@@ -3,6 +3,7 @@ use Rattle.std.specs.Prelude.{◌≡◌, ℕ, ◌+◌, Bool, true, false, cond, 
 use Rattle.std.specs.Prelude.{drop}
 use Rattle.std.specs.List.{count_by}
 use Rattle.plain_store.specs.declared.message.Message.{Message}
+use Rattle.shard.specs.Asked.{without_reply}
 use Rattle.shard.specs.Homes.{place_of}
 use Rattle.shard.specs.Journals.{came_to}
 use Rattle.shard.specs.declared.jobs.SeatReply.{SeatReply}
@@ -55,21 +56,22 @@ pub record IsStagedFor (name : SeatName) (partitions nth : ℕ) (staged : Staged
       ≡ place_of staged.call.message.value.call partitions staged.call.message.value.partition
   pub stage : staged.stage ≡ Pending
 
--- a call of this session was staged behind those that were, in this message, if there is one
+-- a call of this session was staged behind those that were, in this message, if there is one; the box has the reply to its last
+-- call until this one is served
 pub record IsStagedNext (name : SeatName) (partitions nth : ℕ) (message : Option Message) (old new : List Staged)
     : Type 0 where
   pub staged : Staged
   pub is : new ≡ old ++ staged ∷ []
   pub its : IsStagedFor name partitions nth staged
-  pub in_message : message ≡ Some staged.call.message.value
+  pub in_message : message ≡ Some (without_reply staged.call.message.value)
 
--- calls of this session, numbered on from this number, in these messages
+-- calls of this session, numbered on from this number, in these messages, which have no reply
 abbrev pub AreStagedFor : SeatName → ℕ → ℕ → List Message → List Staged → Type 0
 AreStagedFor name partitions nth [] [] = Unit {0}
 AreStagedFor name partitions nth [] (staged ∷ calls) = ⊥
 AreStagedFor name partitions nth (message ∷ messages) [] = ⊥
 AreStagedFor name partitions nth (message ∷ messages) (staged ∷ calls) =
-    (staged.call.message.value ≡ message) × IsStagedFor name partitions nth staged
+    (without_reply staged.call.message.value ≡ message) × IsStagedFor name partitions nth staged
     × AreStagedFor name partitions (nth + 1) messages calls
 
 -- these messages were staged behind the calls that were

@@ -2,7 +2,7 @@
 ghost use Rattle.std.specs.Prelude.{◌≡◌, ◌<◌, ◌≤◌, ◌+◌, ◌-◌, ◌^◌, ◌↔◌, [], ℕ, None, Some, OnOk, IfOk, IsOkAnd, IfSome, IsSomeAnd, IfNone, IsTrue, cond, drop, false, is_some, map, min, slice_index_or, vec_len, vec_capacity};
 ghost use Rattle.std.specs.VecDeque.{deque_capacity, deque_len};
 ghost use Rattle.stamps.specs.Bounds.{IsParts};
-ghost use Rattle.shard.specs.Asked.{asked_by};
+ghost use Rattle.shard.specs.Asked.{asked_by, without_reply};
 ghost use Rattle.shard.specs.Homes.{HasHome, place_of as place_for};
 ghost use Rattle.hub.specs.Limits.{max_calls};
 ghost use Rattle.shard.specs.declared.shard.Staged.{Staged as Waiting};
@@ -188,7 +188,7 @@ impl<'a, G> Dispatcher<'a, G> {
         requires { HasPlaces 1 self.old }
         ensures counted { self.new.sent ≡ self.old.sent + 1 }
         ensures calls { deque_len self.new.calls ≡ deque_len self.old.calls + 1 }
-        ensures staged { IsStagedNext name.now self.old.parts number (Some message.value) self.old.calls.items self.new.calls.items }
+        ensures staged { IsStagedNext name.now self.old.parts number (Some (without_reply message.value)) self.old.calls.items self.new.calls.items }
         ensures parts { self.new.parts ≡ self.old.parts }
         ensures boxes { self.new.boxes ≡ self.old.boxes }
         ensures room { (calls : ℕ) → HasPlaces (1 + calls) self.old → HasPlaces calls self.new }

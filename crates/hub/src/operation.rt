@@ -106,6 +106,7 @@ impl<'a, G: Gate> RunningOperation<'a, G> {
     ghost use Rattle.hub.specs.Replies.{AreServed, IsDrawn, IsStampOf, IsToldFor, IsToldOf, IsUnder, Reads};
     ghost use Rattle.stamps.specs.Stamp.{stamp};
     ghost use Rattle.hub.specs.Seats.{at_seat, is_final, is_unrecorded, outcome_of, spare, told_by, EndsSo, Follows, Extends};
+    ghost use Rattle.shard.specs.Asked.{without_reply};
     ghost use Rattle.shard.specs.declared.shard.Staged.{Staged as Waiting};
     ghost use Rattle.plain_store.specs.Run.{call_message};
     ghost use Rattle.plain_store.specs.declared.message.Message.{Message as Sent};
@@ -542,7 +543,7 @@ impl<'a, G: Gate> RunningOperation<'a, G> {
         ensures rest { (self.new.name ≡ self.old.name) × (self.new.session ≡ self.old.session) × (self.new.entries ≡ self.old.entries) × (self.new.first ≡ self.old.first) × (self.new.place ≡ self.old.place) × (self.new.fault ≡ self.old.fault) × (self.new.readings ≡ self.old.readings) }
     {
         let mut message = self.queues.take_box();
-        let is_made = self.session.call_into(self.name.client, nth, &mut message);
+        let is_made = self.session.call_over(self.name.client, nth, &mut message);
         prove!(is_made);
         self.stage(message);
     }
@@ -598,7 +599,7 @@ impl<'a, G: Gate> RunningOperation<'a, G> {
         ensures boxes { self.new.queues.boxes ≡ self.old.queues.boxes }
         ensures counted { self.new.queues.sent ≡ self.old.queues.sent + 1 }
         ensures parts { self.new.queues.parts ≡ self.old.queues.parts }
-        ensures staged { IsStagedNext self.old.name self.old.queues.parts (self.old.first + 1 + self.old.queues.sent) (Some message.value) self.old.queues.calls.items self.new.queues.calls.items }
+        ensures staged { IsStagedNext self.old.name self.old.queues.parts (self.old.first + 1 + self.old.queues.sent) (Some (without_reply message.value)) self.old.queues.calls.items self.new.queues.calls.items }
         ensures rest { (self.new.name ≡ self.old.name) × (self.new.session ≡ self.old.session) × (self.new.entries ≡ self.old.entries) × (self.new.first ≡ self.old.first) × (self.new.place ≡ self.old.place) × (self.new.fault ≡ self.old.fault) × (self.new.readings ≡ self.old.readings) }
     {
         let number = self.first + 1 + self.queues.sent() as u64;

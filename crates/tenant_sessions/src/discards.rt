@@ -25,7 +25,7 @@ impl Model for Discards {
 }
 
 impl Discards {
-    ghost use Rattle.std.specs.Prelude.{ℕ, [], false, Some, None, if◌then◌else◌};
+    ghost use Rattle.std.specs.Prelude.{ℕ, [], true, false, Some, None, if◌then◌else◌};
     ghost use Rattle.plain_store.specs.declared.calls.Call.TheVariants.{Discard};
     ghost use Rattle.plain_store.specs.Writing.{Outgoing as Sent};
 
@@ -64,6 +64,7 @@ impl Discards {
     /// whether there is one; where there is none, the place is as it was.
     pub fn message_into(&self, client: Client, ticket: u64, nth: u32, place: &mut Message) -> bool
         ensures told { (if result then Some place.new else None) ≡ slice_get (map (call_message client ticket) self.now) nth }
+        ensures reply { result ≡ true → place.new.reply ≡ None }
         ensures unchanged { result ≡ false → place.new ≡ place.old }
     {
         let Some(partition) = self.partitions.as_slice().get(nth as usize) else {

@@ -163,7 +163,7 @@ pub enum MoveKind {
 }
 
 impl MoveKind {
-    ghost use Rattle.std.specs.Prelude.{◌≡◌, nat_lt, List, length, map, slice_get, false, Some, None, if◌then◌else◌};
+    ghost use Rattle.std.specs.Prelude.{◌≡◌, nat_lt, List, length, map, slice_get, true, false, Some, None, if◌then◌else◌};
     ghost use Rattle.plain_store.specs.declared.reading.Reading.{Reading};
     ghost use Rattle.plain_store.specs.Run.{call_message};
     ghost use Rattle.tenant_sessions.specs.Moves.{moved, answer_of, sends_calls, ending, is_last, is_ignored};
@@ -246,6 +246,7 @@ impl MoveKind {
     pub fn ending_into(&self, client: Client, ticket: u64, nth: u32, place: &mut Message) -> bool
         ensures told { (readings : List Reading) → (if result then Some place.new else None)
             ≡ slice_get (map (call_message client ticket) (ending (moved self.now readings))) nth }
+        ensures reply { result ≡ true → place.new.reply ≡ None }
         ensures unchanged { result ≡ false → place.new ≡ place.old }
     {
         match self {

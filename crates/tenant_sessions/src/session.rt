@@ -282,6 +282,24 @@ impl ClientSession {
             ≡ slice_get (map (call_message client self.now.ticket) (waiting_calls setup request taken)) nth }
         ensures unchanged { result ≡ false → place.new ≡ place.old }
     {
+        if !self.call_over(client, nth, place) {
+            return false;
+        }
+        forget_reply(place);
+        true
+    }
+
+    /// Does what `call_into` does, and leaves the reply that lies in the caller's buffer: the next one, which is mostly of the same
+    /// kind, is written over it. A reply has some 750 bytes.
+    pub fn call_over(&self, client: Client, nth: u32, place: &mut Message) -> bool
+        ensures idle { self.now.running ≡ None → result ≡ false }
+        ensures made { result ≡ nat_lt nth (calls_waiting self.now.running) }
+        ensures told { (setup : Setup) (request : Intent) (taken : List Sent) (running : Running) → self.now.running ≡ Some running
+            → RunningStands setup request taken running → (if result then Some (record place.new { reply = None }) else None)
+            ≡ slice_get (map (call_message client self.now.ticket) (waiting_calls setup request taken)) nth }
+        ensures reply { place.new.reply ≡ place.old.reply }
+        ensures unchanged { result ≡ false → place.new ≡ place.old }
+    {
         let Some(running) = self.running.as_ref() else {
             return false;
         };
@@ -290,7 +308,6 @@ impl ClientSession {
         }
         place.client = client;
         place.ticket = self.ticket;
-        forget_reply(place);
         true
     }
 

@@ -1,5 +1,6 @@
 use Rattle.std.proofs.Common.{◌+◌, ap, arith, refl, sym, ◌∙◌, Some, None, vec_len}
 use Rattle.std.specs.Prelude.{if◌then◌else◌}
+use Rattle.shard.specs.Asked.{without_reply}
 use Rattle.hub.proofs.Behind.{next-same}
 use Rattle.hub.proofs.operation.RunningOperation.stage_call.Goals as goal
 
@@ -15,7 +16,7 @@ returns-clause-room g c calls room = record {
 -- it is the one that the session waits for at this place
 pub returns-clause-staged : goal.returns-clause-staged
 returns-clause-staged g c setup asked taken running is stands =
-    let made = c.call_into-is_made.ensures in
-    let told = ap (λ b. if b then Some c.call_into-is_made.new.place else None) c.if-prove.false in
+    let made = c.call_over-is_made.ensures in
+    let told = ap (λ b. if b then Some (without_reply c.call_over-is_made.new.place) else None) c.if-prove.false in
     next-same _ _ _ _ _ _ _ _ _ _ _ refl c.take_box-message.ensures.calls.3 (omega (arith, c.take_box-message.ensures.sent)) (sym told ∙ made.told setup asked taken running is stands)
     (ap (λ q. q.items) c.take_box-message.ensures.calls.0) c.stage.ensures.staged

@@ -15,6 +15,8 @@ returns-clause-room g c calls room = record {
 -- it is the one at this place
 pub returns-clause-staged : goal.returns-clause-staged
 returns-clause-staged g c told =
-    let made = ap (λ b. if b then Some c.ending_into-is_made.new.place else None) c.if-prove.false in
-    next-same _ _ _ _ _ _ _ _ _ _ _ refl c.take_box-message.ensures.calls.3 (omega (arith, c.take_box-message.ensures.sent)) (sym made ∙ c.ending_into-is_made.ensures.told told)
+    let message = c.ending_into-is_made.new.place in
+    let made = ap (λ b. if b then Some message else None) c.if-prove.false in
+    let bare = ap (λ reply. Some (record message { reply = reply })) (sym (c.ending_into-is_made.ensures.reply c.if-prove.false)) in
+    next-same _ _ _ _ _ _ _ _ _ _ _ refl c.take_box-message.ensures.calls.3 (omega (arith, c.take_box-message.ensures.sent)) (bare ∙ sym made ∙ c.ending_into-is_made.ensures.told told)
     (ap (λ q. q.items) c.take_box-message.ensures.calls.0) c.stage.ensures.staged
