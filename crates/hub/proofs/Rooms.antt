@@ -51,7 +51,7 @@ module _ {G : Type 0} where
       subst P (sym is) (room_for_fewer m n queues fewer has)
 
   -- where no more are sent or staged, and none of it is used, there is no less
-  pub room_kept : (old new : Dispatcher G) → vec_len old.boxes ≤ vec_len new.boxes → vec_len old.spare ≤ vec_len new.spare → deque_capacity new.calls ≡ deque_capacity old.calls → new.sent ≤ old.sent
+  pub room_kept : (old new : Dispatcher G) → deque_len old.boxes ≤ deque_len new.boxes → vec_len old.spare ≤ vec_len new.spare → deque_capacity new.calls ≡ deque_capacity old.calls → new.sent ≤ old.sent
       → deque_len new.calls ≤ deque_len old.calls → deque_len new.calls - new.served ≤ deque_len old.calls - old.served → (n : ℕ) → HasRoom n old → HasRoom n new
   room_kept old new boxes ends places sent calls staged n has = record {
     boxes = omega (arith, has.boxes, boxes);
@@ -65,7 +65,7 @@ module _ {G : Type 0} where
   -- so where as many are sent and staged
   pub same_room : (old new : Dispatcher G) → SameRoom old new → new.sent ≡ old.sent → deque_len new.calls ≡ deque_len old.calls → new.served ≡ old.served → (n : ℕ) → HasRoom n old → HasRoom n new
   same_room old new same sent calls served =
-      let boxes : vec_len new.boxes ≡ vec_len old.boxes = ap vec_len same.boxes in
+      let boxes : deque_len new.boxes ≡ deque_len old.boxes = ap deque_len same.boxes in
       let ends : vec_len new.spare ≡ vec_len old.spare = ap vec_len same.ends in
       room_kept old new (omega (arith, boxes)) (omega (arith, ends)) same.places (omega (arith, sent)) (omega (arith, calls)) (omega (arith, calls, served))
 

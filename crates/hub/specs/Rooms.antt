@@ -13,7 +13,7 @@ pub record HasPlaces {G : Type 0} (calls : ℕ) (queues : Dispatcher G) : Type 0
 
 -- and boxes as well
 pub record HasRoom {G : Type 0} (calls : ℕ) (queues : Dispatcher G) : Type 0 where
-  pub boxes : calls ≤ vec_len queues.boxes
+  pub boxes : calls ≤ deque_len queues.boxes
   pub there : HasPlaces calls queues
 
 -- no place, box or end is used, and none is made

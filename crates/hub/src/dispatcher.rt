@@ -1,5 +1,5 @@
 //! A seat's way to the partitions: its calls are staged, and served there or by a worker, and their replies come back.
-ghost use Rattle.std.specs.Prelude.{◌≡◌, ◌<◌, ◌≤◌, ◌+◌, ◌-◌, ◌^◌, ◌↔◌, [], ℕ, None, Some, OnOk, IfOk, IsOkAnd, IfSome, IsSomeAnd, IfNone, IsTrue, cond, drop, false, is_some, map, min, slice_index_or, vec_len, vec_capacity};
+ghost use Rattle.std.specs.Prelude.{◌≡◌, ◌<◌, ◌≤◌, ◌+◌, ◌-◌, ◌^◌, ◌↔◌, [], ℕ, None, Some, OnOk, IfOk, IsOkAnd, IfSome, IsSomeAnd, IfNone, IsTrue, cond, drop, false, is_some, map, min, slice_index_or, vec_len};
 ghost use Rattle.std.specs.VecDeque.{deque_capacity, deque_len};
 ghost use Rattle.stamps.specs.Bounds.{IsParts};
 ghost use Rattle.shard.specs.Asked.{asked_by, without_reply};
@@ -36,8 +36,9 @@ pub struct Dispatcher<'a, G> {
     replies: Receiver<SeatReply>,
     /// Ends for the jobs to come.
     spare: Vec<Sender<SeatReply>>,
-    /// Boxes for the calls to come. Each comes back with its reply.
-    boxes: Vec<Box<Message>>,
+    /// Boxes for the calls to come. Each comes back with its reply: one that held a COMMIT to the front, any other to the back. So a
+    /// call and a reply are mostly written over others of their kind: each has some 750 bytes.
+    boxes: VecDeque<Box<Message>>,
     /// The calls whose replies are to be taken, and then those that are staged.
     calls: VecDeque<Staged>,
     /// How many of them are no longer staged.
@@ -101,7 +102,7 @@ impl<'a, G> Dispatcher<'a, G> {
             reply_to,
             replies,
             spare: Vec::new(alloc),
-            boxes: Vec::new(alloc),
+            boxes: VecDeque::new(alloc),
             calls,
             served: 0,
             queued: 0,
@@ -131,7 +132,7 @@ impl<'a, G> Dispatcher<'a, G> {
 
     /// Makes the boxes that are missing of so many.
     fn reserve_boxes(&mut self, most: usize) -> Result<(), AllocError>
-        ensures boxes { OnOk result (most ≤ vec_len self.new.boxes) }
+        ensures boxes { OnOk result (most ≤ deque_len self.new.boxes) }
         ensures sent { self.new.sent ≡ self.old.sent }
         ensures ends { self.new.spare ≡ self.old.spare }
         ensures calls { (self.new.calls ≡ self.old.calls) × (self.new.served ≡ self.old.served) × (self.new.queued ≡ self.old.queued) }
@@ -142,7 +143,7 @@ impl<'a, G> Dispatcher<'a, G> {
             let Ok(place) = Box::new(self.alloc, blank(self.client)) else {
                 return Err(AllocError);
             };
-            self.boxes.push(place)?;
+            self.boxes.push_back(place)?;
         }
         Ok(())
     }
@@ -164,23 +165,31 @@ impl<'a, G> Dispatcher<'a, G> {
 
     /// Keeps the box of a reply that was taken, for another call.
     pub fn keep(&mut self, message: Box<Message>)
-        ensures kept { vec_len self.old.boxes < vec_capacity self.old.boxes → vec_len self.new.boxes ≡ vec_len self.old.boxes + 1 }
+        ensures kept { deque_len self.old.boxes < deque_capacity self.old.boxes → deque_len self.new.boxes ≡ deque_len self.old.boxes + 1 }
         ensures room { (calls : ℕ) → HasRoom calls self.old → HasRoom calls self.new }
         ensures sent { self.new.sent ≡ self.old.sent }
         ensures calls { (self.new.calls ≡ self.old.calls) × (self.new.queued ≡ self.old.queued) × (self.new.served ≡ self.old.served) }
     {
-        let _ = self.boxes.push(message);
+        if matches!(message.call, Call::Commit(_)) {
+            let _ = self.boxes.push_front(message);
+        } else {
+            let _ = self.boxes.push_back(message);
+        }
     }
 
-    /// A box for a call, which `stage` takes back.
-    pub fn take_box(&mut self) -> Box<Message>
-        requires { 0 < vec_len self.old.boxes }
-        ensures boxes { vec_len self.old.boxes ≡ vec_len self.new.boxes + 1 }
+    /// A box for a call, which `stage` takes back: for a COMMIT, or for another call. Either serves for any call.
+    pub fn take_box(&mut self, commits: bool) -> Box<Message>
+        requires { 0 < deque_len self.old.boxes }
+        ensures boxes { deque_len self.old.boxes ≡ deque_len self.new.boxes + 1 }
         ensures room { (calls : ℕ) → HasPlaces calls self.old → HasPlaces calls self.new }
         ensures sent { self.new.sent ≡ self.old.sent }
         ensures calls { (self.new.calls ≡ self.old.calls) × (self.new.served ≡ self.old.served) × (self.new.queued ≡ self.old.queued) × (self.new.parts ≡ self.old.parts) }
     {
-        self.boxes.pop().unwrap()
+        if commits {
+            self.boxes.pop_front().unwrap()
+        } else {
+            self.boxes.pop_back().unwrap()
+        }
     }
 
     /// Stages the call in this box as the seat's call of this number, for `dispatch`.

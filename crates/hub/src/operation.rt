@@ -53,6 +53,11 @@ fn is_under(call: &Call, own: Stamp) -> bool
     }
 }
 
+/// Whether a move sends COMMITs. It tells which box is nearer to them, and nothing rests on it.
+fn sends_commits(taken: &MoveKind) -> bool {
+    matches!(taken, MoveKind::Decided(_))
+}
+
 /// Writes a refusal into `answer`. Kept out of line, so that no caller reserves stack space for a second `Answer`, of some 3,200
 /// bytes.
 #[cold]
@@ -276,7 +281,7 @@ impl<'a, G: Gate> RunningOperation<'a, G> {
         ensures name { self.new.name ≡ self.old.name }
         ensures first { self.new.first ≡ self.old.first }
     {
-        if !self.send_calls(rt) {
+        if !self.send_calls(rt, false) {
             self.fault = Some(Fault::NoTenant);
         }
         self.take_replies(rt, own, takes, answer);
@@ -433,7 +438,7 @@ impl<'a, G: Gate> RunningOperation<'a, G> {
             if !self.send_ending(rt, taken, ticket) {
                 self.fault = Some(Fault::NoTenant);
             }
-        } else if taken.sends() && !self.send_calls(rt) {
+        } else if taken.sends() && !self.send_calls(rt, sends_commits(taken)) {
             self.fault = Some(Fault::NoTenant);
         }
     }
@@ -505,19 +510,19 @@ impl<'a, G: Gate> RunningOperation<'a, G> {
         self.entries.push_took(number, partition, place, reply);
     }
 
-    /// Sends the calls that the session waits for, and says whether all went out.
-    fn send_calls<R: Wait>(&mut self, rt: &R) -> bool
+    /// Sends the calls that the session waits for, COMMITs or others, and says whether all went out.
+    fn send_calls<R: Wait>(&mut self, rt: &R, commits: bool) -> bool
         requires { HasRoom (calls_waiting self.old.session.running) self.old.queues }
         ensures room { (calls : ℕ) → HasRoom (calls_waiting self.old.session.running + calls) self.old.queues → HasRoom calls self.new.queues }
         ensures sent { self.new.queues.sent ≡ self.old.queues.sent + calls_waiting self.old.session.running }
         ensures rest { (self.new.name ≡ self.old.name) × (self.new.session ≡ self.old.session) × (self.new.entries ≡ self.old.entries) × (self.new.first ≡ self.old.first) × (self.new.place ≡ self.old.place) × (self.new.fault ≡ self.old.fault) × (self.new.readings ≡ self.old.readings) }
     {
-        self.stage_calls();
+        self.stage_calls(commits);
         self.queues.dispatch(rt)
     }
 
-    /// Stages the calls that the session waits for.
-    fn stage_calls(&mut self)
+    /// Stages the calls that the session waits for, in boxes for COMMITs or for others.
+    fn stage_calls(&mut self, commits: bool)
         requires { HasRoom (calls_waiting self.old.session.running) self.old.queues }
         ensures room { (calls : ℕ) → HasRoom (calls_waiting self.old.session.running + calls) self.old.queues → HasRoom calls self.new.queues }
         ensures all { self.new.queues.sent ≡ self.old.queues.sent + calls_waiting self.old.session.running }
@@ -527,12 +532,13 @@ impl<'a, G: Gate> RunningOperation<'a, G> {
     {
         let count = self.session.pending_calls().unwrap();
         for nth in 0..count {
-            self.stage_call(nth);
+            self.stage_call(nth, commits);
         }
     }
 
-    /// Stages the call at this place, from 0, among those that the session waits for. It is made in the box in which it waits.
-    fn stage_call(&mut self, nth: u32)
+    /// Stages the call at this place, from 0, among those that the session waits for. It is made in the box in which it waits, one for
+    /// a COMMIT or for another call.
+    fn stage_call(&mut self, nth: u32, commits: bool)
         requires there { nth < calls_waiting self.old.session.running }
         requires room { HasRoom 1 self.old.queues }
         ensures room { (calls : ℕ) → HasRoom (1 + calls) self.old.queues → HasRoom calls self.new.queues }
@@ -542,7 +548,7 @@ impl<'a, G: Gate> RunningOperation<'a, G> {
             → IsStagedNext self.old.name self.old.queues.parts (self.old.first + 1 + self.old.queues.sent) (slice_get (map (call_message self.old.name.client self.old.session.ticket) (waiting_calls setup asked taken)) nth) self.old.queues.calls.items self.new.queues.calls.items }
         ensures rest { (self.new.name ≡ self.old.name) × (self.new.session ≡ self.old.session) × (self.new.entries ≡ self.old.entries) × (self.new.first ≡ self.old.first) × (self.new.place ≡ self.old.place) × (self.new.fault ≡ self.old.fault) × (self.new.readings ≡ self.old.readings) }
     {
-        let mut message = self.queues.take_box();
+        let mut message = self.queues.take_box(commits);
         let is_made = self.session.call_over(self.name.client, nth, &mut message);
         prove!(is_made);
         self.stage(message);
@@ -586,7 +592,7 @@ impl<'a, G: Gate> RunningOperation<'a, G> {
         ensures staged { (told : List Shown) → IsStagedNext self.old.name self.old.queues.parts (self.old.first + 1 + self.old.queues.sent) (slice_get (map (call_message self.old.name.client ticket) (ending (moved taken.now told))) nth) self.old.queues.calls.items self.new.queues.calls.items }
         ensures rest { (self.new.name ≡ self.old.name) × (self.new.session ≡ self.old.session) × (self.new.entries ≡ self.old.entries) × (self.new.first ≡ self.old.first) × (self.new.place ≡ self.old.place) × (self.new.fault ≡ self.old.fault) × (self.new.readings ≡ self.old.readings) }
     {
-        let mut message = self.queues.take_box();
+        let mut message = self.queues.take_box(false);
         let is_made = taken.ending_into(self.name.client, ticket, nth, &mut message);
         prove!(is_made);
         self.stage(message);

@@ -1,5 +1,6 @@
-use Rattle.std.proofs.Common.{◌+◌, ap, arith, refl, sym, ◌∙◌, Some, None, vec_len}
+use Rattle.std.proofs.Common.{◌+◌, ap, arith, refl, sym, ◌∙◌, Some, None}
 use Rattle.std.specs.Prelude.{if◌then◌else◌}
+use Rattle.std.specs.VecDeque.{deque_len}
 use Rattle.hub.proofs.Behind.{next-same}
 use Rattle.hub.proofs.operation.RunningOperation.stage_ending_call.Goals as goal
 
@@ -8,7 +9,7 @@ stage-requires g c = c.take_box-message.ensures.room 1 c.requires.room.there
 
 pub returns-clause-room : goal.returns-clause-room
 returns-clause-room g c calls room = record {
-  boxes = omega (arith, room.boxes, c.take_box-message.ensures.boxes, ap vec_len c.stage.ensures.boxes);
+  boxes = omega (arith, room.boxes, c.take_box-message.ensures.boxes, ap deque_len c.stage.ensures.boxes);
   there = c.stage.ensures.room calls (c.take_box-message.ensures.room (1 + calls) room.there);
 }
 
