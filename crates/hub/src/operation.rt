@@ -554,13 +554,16 @@ impl<'a, G: Gate> RunningOperation<'a, G> {
         self.stage(message);
     }
 
-    /// Sends the calls that a move sends at its operation's end, and says whether all went out.
+    /// Sends the calls that a move sends at its operation's end, if there are any, and says whether all went out.
     fn send_ending<R: Wait>(&mut self, rt: &R, taken: &MoveKind, ticket: u64) -> bool
         requires { HasRoom (length (ending (moved taken.now self.old.readings.value))) self.old.queues }
         ensures room { (calls : ℕ) → HasRoom (length (ending (moved taken.now self.old.readings.value)) + calls) self.old.queues → HasRoom calls self.new.queues }
         ensures sent { (told : List Shown) → self.new.queues.sent ≡ self.old.queues.sent + length (ending (moved taken.now told)) }
         ensures rest { (self.new.name ≡ self.old.name) × (self.new.session ≡ self.old.session) × (self.new.entries ≡ self.old.entries) × (self.new.first ≡ self.old.first) × (self.new.place ≡ self.old.place) × (self.new.fault ≡ self.old.fault) × (self.new.readings ≡ self.old.readings) }
     {
+        if !taken.has_ending(0) {
+            return true;
+        }
         self.stage_ending(taken, ticket);
         self.queues.dispatch(rt)
     }
