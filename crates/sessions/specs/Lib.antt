@@ -4,3 +4,5 @@ pub mod Answered
 pub mod Listened
 pub mod Ports
 pub mod Places
+pub mod Peers
+pub mod Passing

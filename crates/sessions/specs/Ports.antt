@@ -1,5 +1,5 @@
--- At which port a server listens, and how its sessions are answered.
-use Rattle.std.specs.Prelude.{◌≡◌, ◌⊎◌, ℕ}
+-- At which port a server listens, how many connections it serves, and how its sessions are answered.
+use Rattle.std.specs.Prelude.{◌≡◌, ◌⊎◌, ℕ, Bool}
 use Rattle.std.specs.Net.Socket.{socket_port}
 use Rattle.sessions.specs.declared.listener.Listener.{Listener}
 use Rattle.sessions.specs.declared.session_options.SessionOptions.{SessionOptions}
@@ -20,3 +20,11 @@ listener_of server = server.listener
 -- how the lines of its sessions are answered
 abbrev pub options_of : {L : Type 0} → Server L → SessionOptions
 options_of server = server.options
+
+-- how many connections it serves at a time
+abbrev pub most_of : {L : Type 0} → Server L → ℕ
+most_of server = server.sessions
+
+-- its connections are not counted: it stays until it is asked to end
+abbrev pub stays_of : {L : Type 0} → Server L → Bool
+stays_of server = server.stays

@@ -1,18 +1,30 @@
 //! Where a server's connections come from.
 ghost use Rattle.std.specs.Prelude.{◌≡◌, ◌↔◌, IfOk, IsTrue};
+ghost use Rattle.std.specs.declared.net.tcp.TcpStream.{TcpStream as Stream};
 ghost use Rattle.sessions.specs.Listened.{IsHome};
+ghost use Rattle.std.specs.IoError.{raw_os_error};
+ghost use Rattle.sessions.specs.Passing.{is_passing};
 
 use std::io;
 use std::net::{IpAddr, Ipv4Addr, Net, Shutdown, SocketAddr, TcpListener, TcpStream};
 use std::os::fd::OwnedFd;
 
 /// What connections are accepted from.
+///
+/// `has_given` and `is_closed` stand for what these calls leave. An implementation need not say what they are. Code for any
+/// listener learns them from these calls alone, so a contract that names them says that the call was made.
 pub trait Accept {
+    ghost has_given: { Self → Stream → Type 0 } = { λ _ _. Unit {0} };
+
+    ghost is_closed: { Self → Type 0 } = { λ _. Unit {0} };
+
     /// Waits for the next connection.
-    fn accept(&self) -> io::Result<TcpStream>;
+    fn accept(&self) -> io::Result<TcpStream>
+        ensures { IfOk result (has_given self.now) };
 
     /// From now on no connection is accepted: each `accept` fails, also one that waits already, and who connects is refused.
-    fn close(&self);
+    fn close(&self)
+        ensures { is_closed self.now };
 }
 
 /// A listener at a port of 127.0.0.1: the system reports no other address for it.
@@ -105,8 +117,10 @@ const PASSING: [i32; 18] = [
     113, // EHOSTUNREACH
 ];
 
-/// Whether an `accept` that failed so may go well a moment later.
-pub(crate) fn passes(error: &io::Error) -> bool {
+/// Whether an `accept` that failed so may go well a moment later: the system gave one of these codes.
+pub(crate) fn passes(error: &io::Error) -> bool
+    ensures { result ≡ is_passing (raw_os_error error.now) }
+{
     match error.raw_os_error() {
         Some(code) => PASSING.contains(&code),
         None => false,

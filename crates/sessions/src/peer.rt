@@ -1,5 +1,8 @@
 //! The other side of a connection, as a session reads it and writes to it.
-ghost use Rattle.std.specs.Prelude.{◌≡◌, ◌==◌, ◌-◌, ◌↔◌, cond, IsTrue};
+ghost use Rattle.std.specs.Prelude.{◌≡◌, ◌==◌, ◌-◌, ◌↔◌, None, OnOk, IsTrue};
+ghost use Rattle.std.specs.Io.{ReadsAtMost, WritesAtMost};
+ghost use Rattle.std.specs.Io.KnownBytes.{Keeps, ReadConsumes, WriteAppends};
+ghost use Rattle.sessions.specs.Peers.{flushes_left};
 
 use std::io::{self, Read, Write};
 use std::net::{Shutdown, TcpStream};
@@ -29,7 +32,7 @@ impl Peer<'_> {
     /// Whether this flush takes a look.
     fn is_look(&mut self) -> bool
         ensures look { IsTrue result ↔ (self.old.unlooked ≡ 0) }
-        ensures next { self.new.unlooked ≡ cond (self.old.unlooked == 0) 15 (self.old.unlooked - 1) }
+        ensures next { self.new.unlooked ≡ flushes_left self.old.unlooked }
     {
         if self.unlooked > 0 {
             self.unlooked -= 1;
@@ -55,7 +58,12 @@ impl Peer<'_> {
 }
 
 impl Read for Peer<'_> {
-    fn read(&mut self, buf: &mut [u8]) -> io::Result<usize> {
+    fn read(&mut self, buf: &mut [u8]) -> io::Result<usize>
+        ensures bound { ReadsAtMost result buf.new }
+        ensures bytes { ReadConsumes None None result buf.new }
+        // A read changes nothing of when the next look is.
+        ensures looks { self.new.unlooked ≡ self.old.unlooked }
+    {
         let mut stream = self.stream;
         if !self.is_last.load(Ordering::SeqCst) {
             let taken = stream.read(buf)?;
@@ -69,13 +77,21 @@ impl Read for Peer<'_> {
 }
 
 impl Write for Peer<'_> {
-    fn write(&mut self, buf: &[u8]) -> io::Result<usize> {
+    fn write(&mut self, buf: &[u8]) -> io::Result<usize>
+        ensures bound { WritesAtMost result buf.now }
+        ensures bytes { WriteAppends None None result buf.now }
+        // The first flush behind it takes a look.
+        ensures looks { self.new.unlooked ≡ 0 }
+    {
         self.unlooked = 0;
         let mut stream = self.stream;
         stream.write(buf)
     }
 
-    fn flush(&mut self) -> io::Result<()> {
+    fn flush(&mut self) -> io::Result<()>
+        ensures bytes { Keeps None None }
+        ensures looks { OnOk result (self.new.unlooked ≡ flushes_left self.old.unlooked) }
+    {
         if self.is_cut.load(Ordering::SeqCst) {
             return Err(io::Error::from(io::ErrorKind::ConnectionAborted));
         }

@@ -1,6 +1,6 @@
 //! Whom a server serves, and what those that ended left: what the server's lock keeps.
-ghost use Rattle.std.specs.Prelude.{◌≡◌, ◌≢◌, ◌⊎◌, ◌↔◌, ◌+◌, ◌-◌, ◌^◌, ◌++◌, ◌∷◌, [], false, true, min, slice_get, slice_set, vec_len, All, IfNone, IfOk, IfSome, IsTrue, None, Some};
-ghost use Rattle.sessions.specs.Places.{AreFree, AreTaken, LeavesTheSame, one_less, one_more};
+ghost use Rattle.std.specs.Prelude.{◌≡◌, ◌≢◌, ◌⊎◌, ◌↔◌, ◌+◌, ◌-◌, ◌^◌, false, true, min, slice_get, slice_set, vec_len, IfNone, IfOk, IfSome, IsTrue, MatchOption, None, Some};
+ghost use Rattle.sessions.specs.Places.{AreFree, AreTaken, IsKeptOrLost, LeavesTheSame, one_less, one_more, taken_count};
 
 use hub::Transcript;
 use std::alloc::{AllocError, Global};
@@ -20,6 +20,25 @@ pub(crate) struct ServedConnections {
     has_failed: bool,
     has_refused: bool,
     has_lost: bool,
+}
+
+/// What was changed of a server's connections.
+#[derive(Clone, Copy, PartialEq, Eq)]
+enum Change {
+    /// A connection began at this place.
+    Begun(usize),
+    /// The one at this place ended.
+    Ended(usize),
+    /// The one at this place could not be served.
+    GivenUp(usize),
+    /// A device failed.
+    Failed,
+}
+
+/// The receipt of a change: it was made in what a server's lock keeps.
+#[derive(Drop)]
+pub(crate) struct Receipt {
+    change: Change,
 }
 
 /// How many connections a server has.
@@ -120,20 +139,17 @@ impl ServedConnections {
         are_free(&self.places)
     }
 
-    /// How many connections there are.
-    pub(crate) fn connections(&self) -> Connections
-        ensures most { result.most ≡ vec_len self.now.places }
-        ensures begun { result.begun ≡ self.now.begun }
+    /// How many connections are served, and how many were begun.
+    pub(crate) fn counts(&self) -> (usize, u64)
+        ensures open { result.0 ≡ taken_count self.now.places.items }
+        ensures begun { result.1 ≡ self.now.begun }
     {
-        Connections {
-            open: self.places.iter().flatten().count(),
-            most: self.places.len(),
-            begun: self.begun,
-        }
+        (taken_count(&self.places), self.begun)
     }
 
     /// A connection has begun, and has this place.
-    pub(crate) fn begin(&mut self, place: usize, stream: Arc<TcpStream>)
+    pub(crate) fn begin(&mut self, place: usize, stream: Arc<TcpStream>) -> Receipt
+        ensures receipt { result.change ≡ Change.Begun place }
         ensures places { self.new.places.items ≡ slice_set self.old.places.items place (Some stream) }
         ensures left { self.new.left ≡ one_less self.old.left }
         ensures begun { self.new.begun ≡ min (self.old.begun + 1) (2 ^ 64 - 1) }
@@ -142,19 +158,32 @@ impl ServedConnections {
         self.left = self.left.map(|left| left.saturating_sub(1));
         self.begun = self.begun.saturating_add(1);
         self.put(place, Some(stream));
+        Receipt {
+            change: Change::Begun(place),
+        }
     }
 
-    /// The connection at this place is served no longer.
-    pub(crate) fn end(&mut self, place: usize)
+    /// The connection at this place is served no longer. The transcript that it left, if any, is kept behind those before, or is
+    /// lost where it finds no memory.
+    pub(crate) fn end(&mut self, place: usize, transcript: Option<Transcript>) -> Receipt
+        ensures receipt { result.change ≡ Change.Ended place }
         ensures places { self.new.places.items ≡ slice_set self.old.places.items place None }
         ensures left { (self.new.left ≡ self.old.left) × (self.new.begun ≡ self.old.begun) }
-        ensures others { LeavesTheSame self.old self.new }
+        ensures kept { MatchOption transcript (LeavesTheSame self.old self.new) (λ its. IsKeptOrLost its self.old self.new) }
+        ensures others { (self.new.has_failed ≡ self.old.has_failed) × (self.new.has_refused ≡ self.old.has_refused) }
     {
+        if let Some(transcript) = transcript {
+            self.keep(transcript);
+        }
         self.put(place, None);
+        Receipt {
+            change: Change::Ended(place),
+        }
     }
 
     /// The connection at this place can't be served, since no thread could be started: another may begin for it.
-    pub(crate) fn give_up(&mut self, place: usize)
+    pub(crate) fn give_up(&mut self, place: usize) -> Receipt
+        ensures receipt { result.change ≡ Change.GivenUp place }
         ensures places { self.new.places.items ≡ slice_set self.old.places.items place None }
         ensures left { (self.new.left ≡ one_more self.old.left) × (self.new.begun ≡ self.old.begun) }
         ensures failed { self.new.has_failed ≡ true }
@@ -164,13 +193,20 @@ impl ServedConnections {
         self.has_failed = true;
         self.left = self.left.map(|left| left.saturating_add(1));
         self.put(place, None);
+        Receipt {
+            change: Change::GivenUp(place),
+        }
     }
 
     /// A device failed.
-    pub(crate) fn fail(&mut self)
-        ensures { self.new ≡ record self.old { has_failed = true } }
+    pub(crate) fn fail(&mut self) -> Receipt
+        ensures receipt { result.change ≡ Change.Failed }
+        ensures failed { self.new ≡ record self.old { has_failed = true } }
     {
         self.has_failed = true;
+        Receipt {
+            change: Change::Failed,
+        }
     }
 
     /// A connection found no memory.
@@ -181,9 +217,8 @@ impl ServedConnections {
     }
 
     /// Keeps the transcript of a session that ended, behind those before. It is lost where it finds no memory.
-    pub(crate) fn keep(&mut self, transcript: Transcript)
-        ensures kept { ((self.new.transcripts.items ≡ self.old.transcripts.items ++ transcript ∷ []) × (self.new.has_lost ≡ self.old.has_lost))
-            ⊎ ((self.new.transcripts.items ≡ self.old.transcripts.items) × (self.new.has_lost ≡ true)) }
+    fn keep(&mut self, transcript: Transcript)
+        ensures kept { IsKeptOrLost transcript self.old self.new }
         ensures places { (self.new.places ≡ self.old.places) × (self.new.left ≡ self.old.left) × (self.new.begun ≡ self.old.begun) }
         ensures others { (self.new.has_failed ≡ self.old.has_failed) × (self.new.has_refused ≡ self.old.has_refused) }
     {
@@ -192,12 +227,11 @@ impl ServedConnections {
         }
     }
 
-    /// Shuts the connections down that are served.
-    pub(crate) fn shut(&self, how: Shutdown) {
-        for stream in self.places.iter().flatten() {
-            // One that its peer has closed needs none.
-            let _ = stream.shutdown(how);
-        }
+    /// Shuts the connections down that are served, and answers how many these are.
+    pub(crate) fn shut(&self, how: Shutdown) -> usize
+        ensures { result ≡ taken_count self.now.places.items }
+    {
+        shut_all(&self.places, how)
     }
 
     // Puts this at a place, if it is there.
@@ -210,6 +244,28 @@ impl ServedConnections {
             self.places[place] = stream;
         }
     }
+}
+
+/// Shuts the connections of these places down, and answers how many these are.
+fn shut_all(places: &[Option<Arc<TcpStream>>], how: Shutdown) -> usize
+    ensures { result ≡ taken_count places.now }
+{
+    let mut count = 0;
+    for place in places {
+        if let Some(stream) = place {
+            // One that its peer has closed needs none.
+            let _ = stream.shutdown(how);
+            count += 1;
+        }
+    }
+    count
+}
+
+/// How many places have a connection.
+fn taken_count(places: &[Option<Arc<TcpStream>>]) -> usize
+    ensures { result ≡ taken_count places.now }
+{
+    places.iter().filter(|place| place.is_some()).count()
 }
 
 /// So many places, none of which has a connection.

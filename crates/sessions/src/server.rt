@@ -1,11 +1,14 @@
 //! A server's connections: those that it serves, and what those that ended left.
-ghost use Rattle.std.specs.Prelude.{◌≡◌, IfOk, IfSome};
+ghost use Rattle.std.specs.Prelude.{◌≡◌, false, true, is_none, IfOk, IfSome, IsTrue};
 ghost use Rattle.std.specs.Arc.{arc_value};
-ghost use Rattle.sessions.specs.Ports.{listener_of, options_of};
+ghost use Rattle.sessions.specs.declared.served.Change.TheVariants.{Begun, Ended, Failed, GivenUp};
+ghost use Rattle.std.specs.IoError.{raw_os_error};
+ghost use Rattle.sessions.specs.Passing.{is_passing};
+ghost use Rattle.sessions.specs.Ports.{listener_of, most_of, options_of, stays_of};
 
 use crate::listener::{Accept, passes};
 use crate::peer::Peer;
-use crate::served::{Connections, Left, ServedConnections};
+use crate::served::{Connections, Left, Receipt, ServedConnections};
 use crate::session_options::SessionOptions;
 use hub::Transcript;
 use std::alloc::{AllocError, Global};
@@ -26,6 +29,8 @@ const GRACE: u64 = 5;
 pub struct Server<L> {
     alloc: Global,
     listener: L,
+    /// How many connections it serves at a time.
+    sessions: u32,
     stays: bool,
     options: SessionOptions,
     served: Mutex<ServedConnections>,
@@ -42,7 +47,9 @@ impl<L> Server<L> {
     pub fn counted(alloc: Global, listener: L, sessions: u32) -> Result<Server<L>, AllocError>
     where
         L: Drop,
-        ensures { IfOk result (λ server. listener_of server ≡ listener) }
+        ensures listener { IfOk result (λ server. listener_of server ≡ listener) }
+        ensures most { IfOk result (λ server. most_of server ≡ sessions) }
+        ensures stays { IfOk result (λ server. stays_of server ≡ false) }
     {
         let transcripts = Vec::with_capacity(alloc, sessions as usize)?;
         Server::of(alloc, listener, sessions, Some(sessions), transcripts)
@@ -53,7 +60,9 @@ impl<L> Server<L> {
     pub fn staying(alloc: Global, listener: L, sessions: u32) -> Result<Server<L>, AllocError>
     where
         L: Drop,
-        ensures { IfOk result (λ server. listener_of server ≡ listener) }
+        ensures listener { IfOk result (λ server. listener_of server ≡ listener) }
+        ensures most { IfOk result (λ server. most_of server ≡ sessions) }
+        ensures stays { IfOk result (λ server. stays_of server ≡ true) }
     {
         Server::of(alloc, listener, sessions, None, Vec::new(alloc))
     }
@@ -67,13 +76,16 @@ impl<L> Server<L> {
     ) -> Result<Server<L>, AllocError>
     where
         L: Drop,
-        ensures { IfOk result (λ server. listener_of server ≡ listener) }
+        ensures listener { IfOk result (λ server. listener_of server ≡ listener) }
+        ensures most { IfOk result (λ server. most_of server ≡ sessions) }
+        ensures stays { IfOk result (λ server. stays_of server ≡ is_none left) }
     {
         let stays = left.is_none();
         let served = ServedConnections::new(alloc, sessions, left, transcripts)?;
         Ok(Server {
             alloc,
             listener,
+            sessions,
             stays,
             options: SessionOptions {
                 strict: false,
@@ -89,6 +101,7 @@ impl<L> Server<L> {
     /// The same server, whose sessions have these options. Else they have none: they are not strict, and no put reads first.
     pub fn with_options(self, options: SessionOptions) -> Server<L>
         ensures listener { listener_of result ≡ listener_of self }
+        ensures connections { (most_of result ≡ most_of self) × (stays_of result ≡ stays_of self) }
         ensures options { options_of result ≡ options }
     {
         let mut server = self;
@@ -104,6 +117,7 @@ impl<L> Server<L> {
         let Server {
             alloc: _,
             listener: _,
+            sessions: _,
             stays: _,
             options: _,
             served,
@@ -123,7 +137,7 @@ impl<L> Server<L> {
 
     /// Whether its connections are not counted, so that it stays until it is asked to end.
     pub(crate) fn stays(&self) -> bool
-        ensures { result ≡ self.now.stays }
+        ensures { result ≡ stays_of self.now }
     {
         self.stays
     }
@@ -136,7 +150,10 @@ impl<L> Server<L> {
     }
 
     /// The peer of a connection that it serves.
-    pub(crate) fn peer<'s>(&'s self, stream: &'s TcpStream) -> Peer<'s> {
+    pub(crate) fn peer<'s>(&'s self, stream: &'s TcpStream) -> Peer<'s>
+        ensures stream { result.stream.now ≡ stream.now }
+        ensures looks { result.unlooked ≡ 0 }
+    {
         Peer {
             stream,
             is_last: &self.is_ending,
@@ -146,30 +163,45 @@ impl<L> Server<L> {
     }
 
     /// How many connections it has.
-    pub fn connections<R: Wait>(&self, rt: &R) -> Connections {
-        self.served.lock(rt).connections()
+    pub fn connections<R: Wait>(&self, rt: &R) -> Connections
+        ensures { result.most ≡ most_of self.now }
+    {
+        let (open, begun) = self.served.lock(rt).counts();
+        Connections {
+            open,
+            most: self.sessions as usize,
+            begun,
+        }
     }
 
     /// Notes that a device failed: the program reports so at its end.
-    pub fn fail<R: Wait>(&self, rt: &R) {
-        self.served.lock(rt).fail();
+    pub(crate) fn fail<R: Wait>(&self, rt: &R) -> Receipt
+        ensures { result.change ≡ Failed }
+    {
+        self.served.lock(rt).fail()
     }
 
-    /// Keeps the transcript of a session that ended.
-    pub(crate) fn keep<R: Wait>(&self, rt: &R, transcript: Transcript) {
-        self.served.lock(rt).keep(transcript);
-    }
-
-    /// The connection at this place is served no longer.
-    pub(crate) fn leave<R: Wait>(&self, rt: &R, place: usize) {
-        self.served.lock(rt).end(place);
+    /// The connection at this place is served no longer, and left this transcript, if any.
+    pub(crate) fn leave<R: Wait>(
+        &self,
+        rt: &R,
+        place: usize,
+        transcript: Option<Transcript>,
+    ) -> Receipt
+        ensures { result.change ≡ Ended place }
+    {
+        let ended = self.served.lock(rt).end(place, transcript);
         self.changed.notify_all();
+        ended
     }
 
     /// The connection at this place can't be served, since no thread could be started.
-    pub(crate) fn give_up<R: Wait>(&self, rt: &R, place: usize) {
-        self.served.lock(rt).give_up(place);
+    pub(crate) fn give_up<R: Wait>(&self, rt: &R, place: usize) -> Receipt
+        ensures { result.change ≡ GivenUp place }
+    {
+        let given_up = self.served.lock(rt).give_up(place);
         self.changed.notify_all();
+        given_up
     }
 
     /// Whether it is to end.
@@ -190,8 +222,14 @@ impl<L> Server<L> {
 
     /// Gives a connection this place. None where it is to end by now, and where it found no memory: then it is closed, and the
     /// program reports so at its end.
-    fn enter<R: Wait>(&self, rt: &R, place: usize, stream: TcpStream) -> Option<Arc<TcpStream>>
-        ensures { IfSome result (λ entered. arc_value entered ≡ stream) }
+    fn enter<R: Wait>(
+        &self,
+        rt: &R,
+        place: usize,
+        stream: TcpStream,
+    ) -> Option<(Arc<TcpStream>, Receipt)>
+        ensures stream { IfSome result (λ entered. arc_value entered.0 ≡ stream) }
+        ensures begun { IfSome result (λ entered. entered.1.change ≡ Begun place) }
     {
         let Ok((stream, same)) = shared(self.alloc, stream) else {
             self.served.lock(rt).refuse();
@@ -201,13 +239,8 @@ impl<L> Server<L> {
         if self.is_ending() {
             return None;
         }
-        served.begin(place, same);
-        Some(stream)
-    }
-
-    /// Shuts the connections down that are served.
-    fn shut<R: Wait>(&self, rt: &R, how: Shutdown) {
-        self.served.lock(rt).shut(how);
+        let begun = served.begin(place, same);
+        Some((stream, begun))
     }
 }
 
@@ -221,41 +254,55 @@ fn shared(alloc: Global, stream: TcpStream) -> Result<(Arc<TcpStream>, Arc<TcpSt
 }
 
 impl<L: Accept> Server<L> {
-    /// The next connection, and the place that it has. None where no more are accepted. An `accept` that failed is made again
-    /// once a session has ended or a moment has passed, where its error passes; one that does not pass ends the server.
-    pub(crate) fn next<R: Wait + Clock>(&self, rt: &R) -> Option<(usize, Arc<TcpStream>)> {
+    /// The next connection, the place that it has, and the receipt that it began there. None where no more are accepted. An
+    /// `accept` that failed is made again once a session has ended or a moment has passed, where its error passes; one that does
+    /// not pass ends the server.
+    pub(crate) fn next<R: Wait + Clock>(&self, rt: &R) -> Option<(usize, Arc<TcpStream>, Receipt)>
+        ensures given { IfSome result (λ next. L.has_given (listener_of self.now) (arc_value next.1)) }
+        ensures begun { IfSome result (λ next. next.2.change ≡ Begun next.0) }
+    {
         for _ in rt.forever() {
             let place = self.free_place(rt)?;
             match self.listener.accept() {
                 Ok(stream) => {
-                    if let Some(stream) = self.enter(rt, place, stream) {
-                        return Some((place, stream));
+                    if let Some((stream, begun)) = self.enter(rt, place, stream) {
+                        return Some((place, stream, begun));
                     }
                 }
-                Err(error) => self.note(rt, &error),
+                Err(error) => {
+                    if !self.goes_on_after(rt, &error) {
+                        return None;
+                    }
+                }
             }
         }
         unreachable!()
     }
 
-    /// Notes that an `accept` failed, unless that is since the server is to end.
-    fn note<R: Wait + Clock>(&self, rt: &R, error: &io::Error) {
+    /// Whether it goes on after an `accept` that failed: where the error passes, once a session has ended or a moment has passed.
+    /// An error that does not pass ends it. Either is noted, unless the `accept` failed since the server is to end.
+    fn goes_on_after<R: Wait + Clock>(&self, rt: &R, error: &io::Error) -> bool
+        ensures { IsTrue result → IsTrue (is_passing (raw_os_error error.now)) }
+    {
         if self.is_ending() {
-            return;
+            return false;
         }
-        self.fail(rt);
-        if passes(error) {
-            let served = self.served.lock(rt);
-            let _ = self
-                .changed
-                .wait_timeout(rt, served, Duration::from_millis(MOMENT));
-        } else {
+        let _failed = self.fail(rt);
+        if !passes(error) {
             self.end(rt);
+            return false;
         }
+        let served = self.served.lock(rt);
+        let _ = self
+            .changed
+            .wait_timeout(rt, served, Duration::from_millis(MOMENT));
+        true
     }
 
     /// Ends it: no more connections are accepted, and each session ends at its next read.
-    pub(crate) fn end<R: Wait>(&self, rt: &R) {
+    pub(crate) fn end<R: Wait>(&self, rt: &R)
+        ensures { L.is_closed (listener_of self.now) }
+    {
         {
             let _served = self.served.lock(rt);
             self.is_ending.store(true, Ordering::SeqCst);
@@ -267,12 +314,14 @@ impl<L: Accept> Server<L> {
     /// Closes the listener. Where the server is to end, the connections are shut down, so that each session ends at its next
     /// read. One that has not ended after some seconds, since its peer takes nothing or its lines take long, answers no more
     /// lines.
-    pub(crate) fn close<R: Wait + Clock>(&self, rt: &R) {
+    pub(crate) fn close<R: Wait + Clock>(&self, rt: &R)
+        ensures { L.is_closed (listener_of self.now) }
+    {
         self.listener.close();
         if !self.is_ending() {
             return;
         }
-        self.shut(rt, Shutdown::Read);
+        let _cut = self.served.lock(rt).shut(Shutdown::Read);
         let served = self.served.lock(rt);
         let (served, _) = self.changed.wait_timeout_while(
             rt,
@@ -282,6 +331,6 @@ impl<L: Accept> Server<L> {
         );
         drop(served);
         self.is_cut.store(true, Ordering::SeqCst);
-        self.shut(rt, Shutdown::Both);
+        let _cut = self.served.lock(rt).shut(Shutdown::Both);
     }
 }

@@ -1,9 +1,12 @@
 //! The connections of a server, each served in a thread of its own.
-ghost use Rattle.std.specs.Prelude.{IsTrue};
+ghost use Rattle.std.specs.Prelude.{◌≡◌, false, IsTrue};
 ghost use Rattle.std.specs.Io.KnownBytes.{IsAtEnd};
+ghost use Rattle.sessions.specs.declared.served.Change.TheVariants.{Ended};
+ghost use Rattle.sessions.specs.Ports.{listener_of, stays_of};
 
 use crate::line_session::run_session_as;
 use crate::listener::Accept;
+use crate::served::Receipt;
 use crate::server::Server;
 use hub::{Gate, Hub};
 use line_protocol::Name;
@@ -36,17 +39,27 @@ pub fn serve_connections<H: Threads + Wait + Clock + Sync, L: Accept + Sync, R: 
     names: &[Name],
     server: &Server<L>,
     reader: &mut R,
-) {
+)
+    // No connection is accepted any more.
+    ensures closed { L.is_closed (listener_of server.now) }
+    ensures unread { stays_of server.now ≡ false → reader.new ≡ reader.old }
+{
     if !server.stays() {
         return accept_all(rt, alloc, hub, names, server);
     }
-    thread::scope(thread::scope_env(), rt, |scope| {
-        let started = scope.spawn(move || accept_all(rt, alloc, hub, names, server));
-        if started.is_err() || !is_read_out(rt, reader) {
-            server.fail(rt);
-        }
-        server.end(rt);
-    });
+    thread::scope(
+        thread::scope_env(),
+        rt,
+        |scope|
+            ensures { L.is_closed (listener_of server.entry.now) }
+        {
+            let started = scope.spawn(move || accept_all(rt, alloc, hub, names, server));
+            if started.is_err() || !is_read_out(rt, reader) {
+                let _failed = server.fail(rt);
+            }
+            server.end(rt);
+        },
+    );
 }
 
 // Reads the input to its end, and keeps nothing of it. Whether no read failed.
@@ -73,26 +86,34 @@ fn accept_all<H: Threads + Wait + Clock + Sync, L: Accept + Sync>(
     hub: &Hub<Open>,
     names: &[Name],
     server: &Server<L>,
-) {
-    thread::scope(thread::scope_env(), rt, |scope| {
-        for _ in rt.forever() {
-            let Some((place, stream)) = server.next(rt) else {
-                break;
-            };
-            let started = scope.spawn(move || serve_connection(
-                rt,
-                alloc,
-                hub,
-                names,
-                server,
-                (place, stream),
-            ));
-            if started.is_err() {
-                server.give_up(rt, place);
+)
+    ensures { L.is_closed (listener_of server.now) }
+{
+    thread::scope(
+        thread::scope_env(),
+        rt,
+        |scope|
+            ensures { L.is_closed (listener_of server.entry.now) }
+        {
+            for _ in rt.forever() {
+                let Some((place, stream, _begun)) = server.next(rt) else {
+                    break;
+                };
+                let started = scope.spawn(move || serve_connection(
+                    rt,
+                    alloc,
+                    hub,
+                    names,
+                    server,
+                    (place, stream),
+                ));
+                if started.is_err() {
+                    let _given_up = server.give_up(rt, place);
+                }
             }
-        }
-        server.close(rt);
-    });
+            server.close(rt);
+        },
+    );
 }
 
 // Answers one connection's lines. Its seat has ended before the stream is closed, so that its client may connect again
@@ -103,23 +124,23 @@ fn serve_connection<H: Wait, L>(
     hub: &Hub<Open>,
     names: &[Name],
     server: &Server<L>,
-    (place, stream): (usize, Arc<TcpStream>),
-) {
+    entered: (usize, Arc<TcpStream>),
+) -> Receipt
+    // Its place is given back.
+    ensures { result.change ≡ Ended entered.0 }
+{
+    let (place, stream) = entered;
     // A stream that can't be told so only answers later.
     let _ = stream.set_nodelay(true);
     let mut reader = server.peer(&stream);
     let mut writer = reader;
     let options = server.options();
     let (transcript, _) = run_session_as(rt, alloc, hub, names, options, &mut reader, &mut writer);
-    // Where journals are cut, nothing is settled at the end.
-    if hub.epoch() == 0 {
-        if let Some(transcript) = transcript {
-            server.keep(rt, transcript);
-        }
-    }
     if server.is_ending() {
         reader.part();
     }
     drop(stream);
-    server.leave(rt, place);
+    // Where journals are cut, nothing is settled at the end.
+    let kept = if hub.epoch() == 0 { transcript } else { None };
+    server.leave(rt, place, kept)
 }
