@@ -4,3 +4,4 @@ pub mod Journals
 pub mod Rounds
 pub mod Short
 pub mod UsedMore
+pub mod LongAmong

@@ -1,5 +1,5 @@
 -- The calls of a round, of which each that is for the partition was served or left.
-use Rattle.std.proofs.Common.{◌≡◌, ◌<◌, ◌+◌, ℕ, List, length, get_or, set, ap, sym, subst, ⊎_elim, arith}
+use Rattle.std.proofs.Common.{◌<◌, ◌+◌, ℕ, List, length, get_or, set, sym, subst, ⊎_elim, arith}
 use Rattle.std.proofs.lemmas.Bool.Decides.{eqb_tells}
 use Rattle.std.proofs.lemmas.List.{get_or-set_same, get_or-set_other}
 

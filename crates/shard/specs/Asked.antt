@@ -4,6 +4,7 @@ use Rattle.plain_store.specs.declared.message.Message.{Message}
 use Rattle.shard.specs.declared.shard.CallState.TheVariants.{Pending}
 use Rattle.shard.specs.declared.shard.Staged.{Staged}
 use Rattle.shard.specs.declared.seat_call.SeatCall.{SeatCall}
+use Rattle.shard.specs.declared.jobs.SeatReply.{SeatReply}
 
 -- a message, but for its reply
 abbrev pub without_reply : Message → Message
@@ -31,6 +32,14 @@ asked_of call =
 
 abbrev pub asked_by : Staged → AskedCall
 asked_by staged = asked_of staged.call
+
+-- the reply is to this call: to its seat, under its number, and in its message
+pub record IsReplyTo (call : SeatCall) (reply : SeatReply) : Type 0 where
+  pub partition : reply.partition ≡ call.partition
+  pub tenant : reply.tenant ≡ call.tenant
+  pub seat : reply.seat ≡ call.seat
+  pub number : reply.number ≡ call.number
+  pub message : without_reply reply.message.value ≡ without_reply call.message.value
 
 -- it is for this partition, one of so many, and is as it was staged
 abbrev pub IsOpenAt : (partition parts : ℕ) → Staged → Type 0

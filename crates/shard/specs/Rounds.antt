@@ -1,5 +1,5 @@
 -- How long journals grow.
-use Rattle.std.specs.Prelude.{◌≡◌, ℕ, ◌<◌, ◌≤◌, ◌*◌, List, length}
+use Rattle.std.specs.Prelude.{◌≡◌, ℕ, zero, suc, ◌<◌, ◌≤◌, ◌+◌, ◌*◌, List, cond, length, nat_le}
 use Rattle.plain_store.specs.declared.calls.Call.TheVariants.{Collect}
 use Rattle.plain_store.specs.declared.calls.Reply.{Reply}
 use Rattle.partition.specs.Accounts.{Account, IsEntered, events_at}
@@ -19,6 +19,12 @@ pub record IsCollected (old new : List Account) (tenant keep : ℕ) : Type 0 whe
 abbrev pub AreFewer : ℕ → List Account → ℕ → ℕ → Type 0
 AreFewer least accounts from end =
     (tenant : ℕ) → from ≤ tenant → tenant < end → length (events_at accounts tenant) < least
+
+-- how many of the n journals from this tenant's on have at least so many events
+abbrev pub long_among : ℕ → List Account → ℕ → ℕ → ℕ
+long_among least accounts from zero = 0
+long_among least accounts from (suc n) =
+    long_among least accounts from n + cond (nat_le least (length (events_at accounts (from + n)))) 1 0
 
 -- the tenant's journal has just as many events as an epoch, so it is to be cut
 abbrev pub IsLongAt : ℕ → List Account → ℕ → Type 0

@@ -1,8 +1,8 @@
 //! Epochs that a worker cuts.
-ghost use Rattle.std.specs.Prelude.{◌≡◌, ◌<◌, ◌≤◌, ◌+◌, ◌*◌, ◌^◌, false, true, length, IfErr, IfOk, IfSome, IfNone, IsErrOf, IsTrue, OnErr};
+ghost use Rattle.std.specs.Prelude.{◌≡◌, ◌<◌, ◌≤◌, ◌+◌, ◌-◌, ◌*◌, ◌^◌, false, true, length, IfErr, IfOk, IfSome, IfNone, IsErrOf, IsTrue, OnErr};
 ghost use Rattle.partition.specs.Accounts.{IsCut, events_at};
 ghost use Rattle.shard.specs.Journals.{WasCut};
-ghost use Rattle.shard.specs.Rounds.{AreFewer};
+ghost use Rattle.shard.specs.Rounds.{AreFewer, long_among};
 
 use crate::shard::{Shard, ShardState, is_full};
 use crate::sink::Sink;
@@ -33,8 +33,8 @@ pub struct Search {
     from: u32,
     /// No journal from there on is to be cut.
     is_over: bool,
-    /// A journal that is long enough could not be cut.
-    is_refused: bool,
+    /// How many journals that are long enough could not be cut, of those that the last step passed over.
+    refused: u32,
 }
 
 /// Cuts a tenant's journal, and answers its epoch, where it has at least so many events and can be cut now. It stays as it is
@@ -45,6 +45,7 @@ fn cut_long(state: &mut ShardState, tenant: u32, least: u32) -> Result<CutEpoch,
     ensures of_journal { IfOk result (λ cut. (cut.partition ≡ state.old.partition) × (cut.tenant ≡ tenant)) }
     ensures long { IfOk result (λ cut. least ≤ length cut.epoch.events.items) }
     ensures short { IsErrOf result Uncut.Short → length (events_at state.old.book tenant) < least }
+    ensures refused { IsErrOf result Uncut.Refused → least ≤ length (events_at state.old.book tenant) }
     ensures unchanged { OnErr result (state.new.book ≡ state.old.book) }
     ensures partition { state.new.partition ≡ state.old.partition }
 {
@@ -66,6 +67,7 @@ pub fn cut_full(state: &mut ShardState, tenant: u32, epoch: u32) -> Result<CutEp
     ensures cut { IfOk result (λ cut. IsCut state.old.book state.new.book tenant cut.epoch) }
     ensures full { IfOk result (λ cut. (0 < epoch) × (2 * epoch ≤ length cut.epoch.events.items)) }
     ensures short { IsErrOf result Uncut.Short → 0 < epoch → length (events_at state.old.book tenant) < 2 * epoch }
+    ensures refused { IsErrOf result Uncut.Refused → (0 < epoch) × (2 * epoch ≤ length (events_at state.old.book tenant)) }
     ensures of_journal { IfOk result (λ cut. (cut.partition ≡ state.old.partition) × (cut.tenant ≡ tenant)) }
     ensures unchanged { OnErr result (state.new.book ≡ state.old.book) }
     ensures partition { state.new.partition ≡ state.old.partition }
@@ -80,41 +82,47 @@ pub fn cut_full(state: &mut ShardState, tenant: u32, epoch: u32) -> Result<CutEp
 impl Search {
     /// One from the first tenant on.
     fn new() -> Search
-        ensures { (result.from ≡ 0) × (result.is_over ≡ false) × (result.is_refused ≡ false) }
+        ensures { (result.from ≡ 0) × (result.is_over ≡ false) × (result.refused ≡ 0) }
     {
         Search {
             from: 0,
             is_over: false,
-            is_refused: false,
+            refused: 0,
         }
     }
 
     /// Cuts the first journal, from where the search stands, that has at least so many events and can be cut now, and answers its
     /// epoch. The search goes on behind it, or is over.
+    #[tactic(auto, using(crate::proofs::LongAmong::long_short, crate::proofs::LongAmong::long_refused))]
     fn cut_next(&mut self, state: &mut ShardState, least: u32) -> Option<CutEpoch>
         requires { 0 < least }
         ensures cut { IfSome result (λ cut. IsCut state.old.book state.new.book cut.tenant cut.epoch) }
         ensures of_partition { IfSome result (λ cut. cut.partition ≡ state.old.partition) }
         ensures long { IfSome result (λ cut. least ≤ length cut.epoch.events.items) }
         ensures later { IfSome result (λ cut. (self.old.from ≤ cut.tenant) × (self.new.from ≡ cut.tenant + 1)) }
-        // A journal that it passed over is short, where all could be cut.
-        ensures passed { IfSome result (λ cut. self.new.is_refused ≡ false → AreFewer least state.old.book self.old.from cut.tenant) }
-        ensures none { IfNone result (self.new.is_refused ≡ false → AreFewer least state.old.book self.old.from (length state.old.book)) }
+        // A journal that it passed over is short, where all could be cut; and it counts each that could not.
+        ensures passed { IfSome result (λ cut. self.new.refused ≡ 0 → AreFewer least state.old.book self.old.from cut.tenant) }
+        ensures none { IfNone result (self.new.refused ≡ 0 → AreFewer least state.old.book self.old.from (length state.old.book)) }
+        ensures counted { IfSome result (λ cut. self.new.refused ≡ long_among least state.old.book self.old.from (cut.tenant - self.old.from)) }
+        ensures all { IfNone result (self.new.refused ≡ long_among least state.old.book self.old.from (length state.old.book - self.old.from)) }
         ensures unchanged { IfNone result (state.new.book ≡ state.old.book) }
         ensures over { IfNone result (self.new.is_over ≡ true) }
         ensures going { IfSome result (λ _. self.new.is_over ≡ self.old.is_over) }
     {
+        let mut refused = 0;
         for tenant in self.from..state.book.tenants() {
             match cut_long(state, tenant, least) {
                 Ok(cut) => {
                     self.from = tenant + 1;
+                    self.refused = refused;
                     return Some(cut);
                 }
                 Err(Uncut::Short) => {}
-                Err(Uncut::Refused) => self.is_refused = true,
+                Err(Uncut::Refused) => refused += 1,
             }
         }
         self.is_over = true;
+        self.refused = refused;
         None
     }
 }

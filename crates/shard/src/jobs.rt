@@ -1,8 +1,9 @@
 //! The queues of tasks, one for each partition. One rule serves all of them: the key of a job has as its home the partition
 //! that the job carries.
 ghost use Rattle.std.specs.Prelude.{◌≡◌, ◌<◌, ⊤, ℕ, IfOk};
-ghost use Rattle.crossbeam_channel.specs.Claims.{IsSeatAt};
+ghost use Rattle.crossbeam_channel.specs.Claims.{IsSeatAt, view as tally};
 ghost use Rattle.crossbeam_channel.specs.Ends.{sends_on, receives_on, ruled_capacity};
+ghost use Rattle.shard.specs.Queues.{QueueEnd, unsent};
 ghost use Rattle.shard.specs.Journals.{CameSo};
 
 use crate::seat_call::SeatCall;
@@ -27,7 +28,9 @@ impl From<Fault> for Refusal {
 
     ghost from_gives = { λ fault refusal. refusal ≡ refusal_of fault };
 
-    fn from(fault: Fault) -> Refusal {
+    fn from(fault: Fault) -> Refusal
+        ensures { result ≡ refusal_of fault }
+    {
         match fault {
             Fault::NoTenant => Refusal::NoTenant,
             Fault::Late => Refusal::Late,
@@ -71,43 +74,44 @@ pub enum Task {
     Cut,
 }
 
-/// The rule of every queue.
+/// The rule of every queue. Each end's pass counts the tasks that were sent or taken with it.
 pub struct Homed;
 
-impl Protocol<Task, ()> for Homed {
+impl Protocol<Task, u64> for Homed {
     ghost use Rattle.shard.specs.Jobs.{AreAtHome};
 
     ghost holds = { λ tasks views. AreAtHome tasks };
 
-    ghost first = { tt };
+    ghost first = { 0 };
 }
 
-impl Outcome<Task, ()> for Homed {
+impl Outcome<Task, u64> for Homed {
+    ghost use Rattle.std.specs.Prelude.{◌≡◌, ◌+◌};
     ghost use Rattle.shard.specs.Jobs.{IsTaskAtHome};
 
-    ghost then = { λ v task w. IsTaskAtHome task };
+    ghost then = { λ v task w. (w ≡ v + 1) × IsTaskAtHome task };
 }
 
-impl Lesson<Task, ()> for Homed {
+impl Lesson<Task, u64> for Homed {
     ghost use Rattle.std.specs.Prelude.{⊤};
 
     ghost fact = { λ v tasks. ⊤ };
 }
 
-impl Split<()> for Homed {
+impl Split<u64> for Homed {
     ghost left = { λ v. v };
 
-    ghost right = { λ v. v };
+    ghost right = { λ v. 0 };
 }
 
-type Sending = RuledSender<Task, (), Homed>;
+type Sending = RuledSender<Task, u64, Homed>;
 
-type Receiving = RuledReceiver<Task, (), Homed>;
+type Receiving = RuledReceiver<Task, u64, Homed>;
 
-/// An end that sends tasks, with its right to. A contract sees how many tasks its queue has room for.
+/// An end that sends tasks, with its right to. A contract sees how many tasks its queue has room for, and how many this end sent.
 pub struct JobSender {
     queue: Sending,
-    pass: Pass<Task, ()>,
+    pass: Pass<Task, u64>,
 }
 
 // What lies in it is released here, so that no crate above proves it anew.
@@ -118,17 +122,18 @@ impl Drop for JobSender {
 }
 
 impl Model for JobSender {
-    ghost Value = { ℕ };
+    ghost Value = { QueueEnd };
 
-    ghost view = { λ s. ruled_capacity (sends_on s.queue) };
+    ghost view = { λ s. record { capacity = ruled_capacity (sends_on s.queue); count = tally s.pass } };
 
     ghost invariant = { λ s. IsSeatAt (sends_on s.queue) s.pass };
 }
 
-/// The end that a worker takes tasks from, with its right to. A contract sees how many tasks its queue has room for.
+/// The end that a worker takes tasks from, with its right to. A contract sees how many tasks its queue has room for, and how
+/// many were taken.
 pub struct JobReceiver {
     queue: Receiving,
-    pass: Pass<Task, ()>,
+    pass: Pass<Task, u64>,
 }
 
 // What lies in it is released here, so that no crate above proves it anew.
@@ -139,19 +144,24 @@ impl Drop for JobReceiver {
 }
 
 impl Model for JobReceiver {
-    ghost Value = { ℕ };
+    ghost Value = { QueueEnd };
 
-    ghost view = { λ s. ruled_capacity (receives_on s.queue) };
+    ghost view = { λ s. record { capacity = ruled_capacity (receives_on s.queue); count = tally s.pass } };
 
     ghost invariant = { λ s. IsSeatAt (receives_on s.queue) s.pass };
 }
 
+/// That no end sends to a queue any more. `JobReceiver::take` alone makes one.
+#[derive(Drop)]
+pub struct QueueOver(());
+
 /// A queue of at most `capacity` tasks.
 pub fn job_queue(alloc: Global, capacity: usize) -> Result<(JobSender, JobReceiver), AllocError>
     requires { 0 < capacity }
-    ensures { IfOk result (λ ends. (ends.0 ≡ capacity) × (ends.1 ≡ capacity)) }
+    ensures room { IfOk result (λ ends. (ends.0.capacity ≡ capacity) × (ends.1.capacity ≡ capacity)) }
+    ensures none { IfOk result (λ ends. (ends.0.count ≡ 0) × (ends.1.count ≡ 0)) }
 {
-    let (sending, receiving, mut pass) = bounded_with::<Task, (), Homed, Global>(alloc, capacity)?;
+    let (sending, receiving, mut pass) = bounded_with::<Task, u64, Homed, Global>(alloc, capacity)?;
     let other = sending.another::<Homed>(&mut pass);
     let sender = JobSender {
         queue: sending,
@@ -165,14 +175,15 @@ pub fn job_queue(alloc: Global, capacity: usize) -> Result<(JobSender, JobReceiv
 }
 
 impl JobSender {
-    ghost use Rattle.std.specs.Prelude.{◌≡◌, IfErr, IfOk};
+    ghost use Rattle.std.specs.Prelude.{◌≡◌, ◌+◌, IfErr, IfOk, OnErr, OnOk};
     ghost use Rattle.shard.specs.Jobs.{IsTaskAtHome};
 
     /// Waits for room, and puts the task at the back. An `Err` hands the task back.
     pub fn send<R: Wait>(&mut self, rt: &R, task: Task) -> Result<(), Task>
         requires { IsTaskAtHome task }
+        ensures sent { OnOk result (self.new ≡ record self.old { count = self.old.count + 1 }) }
         ensures refused { IfErr result (λ back. back ≡ task) }
-        ensures queue { self.new ≡ self.old }
+        ensures unsent { OnErr result (self.new ≡ self.old) }
     {
         match self.queue.send_as::<Homed, R>(rt, &mut self.pass, task) {
             Ok(()) => Ok(()),
@@ -180,9 +191,9 @@ impl JobSender {
         }
     }
 
-    /// Another end that sends to the same queue.
+    /// Another end that sends to the same queue, and has sent nothing.
     pub fn another(&mut self) -> Result<JobSender, AllocError>
-        ensures other { IfOk result (λ other. other ≡ self.old) }
+        ensures other { IfOk result (λ other. other ≡ unsent self.old) }
         ensures queue { self.new ≡ self.old }
     {
         let queue = self.queue.try_clone()?;
@@ -192,14 +203,18 @@ impl JobSender {
 }
 
 impl JobReceiver {
-    ghost use Rattle.std.specs.Prelude.{◌≡◌, IfSome};
+    ghost use Rattle.std.specs.Prelude.{◌≡◌, ◌+◌, IfOk, OnErr, OnOk};
     ghost use Rattle.shard.specs.Jobs.{IsTaskAtHome};
 
-    /// Waits for a task, and takes it from the front. None once no end sends any more.
-    pub fn take<R: Wait>(&mut self, rt: &R) -> Option<Task>
-        ensures home { IfSome result IsTaskAtHome }
-        ensures queue { self.new ≡ self.old }
+    /// Waits for a task, and takes it from the front. An `Err` once no end sends any more.
+    pub fn take<R: Wait>(&mut self, rt: &R) -> Result<Task, QueueOver>
+        ensures home { IfOk result IsTaskAtHome }
+        ensures taken { OnOk result (self.new ≡ record self.old { count = self.old.count + 1 }) }
+        ensures over { OnErr result (self.new ≡ self.old) }
     {
-        self.queue.recv_as::<Homed, R>(rt, &mut self.pass).ok()
+        match self.queue.recv_as::<Homed, R>(rt, &mut self.pass) {
+            Ok(task) => Ok(task),
+            Err(_) => Err(QueueOver(())),
+        }
     }
 }

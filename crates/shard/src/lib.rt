@@ -17,11 +17,11 @@ mod worker;
 
 pub use collector::Collector;
 pub use gate::Gate;
-pub use jobs::{Fault, Job, JobReceiver, JobSender, SeatReply, Task, job_queue};
+pub use jobs::{Fault, Job, JobReceiver, JobSender, QueueOver, SeatReply, Task, job_queue};
 pub use keep_settings::{KeepSettings, TenantKeep};
 pub use round::{Round, collect_at};
 pub use seat_call::SeatCall;
 pub use seat_name::SeatName;
 pub use shard::{CallState, FollowUp, Shard, ShardConfig, ShardState, Staged};
 pub use sink::Sink;
-pub use worker::{replied, work};
+pub use worker::{WorkEnded, replied, work};

@@ -1,5 +1,6 @@
 //! One partition, as all that serve there reach it: its book behind a lock, and the numbers of its calls.
 ghost use Rattle.std.specs.Prelude.{◌≡◌, ◌⊎◌, ◌<◌, ◌≤◌, ◌+◌, ◌-◌, ◌*◌, ◌^◌, ◌↔◌, ◌||◌, false, true, All, cond, map, min, nat_le, length, IfOk, IfSome, OnErr, IsErrOf, IsSomeAnd, IsTrue};
+ghost use Rattle.std.specs.Sync.Mutex.{mutex_guard_value};
 ghost use Rattle.std.specs.VecDeque.{deque_capacity, deque_len};
 ghost use Rattle.partition.specs.Events.{event};
 ghost use Rattle.partition.specs.Journals.{IsLate};
@@ -124,6 +125,8 @@ impl FollowUp {
 }
 
 impl Shard {
+    ghost use Rattle.shard.specs.Held.{HasItsJournals};
+
     /// A partition with this book, whose journals are its own.
     pub fn new(config: ShardConfig, collector: Arc<Collector>, book: Book) -> Shard
         requires { ∥ AreOf config.parts config.partition book ∥₁ }
@@ -155,18 +158,24 @@ impl Shard {
     }
 
     /// Takes the lock where it is free.
-    pub fn try_lock(&self) -> Option<MutexGuard<'_, ShardState>> {
+    pub fn try_lock(&self) -> Option<MutexGuard<'_, ShardState>>
+        ensures { IfSome result (λ guard. HasItsJournals (mutex_guard_value guard)) }
+    {
         self.state.try_lock()
     }
 
     /// Waits for the lock.
-    pub fn lock<R: Wait>(&self, rt: &R) -> MutexGuard<'_, ShardState> {
+    pub fn lock<R: Wait>(&self, rt: &R) -> MutexGuard<'_, ShardState>
+        ensures { HasItsJournals (mutex_guard_value result) }
+    {
         self.state.lock(rt)
     }
 
     /// Waits for the lock, and looks for a while before it sleeps: a partition is held for a microsecond or two, and a thread that
     /// slept is woken later than that, with the lock kept for it meanwhile.
-    pub fn lock_soon<R: Wait>(&self, rt: &R) -> MutexGuard<'_, ShardState> {
+    pub fn lock_soon<R: Wait>(&self, rt: &R) -> MutexGuard<'_, ShardState>
+        ensures { HasItsJournals (mutex_guard_value result) }
+    {
         for _ in 0..YIELDS {
             if let Some(guard) = self.look() {
                 return guard;
@@ -177,7 +186,9 @@ impl Shard {
     }
 
     /// Takes the lock where it gets free within so many looks.
-    fn look(&self) -> Option<MutexGuard<'_, ShardState>> {
+    fn look(&self) -> Option<MutexGuard<'_, ShardState>>
+        ensures { IfSome result (λ guard. HasItsJournals (mutex_guard_value guard)) }
+    {
         for _ in 0..LOOKS {
             if let Some(guard) = self.state.try_lock() {
                 return Some(guard);

@@ -1,10 +1,12 @@
 //! What serves one partition's queue, and alone cuts its journals.
-ghost use Rattle.std.specs.Prelude.{◌≡◌, ◌<◌, IfSome};
+ghost use Rattle.std.specs.Prelude.{◌≡◌, ◌<◌, IfNone, IfSome};
+ghost use Rattle.shard.specs.Asked.{IsReplyTo};
 ghost use Rattle.shard.specs.Journals.{CameSo};
+ghost use Rattle.shard.specs.declared.jobs.SeatReply.{SeatReply as Told};
 
 use crate::epoch_cut::{cut_all, cut_full, hand_over};
 use crate::gate::Gate;
-use crate::jobs::{Fault, Job, JobReceiver, SeatReply, Task};
+use crate::jobs::{Fault, Job, JobReceiver, QueueOver, SeatReply, Task};
 use crate::round::collect_at;
 use crate::seat_call::SeatCall;
 use crate::shard::{FollowUp, Shard};
@@ -13,33 +15,50 @@ use crossbeam_channel::{SendError, Sender};
 use std::sync::Wait;
 use std::thread;
 
-// Sends the reply. Hands it back where memory was refused; where the seat is gone the reply is dropped.
-fn try_reply<R: Wait>(rt: &R, to: &Sender<SeatReply>, reply: SeatReply) -> Option<SeatReply>
-    ensures { IfSome result (λ back. back ≡ reply) }
-{
-    match to.send(rt, reply) {
-        Err(SendError::OutOfMemory(back)) => Some(back),
-        Ok(()) | Err(SendError::Disconnected(_)) => None,
+/// Where the reply to a call of a seat goes.
+///
+/// `has_come` stands for what a reply that was sent leaves. An implementation need not say what it is. Code for any of them learns
+/// it from this call alone, so a contract that names it says that the reply was sent.
+trait ReplyTo {
+    ghost has_come: { Self → Told → Type 0 } = { λ _ _. Unit {0} };
+
+    /// Sends the reply. Hands it back where memory was refused; where the seat is gone the reply is dropped.
+    fn try_reply<R: Wait>(&self, rt: &R, reply: SeatReply) -> Option<SeatReply>
+        ensures sent { IfNone result (has_come self.now reply) }
+        ensures back { IfSome result (λ back. back ≡ reply) };
+}
+
+impl ReplyTo for Sender<SeatReply> {
+    fn try_reply<R: Wait>(&self, rt: &R, reply: SeatReply) -> Option<SeatReply>
+        ensures back { IfSome result (λ back. back ≡ reply) }
+    {
+        match self.send(rt, reply) {
+            Err(SendError::OutOfMemory(back)) => Some(back),
+            Ok(()) | Err(SendError::Disconnected(_)) => None,
+        }
     }
 }
 
 // Sends the reply, again and again where memory was refused.
-fn send_reply<R: Wait>(rt: &R, to: &Sender<SeatReply>, reply: SeatReply) {
-    if let Some(left) = try_reply(rt, to, reply) {
-        send_again(rt, to, left);
+fn send_reply<T: ReplyTo, R: Wait>(rt: &R, to: &T, reply: SeatReply)
+    ensures { T.has_come to.now reply }
+{
+    let mut left = reply;
+    for _ in rt.forever() {
+        match to.try_reply(rt, left) {
+            None => return,
+            Some(back) => left = back,
+        }
+        thread::yield_now();
     }
+    unreachable!()
 }
 
-// Sends a reply for which memory was refused, until it is not.
-fn send_again<R: Wait>(rt: &R, to: &Sender<SeatReply>, reply: SeatReply) {
-    let mut left = Some(reply);
-    for _ in rt.forever() {
-        let Some(again) = left.take() else {
-            break;
-        };
-        thread::yield_now();
-        left = try_reply(rt, to, again);
-    }
+/// That a partition's worker has ended, since no end sends to its queue any more. `work` alone makes one.
+#[derive(Drop)]
+pub struct WorkEnded {
+    pub partition: u32,
+    over: QueueOver,
 }
 
 /// Does what it is sent until no end sends any more. After each task it cuts the journals that have `epoch` events.
@@ -49,24 +68,40 @@ pub fn work<G: Gate, S: Sink, R: Wait>(
     shard: &Shard,
     gate: &G,
     sink: &S,
-) {
+) -> WorkEnded
+    ensures { result.partition ≡ shard.now.config.partition }
+{
     for _ in rt.forever() {
-        let Some(task) = tasks.take(rt) else {
-            break;
-        };
-        if let Task::Serve(job) = task {
-            serve_job(rt, shard, gate, sink, job);
+        match tasks.take(rt) {
+            Ok(Task::Serve(Job { call, reply_to })) => {
+                serve_job(rt, shard, gate, sink, call, &reply_to);
+            }
+            Ok(Task::Cut) => {}
+            Err(over) => {
+                let partition = shard.config.partition;
+                return WorkEnded { partition, over };
+            }
         }
         if shard.config.epoch > 0 {
             let _ = cut_all(rt, shard, sink);
         }
     }
+    unreachable!()
 }
 
-/// Serves a job and sends the reply. A journal that is full is cut first, under the same lock, and its epoch goes to the sink
+/// Serves a call and sends the reply. A journal that is full is cut first, under the same lock, and its epoch goes to the sink
 /// after the reply.
-fn serve_job<G: Gate, S: Sink, R: Wait>(rt: &R, shard: &Shard, gate: &G, sink: &S, job: Job) {
-    let Job { mut call, reply_to } = job;
+fn serve_job<G: Gate, S: Sink, T: ReplyTo, R: Wait>(
+    rt: &R,
+    shard: &Shard,
+    gate: &G,
+    sink: &S,
+    call: SeatCall,
+    reply_to: &T,
+)
+    ensures { (reply : Told) × IsReplyTo call reply × T.has_come reply_to.now reply }
+{
+    let mut call = call;
     let mut follow_up = FollowUp::nothing();
     let tenant = call.tenant;
     let mut guard = shard.lock(rt);
@@ -74,7 +109,7 @@ fn serve_job<G: Gate, S: Sink, R: Wait>(rt: &R, shard: &Shard, gate: &G, sink: &
     let cut = cut_full(state, tenant, shard.config.epoch);
     let outcome = state.serve_sent(&shard.config, gate, &mut call, &mut follow_up);
     drop(guard);
-    send_reply(rt, &reply_to, replied(call, outcome));
+    send_reply(rt, reply_to, replied(call, outcome));
     if let Ok(cut) = cut {
         hand_over(sink, cut);
     }

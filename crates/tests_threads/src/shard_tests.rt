@@ -83,7 +83,7 @@ fn job(alloc: Global, number: u64) -> Option<(Job, Receiver<SeatReply>)> {
         tenant: 0,
         seat: 1,
         number,
-        turn: number,
+        arrival: number,
         message: Box::new(alloc, message).ok()?,
     };
     let (reply_to, replies) = unbounded(alloc).ok()?;

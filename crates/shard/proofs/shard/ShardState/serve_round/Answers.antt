@@ -1,4 +1,4 @@
-use Rattle.std.proofs.Common.{◌≡◌, ◌<◌, ◌+◌, ℕ, true, false, arith, get_or, length, map, set, ap, refl, ◌∙◌, subst, sym}
+use Rattle.std.proofs.Common.{◌≡◌, ◌<◌, ◌+◌, ℕ, true, false, arith, get_or, length, map, set, ap, refl, ◌∙◌, sym}
 use Rattle.std.proofs.Math.Seq.{map-set_same}
 use Rattle.std.specs.VecDeque.{deque_len, deque_capacity}
 use Rattle.shard.specs.Asked.{asked_by, IsOpenAt}
