@@ -1,6 +1,7 @@
 -- The shards of the workers that were started: for `start_all`.
-use Rattle.std.proofs.Common.{◌≡◌, ◌+◌, ℕ, List, [], ◌∷◌, ◌++◌, length, subst, sym, arith}
-use Rattle.std.specs.Prelude.{IfOk, Result, Ok, Err}
+use Rattle.std.proofs.Common.{◌≡◌, ◌+◌, ◌∙◌, ℕ, List, [], ◌∷◌, ◌++◌, length, ap, subst, sym, arith}
+use Rattle.std.specs.Prelude.{IfOk, Result, Ok, Err, map}
+use Rattle.std.proofs.lemmas.List.{map-append}
 use Rattle.std.specs.Arc.{arc_value}
 use Rattle.std.specs.declared.sync.Arc.{Arc}
 use Rattle.std.specs.declared.alloc.Global.{Global}
@@ -27,3 +28,12 @@ shared-config config at shard (Ok shared) same its =
     let P : Shard → Type 0 = λ d. IsConfigOf config at d.config in
     subst P (sym same) its
 shared-config config at shard (Err fault) same its = tt
+
+-- one element more of each of two lists that agree
+pub mapped-more : {X Y : Type 0} (f : X → ℕ) (g : Y → ℕ) (xs more : List X) (ys others : List Y) (x : X) (y : Y) → map f xs ≡ map g ys → f x ≡ g y
+    → more ≡ xs ++ x ∷ [] → others ≡ ys ++ y ∷ [] → map f more ≡ map g others
+mapped-more f g xs more ys others x y so_far same is are =
+    let left : map f more ≡ map f xs ++ f x ∷ [] = ap (map f) is ∙ map-append f xs (x ∷ []) in
+    let right : map g others ≡ map g ys ++ g y ∷ [] = ap (map g) are ∙ map-append g ys (y ∷ []) in
+    let both : map f xs ++ f x ∷ [] ≡ map g ys ++ g y ∷ [] = cc in
+    left ∙ both ∙ sym right

@@ -1,5 +1,5 @@
 -- Who has a session, and what is kept of the clients that had one.
-use Rattle.std.specs.Prelude.{◌≢◌, ◌⊎◌, ◌+◌, ◌<◌, ℕ, Bool, false, true, Option, None, Some, IsSome, IsSomeAnd, cond, max, min, nat_eq, nat_le, nat_lt, slice_get, ◌||◌, ◌^◌, ◌-◌}
+use Rattle.std.specs.Prelude.{◌≡◌, ◌≢◌, ◌⊎◌, ◌+◌, ◌<◌, ℕ, Bool, false, true, Option, None, Some, IsSome, IsSomeAnd, cond, max, min, nat_eq, nat_le, nat_lt, slice_get, ◌||◌, ◌^◌, ◌-◌}
 use Rattle.std.specs.Option.{option_map_or}
 use Rattle.indexmap.specs.IndexMap.{get, index_map_len, spare}
 use Rattle.plain_store.specs.declared.refusal.Refusal.{Refusal}
@@ -7,6 +7,8 @@ use Rattle.plain_store.specs.declared.refusal.Refusal.TheVariants.{Busy, Clients
 use Rattle.hub.specs.declared.register.Register.{Register}
 use Rattle.hub.specs.declared.register.KnownClient.{KnownClient}
 use Rattle.hub.specs.declared.register.Admission.{Admission}
+use Rattle.hub.specs.declared.register.Departure.{Departure}
+use Rattle.shard.specs.declared.seat_name.SeatName.{SeatName}
 
 -- what is kept of a tenant's client, if it had a session
 abbrev pub known_of : Register → ℕ → ℕ → Option KnownClient
@@ -59,6 +61,14 @@ next_session seats known base = record {
 abbrev pub after_session : (turn counter ticket : ℕ) → KnownClient → KnownClient
 after_session turn counter ticket row =
     cond (nat_eq row.turn turn) (record row { is_open = false; counter = max row.counter counter; ticket = ticket }) row
+
+-- the session of this name ended, with this counter, after so many transactions
+pub record IsDeparture (name : SeatName) (counter ticket : ℕ) (departure : Departure) : Type 0 where
+  pub tenant : departure.tenant ≡ name.tenant
+  pub client : departure.client ≡ name.client
+  pub turn : departure.turn ≡ name.turn
+  pub counter_is : departure.counter ≡ counter
+  pub ticket_is : departure.ticket ≡ ticket
 
 -- there is room for what is kept of the client
 abbrev pub HasRoomFor : Register → ℕ → ℕ → Type 0

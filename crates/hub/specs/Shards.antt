@@ -7,6 +7,10 @@ use Rattle.closed_store.specs.declared.config.Config.{Config}
 use Rattle.shard.specs.declared.shard.Shard.{Shard}
 use Rattle.shard.specs.declared.shard.ShardConfig.{ShardConfig}
 
+-- which partition a shard is that of
+abbrev pub partition_of : Arc Shard Global → ℕ
+partition_of shard = (arc_value shard).config.partition
+
 -- it is this partition's, in a store of this config
 pub record IsConfigOf (config : Config) (at : ℕ) (its : ShardConfig) : Type 0 where
   pub partition : its.partition ≡ at

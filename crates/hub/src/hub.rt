@@ -1,16 +1,17 @@
 //! A hub: what seats share, and the threads that serve them.
 ghost use Rattle.stamps.specs.Bounds.{IsParts};
 ghost use Rattle.hub.specs.Hubs.{config_view, AllSoundBooks};
-ghost use Rattle.hub.specs.Registered.{is_unopened};
+ghost use Rattle.hub.specs.Registered.{IsDeparture, is_unopened};
+ghost use Rattle.shard.specs.Queues.{unsent};
 ghost use Rattle.shard.specs.UsedAt.{AreUsagesAt};
-ghost use Rattle.std.specs.Prelude.{◌≡◌, ◌≤◌, ◌<◌, ◌+◌, ◌↔◌, ◌⊎◌, true, false, [], length, vec_len, vec_capacity, Ok, IfOk, IfErr, OnOk, IsErrOf, IsTrue};
+ghost use Rattle.std.specs.Prelude.{◌≡◌, ◌≤◌, ◌<◌, ◌+◌, ◌↔◌, ◌⊎◌, true, false, [], length, map, slice_get, vec_len, vec_capacity, Ok, IfOk, IfErr, IfSome, OnOk, IsErrOf, IsTrue};
 
 use crate::closing::take_out;
 use crate::dispatcher::Dispatcher;
-use crate::register::Register;
+use crate::register::{Departure, Register};
 use crate::seal::Sealed;
 use crate::seat::{Ends, Seat};
-use crate::start::{HubFault, PartitionLists, collector_of, join_all, share, start_all};
+use crate::start::{HubFault, PartitionLists, Worker, collector_of, join_all, share, start_all};
 use closed_store::{Closed, Config, Transcript};
 use partition::{Counts, Journal, Usage};
 use plain_store::{Reading, Readings, Refusal};
@@ -19,7 +20,7 @@ use stamps::{Client, Counter, Keep, Limits};
 use std::alloc::{AllocError, Global};
 use std::marker::Model;
 use std::sync::{Arc, Mutex, Wait};
-use std::thread::{JoinHandle, Threads};
+use std::thread::Threads;
 use tenant_sessions::ClientSession;
 
 /// The running store. Any thread may hold a `&` to it and take seats; one thread opens and closes it.
@@ -28,13 +29,13 @@ use tenant_sessions::ClientSession;
 #[derive(Drop)]
 pub struct Hub<G> {
     config: Config,
-    alloc: Global,
+    pub(crate) alloc: Global,
     queues: Mutex<Vec<JobSender>>,
     clients: Mutex<Register>,
     collector: Arc<Collector>,
     gate: Arc<G>,
     shards: Vec<Arc<Shard>>,
-    threads: Sealed<Vec<JoinHandle<()>>>,
+    threads: Sealed<Vec<Worker>>,
     journals: Vec<Vec<Journal>>,
     counts: Vec<Counts>,
 }
@@ -76,7 +77,7 @@ impl<G: Gate + Send + Sync + Drop + 'static> Hub<G> {
         } = lists;
         if let Err(fault) = started {
             drop(queues);
-            join_all(rt, threads);
+            let _ = join_all(rt, threads);
             return Err(fault);
         }
         Ok(Hub {
@@ -114,7 +115,7 @@ impl<G: Gate + Send + Sync + Drop + 'static> Hub<G> {
             mut counts,
         } = self;
         drop(queues);
-        join_all(rt, threads.into_inner());
+        let _ = join_all(rt, threads.into_inner());
         for shard in shards {
             let partition = journals.len() as u32;
             let (of_book, count) = take_out(alloc, &config, partition, shard);
@@ -131,10 +132,6 @@ impl<G: Gate + Send + Sync + Drop + 'static> Hub<G> {
 }
 
 impl<G> Hub<G> {
-    pub(crate) fn alloc(&self) -> Global {
-        self.alloc
-    }
-
     /// After how many events of a journal its partition's worker cuts it; 0 where none is ever cut.
     pub fn epoch(&self) -> u32
         ensures { result ≡ self.now.epoch }
@@ -151,7 +148,15 @@ impl<G> Hub<G> {
     }
 
     /// Ends this session of a client. A later one of that client goes on.
-    pub(crate) fn leave<R: Wait>(&self, rt: &R, name: &SeatName, counter: Counter, ticket: u64) {
+    pub(crate) fn leave<R: Wait>(
+        &self,
+        rt: &R,
+        name: &SeatName,
+        counter: Counter,
+        ticket: u64,
+    ) -> Departure
+        ensures { IsDeparture name.now counter ticket result }
+    {
         let SeatName {
             tenant,
             client,
@@ -159,7 +164,7 @@ impl<G> Hub<G> {
             ..
         } = *name;
         let mut clients = self.clients.lock(rt);
-        clients.leave(tenant, client, turn, counter, ticket);
+        clients.leave(tenant, client, turn, counter, ticket)
     }
 }
 
@@ -191,8 +196,18 @@ impl<G: Gate> Hub<G> {
 
     /// How many clients of a tenant had a session: none more than its limits say. It waits for openings and ends of sessions, and
     /// for nothing else of them.
-    pub fn clients<R: Wait>(&self, rt: &R, tenant: u32) -> usize {
-        self.clients.lock(rt).clients(tenant)
+    pub fn clients<R: Wait>(&self, rt: &R, tenant: u32) -> usize
+        ensures few { IfSome (slice_get self.now.limits tenant) (λ its. result ≤ its.clients) }
+        ensures past { length self.now.limits ≤ tenant → result ≡ 0 }
+    {
+        match self.config.limits.get(tenant as usize) {
+            Some(its) => self
+                .clients
+                .lock(rt)
+                .clients(tenant)
+                .min(its.clients as usize),
+            None => 0,
+        }
     }
 
     /// Opens a session of a client. The tests come first, in the order of the refusals' numbers, and then memory: 10 where
@@ -257,7 +272,7 @@ impl<G: Gate> Hub<G> {
         ensures queues { IfOk result (λ ends. (ends.queues.client ≡ client) × (ends.queues.parts ≡ self.now.parts)) }
     {
         let parts = self.config.parts;
-        let jobs = self.more_queues(rt)?;
+        let jobs = ends_of(self.alloc, &mut *self.queues.lock(rt))?;
         let shards = self.shards.as_slice();
         let queues = Dispatcher::new(self.alloc, client, parts, shards, &*self.gate, jobs)?;
         let Ok(session) = ClientSession::hello(self.alloc, counter) else {
@@ -273,15 +288,17 @@ impl<G: Gate> Hub<G> {
             readings,
         })
     }
+}
 
-    /// An end of each queue.
-    fn more_queues<R: Wait>(&self, rt: &R) -> Result<Vec<JobSender>, AllocError> {
-        let mut guard = self.queues.lock(rt);
-        let queues = &mut *guard;
-        let mut more = Vec::with_capacity(self.alloc, queues.len())?;
-        for queue in queues.iter_mut() {
-            more.push(queue.another()?)?;
-        }
-        Ok(more)
+/// Another end of each of these queues, which has sent nothing.
+fn ends_of(alloc: Global, queues: &mut Vec<JobSender>) -> Result<Vec<JobSender>, AllocError>
+    ensures ends { IfOk result (λ ends. ends.items ≡ map unsent queues.old.items) }
+    ensures kept { OnOk result (queues.new.items ≡ queues.old.items) }
+{
+    let mut ends = Vec::with_capacity(alloc, queues.len())?;
+    for at in 0..queues.len() {
+        let queue = &mut queues[at];
+        ends.push_reserved(queue.another()?);
     }
+    Ok(ends)
 }

@@ -67,7 +67,8 @@ impl<'a, G: Gate> Seat<'a, G> {
         if let Some(refusal) = self.refuses() {
             return tell_refusal(refusal, answer);
         }
-        match keys_of(self.hub.alloc(), items) {
+        let hub = self.hub;
+        match keys_of(hub.alloc, items) {
             Ok(keys) => self.get_all_into(rt, keys.as_slice(), answer),
             Err(AllocError) => tell_refusal(Refusal::OutOfMemory, answer),
         }

@@ -54,6 +54,16 @@ pub struct Admission {
     pub ticket: u64,
 }
 
+/// That a session of a client ended, which had this turn, with its counter and its last ticket. `Register::leave` alone makes one.
+#[derive(Clone, Copy)]
+pub struct Departure {
+    tenant: u32,
+    client: Client,
+    turn: u64,
+    counter: Counter,
+    ticket: u64,
+}
+
 /// How many transactions a client of which this is kept began.
 fn tickets(known: &Option<KnownClient>) -> u64
     ensures { result ≡ tickets_of known.now }
@@ -207,7 +217,15 @@ impl Register {
     }
 
     /// Ends the session of a client that had this turn, with its counter and its last ticket. A later one of that client goes on.
-    pub fn leave(&mut self, tenant: u32, client: Client, turn: u64, counter: Counter, ticket: u64)
+    pub fn leave(
+        &mut self,
+        tenant: u32,
+        client: Client,
+        turn: u64,
+        counter: Counter,
+        ticket: u64,
+    ) -> Departure
+        ensures told { (result.tenant ≡ tenant) × (result.client ≡ client) × (result.turn ≡ turn) × (result.counter ≡ counter) × (result.ticket ≡ ticket) }
         ensures known { known_of self.new tenant client ≡ option_map (after_session turn counter ticket) (known_of self.old tenant client) }
         ensures others { (of_tenant : ℕ) (other : ℕ) → IsAnother tenant client of_tenant other → known_of self.new of_tenant other ≡ known_of self.old of_tenant other }
         ensures seats { self.new.seats ≡ self.old.seats }
@@ -216,6 +234,13 @@ impl Register {
             && let Some(row) = rows.get_mut(&client.get())
         {
             row.leave(turn, counter, ticket);
+        }
+        Departure {
+            tenant,
+            client,
+            turn,
+            counter,
+            ticket,
         }
     }
 }

@@ -13,6 +13,7 @@ ghost use Rattle.shard.specs.Jobs.{refusal_of};
 use crate::dispatcher::Dispatcher;
 use crate::hub::Hub;
 use crate::operation::{RunningOperation, tell_refusal};
+use crate::register::Departure;
 use crate::seat_request::SeatRequest;
 use closed_store::{Entry, EntryList, Transcript};
 use plain_store::{Answer, Readings, Refusal};
@@ -195,7 +196,7 @@ impl<'a, G: Gate> Seat<'a, G> {
     {
         let mut seat = self;
         if !seat.stopped {
-            seat.leave(rt);
+            let _ = seat.leave(rt);
         }
         let Seat { operation, .. } = seat;
         let RunningOperation { name, entries, .. } = operation;
@@ -223,8 +224,9 @@ impl<'a, G: Gate> Seat<'a, G> {
             tell_refusal(refusal, answer);
             return;
         }
-        let alloc = self.hub.alloc();
-        let parts = self.hub.parts();
+        let hub = self.hub;
+        let alloc = hub.alloc;
+        let parts = hub.parts();
         let Ok(()) = self.operation.prepare(alloc, parts, request) else {
             tell_refusal(Refusal::OutOfMemory, answer);
             return;
@@ -266,15 +268,18 @@ impl<'a, G: Gate> Seat<'a, G> {
             self.ticket = self.ticket.saturating_add(1);
         }
         if let Err(fault) = told {
-            self.leave(rt);
+            let _ = self.leave(rt);
             tell_refusal(fault.into(), answer);
         }
     }
 
     /// Ends the client's session, with the counter that it has come to.
-    fn leave<R: Wait>(&self, rt: &R) {
+    fn leave<R: Wait>(&self, rt: &R) -> Departure
+        ensures session { (result.tenant ≡ self.now.name.tenant) × (result.client ≡ self.now.name.client) × (result.turn ≡ self.now.name.turn) }
+        ensures counter { result.counter ≡ self.now.counter }
+    {
         let name = self.operation.name;
         let counter = self.operation.session.counter();
-        self.hub.leave(rt, &name, counter, self.ticket);
+        self.hub.leave(rt, &name, counter, self.ticket)
     }
 }

@@ -1,18 +1,18 @@
 //! The threads of a hub, and how they are started.
-ghost use Rattle.std.specs.Prelude.{◌≡◌, ◌≤◌, ◌<◌, ◌+◌, [], All, length, vec_len, vec_capacity, IfErr, IfOk, OnOk};
+ghost use Rattle.std.specs.Prelude.{◌≡◌, ◌≤◌, ◌<◌, ◌+◌, ◌-◌, ◌^◌, [], All, length, map, vec_len, vec_capacity, IfErr, IfOk, OnOk};
 ghost use Rattle.std.specs.Arc.{arc_value};
-ghost use Rattle.hub.specs.Shards.{IsConfigOf, AreShardsFrom};
+ghost use Rattle.hub.specs.Shards.{IsConfigOf, AreShardsFrom, partition_of};
 
 use closed_store::Config;
 use partition::{Book, Counts, Journal};
 use shard::{
-    Collector, Gate, JobReceiver, JobSender, KeepSettings, Shard, ShardConfig, Sink, job_queue,
-    work,
+    Collector, Gate, JobReceiver, JobSender, KeepSettings, Shard, ShardConfig, Sink, WorkEnded,
+    job_queue, work,
 };
 use std::alloc::{AllocError, Global};
 use std::sync::{Arc, Wait};
 use std::thread;
-use std::thread::{JoinHandle, Threads};
+use std::thread::{Promise, PromisedHandle, Threads};
 
 /// Why no hub was opened. Nothing is left of it then.
 #[derive(Clone, Copy, Debug, PartialEq, Eq)]
@@ -29,8 +29,41 @@ impl From<AllocError> for HubFault {
 
     ghost from_gives = { λ _ fault. fault ≡ faults.OutOfMemory };
 
-    fn from(_refused: AllocError) -> HubFault {
+    fn from(_refused: AllocError) -> HubFault
+        ensures { result ≡ faults.OutOfMemory }
+    {
         HubFault::OutOfMemory
+    }
+}
+
+/// The partition whose worker a thread runs.
+#[derive(Clone, Copy, Drop)]
+pub struct WorksAt {
+    partition: u32,
+}
+
+impl Promise<WorkEnded> for WorksAt {
+    ghost use Rattle.std.specs.Prelude.{◌≡◌};
+
+    ghost kept_by = { λ its ended. ended.partition ≡ its.partition };
+}
+
+/// A thread that runs a worker.
+pub type Worker = PromisedHandle<WorkEnded, WorksAt>;
+
+/// How many workers have ended.
+#[derive(Drop)]
+pub struct EndedCount {
+    count: usize,
+}
+
+impl EndedCount {
+    /// Counts one more.
+    fn add(&mut self, _ended: WorkEnded)
+        requires { self.old.count < 2 ^ 64 - 1 }
+        ensures { self.new.count ≡ self.old.count + 1 }
+    {
+        self.count += 1;
     }
 }
 
@@ -58,7 +91,7 @@ pub fn collector_of(alloc: Global, config: &Config) -> Result<Arc<Collector>, Hu
 pub struct PartitionLists {
     pub shards: Vec<Arc<Shard>>,
     pub queues: Vec<JobSender>,
-    pub threads: Vec<JoinHandle<()>>,
+    pub threads: Vec<Worker>,
     pub journals: Vec<Vec<Journal>>,
     pub counts: Vec<Counts>,
 }
@@ -82,11 +115,16 @@ impl PartitionLists {
     }
 }
 
-/// Waits until each of these threads has ended.
-pub fn join_all<R: Threads>(rt: &R, threads: Vec<JoinHandle<()>>) {
+/// Waits until each of these workers has ended, and counts them.
+pub fn join_all<R: Threads>(rt: &R, threads: Vec<Worker>) -> EndedCount
+    ensures { result.count ≡ vec_len threads }
+{
+    let _most = threads.len();
+    let mut ended = EndedCount { count: 0 };
     for thread in threads {
-        thread.join(rt);
+        ended.add(thread.join(rt));
     }
+    ended
 }
 
 /// Starts a worker for each partition, with its shard and its queue. Where it fails, the threads started so far are in the lists.
@@ -108,7 +146,10 @@ pub fn start_all<
     requires threads { vec_len lists.old.threads + config.now.parts ≤ vec_capacity lists.old.threads }
     ensures started { OnOk result (length lists.new.shards.items ≡ length lists.old.shards.items + config.now.parts) }
     ensures shards { OnOk result (lists.old.shards.items ≡ [] → AreShardsFrom config.now 0 lists.new.shards.items) }
-    ensures queues { OnOk result (lists.old.queues.items ≡ [] → All (λ queue. queue ≡ config.now.queue) lists.new.queues.items) }
+    ensures queues { OnOk result (lists.old.queues.items ≡ [] → All (λ queue. (queue.capacity ≡ config.now.queue) × (queue.count ≡ 0)) lists.new.queues.items) }
+    // Each worker is that of the shard in its place.
+    ensures workers { OnOk result (map (λ thread. thread.promise.partition) lists.old.threads.items ≡ map partition_of lists.old.shards.items
+        → map (λ thread. thread.promise.partition) lists.new.threads.items ≡ map partition_of lists.new.shards.items) }
     ensures rest { (lists.new.journals ≡ lists.old.journals) × (lists.new.counts ≡ lists.old.counts) }
 {
     for partition in 0..config.parts {
@@ -145,7 +186,7 @@ fn shard_of(
     share(alloc, Shard::new(its, collector, book))
 }
 
-/// Starts the worker of a partition.
+/// Starts the worker of this shard's partition, which takes these tasks.
 fn start_worker<
     G: Gate + Send + Sync + Drop + 'static,
     S: Sink + Send + Sync + Drop + 'static,
@@ -156,11 +197,20 @@ fn start_worker<
     shard: Arc<Shard>,
     gate: &Arc<G>,
     sink: &Arc<S>,
-) -> Result<JoinHandle<()>, HubFault> {
+) -> Result<Worker, HubFault>
+    ensures { IfOk result (λ thread. thread.promise.partition ≡ partition_of shard) }
+{
     let handle = rt.clone()?;
     let gate = Arc::try_clone(gate)?;
     let sink = Arc::try_clone(sink)?;
-    match thread::spawn(rt, move || work(&handle, tasks, &shard, &*gate, &*sink)) {
+    let its = WorksAt {
+        partition: shard.config.partition,
+    };
+    match thread::spawn_with(
+        rt,
+        its,
+        move || work(&handle, tasks, &shard, &*gate, &*sink),
+    ) {
         Ok(thread) => Ok(thread),
         Err(_) => Err(HubFault::Thread),
     }

@@ -5,8 +5,9 @@ use Rattle.std.specs.Arc.{arc_value}
 use Rattle.std.specs.declared.sync.Arc.{Arc}
 use Rattle.std.specs.declared.alloc.Global.{Global}
 use Rattle.shard.specs.declared.shard.Shard.{Shard}
+use Rattle.shard.specs.Queues.{QueueEnd}
 use Rattle.hub.specs.Shards.{IsConfigOf, AreShardsFrom}
-use Rattle.hub.proofs.Started.{shards-more}
+use Rattle.hub.proofs.Started.{mapped-more, shards-more}
 use Rattle.hub.proofs.start.start_all.Goals as goal
 
 -- there is none yet
@@ -18,10 +19,11 @@ loop-partition-init g c = record {
   threads = omega arith;
   journals = refl;
   counts = refl;
-  of_room = λ none. subst (All (λ (queue : ℕ). queue ≡ c.args.config.now.queue)) (sym none) (All-nil (λ (queue : ℕ). queue ≡ c.args.config.now.queue));
+  of_room = λ none. subst (All (λ (queue : QueueEnd). (queue.capacity ≡ c.args.config.now.queue) × (queue.count ≡ 0))) (sym none) (All-nil (λ (queue : QueueEnd). (queue.capacity ≡ c.args.config.now.queue) × (queue.count ≡ 0)));
   of_config = λ none.
       let P : List (Arc Shard Global) → Type 0 = λ shards. AreShardsFrom c.args.config.now 0 shards in
       subst P (sym none) tt;
+  workers = λ same. same;
 }
 
 -- this one is that of the next partition
@@ -39,11 +41,13 @@ loop-partition-preserved g c =
       journals = so_far.journals;
       counts = so_far.counts;
       of_room = λ none.
-          let P : ℕ → Type 0 = λ queue. queue ≡ config.queue in
-          subst (All P) (sym c.push_reserved-in-loop-partition.ensures.items) (All-append P _ _ (so_far.of_room none) (All-cons P _ [] c.in_ok-queue.ensures.0 (All-nil P)));
+          let P : QueueEnd → Type 0 = λ queue. (queue.capacity ≡ config.queue) × (queue.count ≡ 0) in
+          subst (All P) (sym c.push_reserved-in-loop-partition.ensures.items) (All-append P _ _ (so_far.of_room none) (All-cons P _ [] (c.in_ok-queue.ensures.room.0, c.in_ok-queue.ensures.none.0) (All-nil P)));
       of_config = λ none.
           let P : List (Arc Shard Global) → Type 0 = λ ds. AreShardsFrom config 0 ds in
           let Q : ℕ → Type 0 = λ n. IsConfigOf config n (arc_value c.in_ok-shard.shard).config in
           let count : c.loop-partition.partition ≡ 0 + length shards = omega (arith, so_far.started, ap length none) in
           subst P (sym c.push_reserved.ensures.items) (shards-more config 0 shards c.in_ok-shard.shard (so_far.of_config none) (subst Q count c.in_ok-shard.ensures.config));
+      workers = λ same. mapped-more _ _ _ _ _ _ _ _ (so_far.workers same) (c.in_ok-thread.ensures ∙ ap (λ (d : Shard). d.config.partition) c.in_ok-theirs.ensures)
+          c.push_reserved-in-loop-partition-2.ensures.items c.push_reserved.ensures.items;
     }

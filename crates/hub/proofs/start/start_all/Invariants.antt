@@ -1,6 +1,6 @@
 use Rattle.std.proofs.Common.{◌≡◌, ◌≤◌, ◌+◌, [], length, vec_len, vec_capacity}
-use Rattle.std.specs.Prelude.{All}
-use Rattle.hub.specs.Shards.{AreShardsFrom}
+use Rattle.std.specs.Prelude.{All, map}
+use Rattle.hub.specs.Shards.{AreShardsFrom, partition_of}
 use Rattle.hub.proofs.start.start_all.Given as goal
 
 -- there is room for each partition that is still to start, and the shards so far are those of the first ones
@@ -12,6 +12,8 @@ invariant-loop-partition g l = record {
   threads : vec_len l.lists.threads + l.config.parts ≤ vec_capacity l.lists.threads + l.partition;
   journals : l.lists.journals ≡ l.fn.lists.journals;
   counts : l.lists.counts ≡ l.fn.lists.counts;
-  of_room : l.fn.lists.queues.items ≡ [] → All (λ queue. queue ≡ l.config.queue) l.lists.queues.items;
+  of_room : l.fn.lists.queues.items ≡ [] → All (λ queue. (queue.capacity ≡ l.config.queue) × (queue.count ≡ 0)) l.lists.queues.items;
   of_config : l.fn.lists.shards.items ≡ [] → AreShardsFrom l.config 0 l.lists.shards.items;
+  workers : map (λ thread. thread.promise.partition) l.fn.lists.threads.items ≡ map partition_of l.fn.lists.shards.items
+      → map (λ thread. thread.promise.partition) l.lists.threads.items ≡ map partition_of l.lists.shards.items;
 }
