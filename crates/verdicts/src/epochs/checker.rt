@@ -1,5 +1,5 @@
 //! Epochs that are checked while a store runs, by a thread for each partition.
-ghost use Rattle.std.specs.Prelude.{◌≡◌, ◌⊎◌, ◌≤◌, ◌+◌, IfNone, IfOk, IfSome, OnOk, None, Some, [], length, vec_len, vec_capacity};
+ghost use Rattle.std.specs.Prelude.{◌≡◌, ◌⊎◌, ◌<◌, ◌≤◌, ◌+◌, IfNone, IfOk, IfSome, OnErr, OnOk, None, Some, [], length, vec_len, vec_capacity};
 ghost use Rattle.std.specs.Arc.{arc_value};
 ghost use Rattle.verdicts.specs.Rows.{HavePlaces, at_place};
 ghost use Rattle.shard.specs.Journals.{WasCut};
@@ -84,7 +84,7 @@ impl Checking {
         let mut threads = Vec::with_capacity(alloc, parts as usize)?;
         if let Err(fault) = start_all(rt, alloc, parts, &known, &mut queues, &mut threads) {
             drop(queues);
-            join_all(rt, threads);
+            let _ended = join_all(rt, threads);
             return Err(fault);
         }
         let checker = Checker {
@@ -101,7 +101,7 @@ impl Checking {
         ensures { (result.items ≡ []) ⊎ (result ≡ arc_value self.known) }
     {
         let Checking { known, threads } = self;
-        join_all(rt, threads);
+        let _ended = join_all(rt, threads);
         taken_out(alloc, known)
     }
 }
@@ -121,34 +121,47 @@ fn start_all<H: Threads + Wait + Clone + Send + Drop + 'static>(
     ensures threads { OnOk result (vec_len threads.new ≡ vec_len threads.old + parts) }
 {
     for _partition in 0..parts {
-        let (queue, cuts) = bounded(alloc, MOST_WAITING)?;
-        let thread = start_one(rt, alloc, cuts, known)?;
-        queues.push_reserved(queue);
-        threads.push_reserved(thread);
+        start_one(rt, alloc, known, queues, threads)?;
     }
     Ok(())
 }
 
-/// Starts the thread of a partition.
+/// Starts the thread of one more partition, with its queue. Where it fails, neither is there.
 fn start_one<H: Threads + Wait + Clone + Send + Drop + 'static>(
     rt: &H,
     alloc: Global,
-    cuts: Receiver<QueuedEpoch>,
     known: &Arc<Known>,
-) -> Result<JoinHandle<()>, HubFault> {
+    queues: &mut Vec<Sender<QueuedEpoch>>,
+    threads: &mut Vec<JoinHandle<()>>,
+) -> Result<(), HubFault>
+    requires queues { vec_len queues.old < vec_capacity queues.old }
+    requires threads { vec_len threads.old < vec_capacity threads.old }
+    ensures queues { OnOk result (vec_len queues.new ≡ vec_len queues.old + 1) }
+    ensures threads { OnOk result (vec_len threads.new ≡ vec_len threads.old + 1) }
+    ensures failed { OnErr result ((queues.new ≡ queues.old) × (threads.new ≡ threads.old)) }
+    ensures room { (vec_capacity queues.new ≡ vec_capacity queues.old) × (vec_capacity threads.new ≡ vec_capacity threads.old) }
+{
+    let (queue, cuts) = bounded(alloc, MOST_WAITING)?;
     let handle = rt.clone()?;
     let known = Arc::try_clone(known)?;
-    match thread::spawn(rt, move || check_all(&handle, alloc, &cuts, &*known)) {
-        Ok(thread) => Ok(thread),
-        Err(_) => Err(HubFault::Thread),
-    }
+    let Ok(thread) = thread::spawn(rt, move || check_all(&handle, alloc, &cuts, &*known)) else {
+        return Err(HubFault::Thread);
+    };
+    queues.push_reserved(queue);
+    threads.push_reserved(thread);
+    Ok(())
 }
 
-/// Waits until each of these threads has ended.
-fn join_all<H: Threads>(rt: &H, threads: Vec<JoinHandle<()>>) {
+/// Waits until each of these threads has ended, and answers how many have.
+fn join_all<H: Threads>(rt: &H, threads: Vec<JoinHandle<()>>) -> usize
+    ensures { result ≡ vec_len threads }
+{
+    let mut ended = 0;
     for thread in threads {
         thread.join(rt);
+        ended += 1;
     }
+    ended
 }
 
 /// Checks each epoch that comes, in the order in which they come, until no end sends any more and none is left.
