@@ -1,6 +1,7 @@
 -- At which port a server listens, how many connections it serves, and how its sessions are answered.
 use Rattle.std.specs.Prelude.{◌≡◌, ◌⊎◌, ℕ, Bool}
 use Rattle.std.specs.Net.Socket.{socket_port}
+use Rattle.sessions.specs.declared.answer_counts.AnswerCounts.{AnswerCounts}
 use Rattle.sessions.specs.declared.listener.Listener.{Listener}
 use Rattle.sessions.specs.declared.session_options.SessionOptions.{SessionOptions}
 use Rattle.sessions.specs.declared.server.Server.{Server}
@@ -28,3 +29,7 @@ most_of server = server.sessions
 -- its connections are not counted: it stays until it is asked to end
 abbrev pub stays_of : {L : Type 0} → Server L → Bool
 stays_of server = server.stays
+
+-- where the answers of its sessions are counted
+abbrev pub answers_of : {L : Type 0} → Server L → AnswerCounts
+answers_of server = server.answers

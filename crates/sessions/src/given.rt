@@ -6,6 +6,7 @@ ghost use Rattle.line_protocol.specs.declared.request.Request.TheVariants.{Bye};
 ghost use Rattle.line_protocol.specs.AnswerSpelling.{answer_line};
 ghost use Rattle.sessions.specs.Telling.{IsAnswered, IsPut};
 
+use crate::answer_counts::AnswerCounts;
 use bytes::BytesMut;
 use hub::{Gate, Hub, Seat};
 use line_protocol::{LINE_LIMIT, Request};
@@ -44,6 +45,11 @@ impl Given {
         ensures { self.new ≡ Ready counter }
     {
         self.answer = Answer::Ready(counter);
+    }
+
+    /// Counts it.
+    pub(crate) fn count(&self, counts: &AnswerCounts) {
+        counts.count(&self.answer);
     }
 
     /// Whether it is an allocation failure.

@@ -1,6 +1,7 @@
 //! Sessions over a running store, and a server that has one for each of its connections.
 #![tactic(auto)]
 
+mod answer_counts;
 mod given;
 mod line_session;
 mod listener;
@@ -10,6 +11,7 @@ mod server;
 mod serving;
 mod session_options;
 
+pub use answer_counts::AnswerCounts;
 pub use line_session::{run_session, run_session_as};
 pub use listener::{Accept, Listener};
 pub use served::{Connections, Left};

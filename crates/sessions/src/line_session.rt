@@ -15,6 +15,7 @@ ghost use Rattle.sessions.specs.declared.line_session.SessionEnd.TheVariants.{Un
 ghost use Rattle.sessions.specs.Answering.{GoesOnBehind, IsAnsweredBy, IsEndOfInput, IsGreeted, IsLineAnswered, last_line, no_options, refused_as};
 ghost use Rattle.sessions.specs.Telling.{BreaksTelling, HasName, IsAnswered, IsAnsweredAndDrained, IsBegun, IsDrained, IsLastLine, IsPut, IsSeated, IsWritten, Tells, seat_tenant};
 
+use crate::answer_counts::AnswerCounts;
 use crate::given::{Given, ask_seat, put_answer, tell_refusal};
 use crate::session_options::SessionOptions;
 use bytes::BytesMut;
@@ -29,11 +30,12 @@ use std::alloc::Global;
 use std::io::{Read, Write};
 use std::sync::Wait;
 
-/// By which names the tenants go, and how lines are answered.
+/// By which names the tenants go, how lines are answered, and where the answers are counted.
 #[derive(Clone, Copy)]
 struct Terms<'s> {
     names: &'s [Name],
     options: SessionOptions,
+    counts: Option<&'s AnswerCounts>,
 }
 
 /// What answers the lines of one connection.
@@ -84,7 +86,7 @@ pub fn run_session<'s, G: Gate, H: Wait, R: Read, W: Write>(
         strict: false,
         newest: false,
     };
-    run_session_as(rt, alloc, hub, names, options, reader, writer)
+    run_session_as(rt, alloc, hub, names, options, None, reader, writer)
 }
 
 /// Answers the lines of one connection by the tenants of a running store, which go by these names, until the session
@@ -99,6 +101,8 @@ pub fn run_session<'s, G: Gate, H: Wait, R: Read, W: Write>(
 /// within a line (42) and an allocation failure (30), but as the answer to `hello`. However it ends, its seat is ended, and
 /// that before the last of these answers is written.
 ///
+/// Where counts are given, each answer is counted there.
+///
 /// Beside what the session came to stands the transcript of its seat, and `None` where none was opened. The fault is
 /// `Read` where a read failed, `ReadsUsed` after 2^62 reads, and `Write` where a write or a flush failed or a write took no
 /// byte: nothing is read or written then, and no line is answered. `OutOfMemory` comes before anything is read.
@@ -108,6 +112,7 @@ pub fn run_session_as<'s, G: Gate, H: Wait, R: Read, W: Write>(
     hub: &'s Hub<G>,
     names: &'s [Name],
     options: SessionOptions,
+    counts: Option<&'s AnswerCounts>,
     reader: &mut R,
     writer: &mut W,
 ) -> (Option<Transcript>, Result<(), RunFault>)
@@ -128,14 +133,21 @@ pub fn run_session_as<'s, G: Gate, H: Wait, R: Read, W: Write>(
     };
     let mut connection = Connection {
         alloc,
-        terms: Terms { names, options },
+        terms: Terms {
+            names,
+            options,
+            counts,
+        },
         seat: None,
         answer: Given::new(),
     };
     let ended = answer_lines(rt, hub, &mut connection, &mut out, reader, writer);
     let transcript = end_seat(rt, connection.seat);
     match ended {
-        Ok(ending) => (transcript, finish(ending, &mut out, writer)),
+        Ok(ending) => {
+            count_last(ending, counts);
+            (transcript, finish(ending, &mut out, writer))
+        }
         Err(fault) => (transcript, Err(fault)),
     }
 }
@@ -150,6 +162,18 @@ fn end_seat<G: Gate, H: Wait>(rt: &H, seat: Option<Seat<'_, G>>) -> Option<Trans
     match seat {
         Some(seat) => Some(seat.end(rt)),
         None => None,
+    }
+}
+
+// Counts the last answer, where answers are counted.
+fn count_last(ending: SessionEnd, counts: Option<&AnswerCounts>) {
+    let Some(counts) = counts else {
+        return;
+    };
+    match ending {
+        SessionEnd::Silent | SessionEnd::Bye => {}
+        SessionEnd::Unread => counts.count_refusal(Refusal::BadLine),
+        SessionEnd::Refused(refusal) => counts.count_refusal(refusal),
     }
 }
 
@@ -367,6 +391,7 @@ fn answer_next<'s, G: Gate, H: Wait, W: Write>(
         return Ok(Some(ending));
     }
     let ends = connection.ends();
+    connection.count();
     put_answer(&connection.answer, out);
     make_room(out, writer)?;
     Ok(if ends { Some(SessionEnd::Silent) } else { None })
@@ -434,6 +459,13 @@ impl<'s, G: Gate> Connection<'s, G> {
         match (refusal, &self.seat) {
             (Refusal::OutOfMemory, None) => Refusal::NoSession,
             _ => refusal,
+        }
+    }
+
+    // Counts the answer, where answers are counted.
+    fn count(&self) {
+        if let Some(counts) = self.terms.counts {
+            self.answer.count(counts);
         }
     }
 

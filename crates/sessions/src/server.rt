@@ -4,8 +4,9 @@ ghost use Rattle.std.specs.Arc.{arc_value};
 ghost use Rattle.sessions.specs.declared.served.Change.TheVariants.{Begun, Ended, Failed, GivenUp};
 ghost use Rattle.std.specs.IoError.{raw_os_error};
 ghost use Rattle.sessions.specs.Passing.{is_passing};
-ghost use Rattle.sessions.specs.Ports.{listener_of, most_of, options_of, stays_of};
+ghost use Rattle.sessions.specs.Ports.{answers_of, listener_of, most_of, options_of, stays_of};
 
+use crate::answer_counts::AnswerCounts;
 use crate::listener::{Accept, passes};
 use crate::peer::Peer;
 use crate::served::{Connections, Left, Receipt, ServedConnections};
@@ -33,6 +34,7 @@ pub struct Server<L> {
     sessions: u32,
     stays: bool,
     options: SessionOptions,
+    answers: AnswerCounts,
     served: Mutex<ServedConnections>,
     changed: Condvar,
     /// Whether no more is accepted or read.
@@ -82,6 +84,7 @@ impl<L> Server<L> {
     {
         let stays = left.is_none();
         let served = ServedConnections::new(alloc, sessions, left, transcripts)?;
+        let answers = AnswerCounts::new(alloc)?;
         Ok(Server {
             alloc,
             listener,
@@ -91,6 +94,7 @@ impl<L> Server<L> {
                 strict: false,
                 newest: false,
             },
+            answers,
             served: Mutex::new(served),
             changed: Condvar::new(),
             is_ending: AtomicBool::new(false),
@@ -120,6 +124,7 @@ impl<L> Server<L> {
             sessions: _,
             stays: _,
             options: _,
+            answers: _,
             served,
             changed: _,
             is_ending: _,
@@ -147,6 +152,13 @@ impl<L> Server<L> {
         ensures { result ≡ options_of self.now }
     {
         self.options
+    }
+
+    /// How many lines its sessions answered by refusals and by restarts.
+    pub fn answers(&self) -> &AnswerCounts
+        ensures { result.now ≡ answers_of self.now }
+    {
+        &self.answers
     }
 
     /// The peer of a connection that it serves.

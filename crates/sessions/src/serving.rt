@@ -135,7 +135,17 @@ fn serve_connection<H: Wait, L>(
     let mut reader = server.peer(&stream);
     let mut writer = reader;
     let options = server.options();
-    let (transcript, _) = run_session_as(rt, alloc, hub, names, options, &mut reader, &mut writer);
+    let counts = Some(server.answers());
+    let (transcript, _) = run_session_as(
+        rt,
+        alloc,
+        hub,
+        names,
+        options,
+        counts,
+        &mut reader,
+        &mut writer,
+    );
     if server.is_ending() {
         reader.part();
     }

@@ -77,6 +77,7 @@ fn is_store_right(
             &hub,
             &store.names,
             manner,
+            None,
             &mut reader,
             &mut writer,
         );
