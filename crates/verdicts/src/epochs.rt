@@ -5,6 +5,6 @@ mod checker;
 mod ending;
 mod reached;
 
-pub use checked::{Checked, Standing, Taken};
-pub use checker::Checking;
+pub use checked::{Checked, Progress, Standing, Taken};
+pub use checker::{Checking, Known, progress_at};
 pub use ending::{Ending, LastEpochs};

@@ -4,5 +4,7 @@
 mod epochs;
 mod verdict;
 
-pub use epochs::{Checked, Checking, Ending, LastEpochs, Standing, Taken};
+pub use epochs::{
+    Checked, Checking, Ending, Known, LastEpochs, Progress, Standing, Taken, progress_at,
+};
 pub use verdict::{Judge, endings_of, name_at, tell_all, tell_checks, tell_verdicts};

@@ -24,6 +24,15 @@ pub enum Standing {
     Unknown,
 }
 
+/// How far the checks of a journal have come.
+#[derive(Clone, Copy)]
+pub struct Progress {
+    /// How its epochs were so far.
+    pub standing: Standing,
+    /// How many epochs were checked and right.
+    pub checked: u64,
+}
+
 /// The receipt of an epoch: what is known of a journal took the one of this number.
 #[derive(Drop)]
 pub struct Taken {
@@ -84,6 +93,16 @@ impl Checked {
         ensures { result ≡ self.now.standing }
     {
         self.standing
+    }
+
+    /// How far its checks have come.
+    pub(crate) fn progress(&self) -> Progress
+        ensures { (result.standing ≡ self.now.standing) × (result.checked ≡ self.now.number) }
+    {
+        Progress {
+            standing: self.standing,
+            checked: self.number,
+        }
     }
 
     /// The base at the end of an epoch that follows the last one: it has the next number, begins at the base at the end of

@@ -4,7 +4,7 @@ ghost use Rattle.std.specs.Arc.{arc_value};
 ghost use Rattle.verdicts.specs.Rows.{HavePlaces, at_place};
 ghost use Rattle.shard.specs.Journals.{WasCut};
 
-use crate::epochs::{Checked, Taken};
+use crate::epochs::{Checked, Progress, Taken};
 use crossbeam_channel::{Receiver, Sender, bounded};
 use hub::{HubFault, Sink};
 use partition::Epoch;
@@ -93,6 +93,13 @@ impl Checking {
             queues,
         };
         Ok((Checking { known, threads }, checker))
+    }
+
+    /// What is known of the journals so far, while its threads go on to check.
+    pub fn known(&self) -> &Known
+        ensures { result.now ≡ arc_value self.now.known }
+    {
+        &*self.known
     }
 
     /// Waits until each epoch that was handed over is checked, once the checker is dropped, and answers what is known then;
@@ -187,6 +194,15 @@ fn check_one<H: Wait>(rt: &H, alloc: Global, cut: QueuedEpoch, known: &Known) ->
     let checked = journal_of(known, partition, tenant)?;
     let taken = checked.lock(rt).take(alloc, epoch);
     Some(taken)
+}
+
+/// How far the checks of a tenant's journal at a partition have come. It waits where one of its epochs is being checked. `None`
+/// where there is no such journal.
+pub fn progress_at<R: Wait>(rt: &R, known: &Known, partition: u32, tenant: u32) -> Option<Progress>
+    ensures { IfNone result (at_place known.now.items partition tenant ≡ None) }
+{
+    let checked = journal_of(known, partition, tenant)?;
+    Some(checked.lock(rt).progress())
 }
 
 /// What is known of a tenant's journal at a partition, if they are there.
