@@ -1,0 +1,5 @@
+pub mod Requests
+pub mod Responses
+pub mod Families
+pub mod Figures
+pub mod MetricsText
