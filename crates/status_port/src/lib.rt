@@ -1,0 +1,8 @@
+//! The port at which a server reports over HTTP how much its store holds, and whether its answers were right so far.
+#![tactic(auto)]
+
+mod reading;
+mod serving;
+
+pub use reading::Watched;
+pub use serving::{StatusPort, serve_and_report};
