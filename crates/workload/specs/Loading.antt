@@ -9,6 +9,8 @@ use Rattle.closed_store.specs.declared.closed.Closed.{Closed}
 use Rattle.closed_store.specs.declared.transcript.Transcript.{Transcript}
 use Rattle.closed_store.specs.Joins.{AllRise, AreJoined, AreKnown, NoneRise, given_for, journal_at}
 use Rattle.closed_store.specs.Filling.{AreFilled}
+use Rattle.closed_store.specs.declared.join.joining.JoinFault.{JoinFault}
+use Rattle.closed_store.specs.declared.join.joining.JoinFault.TheVariants.{Base, Numbers, OutOfMemory as NoMemory}
 use Rattle.partition.specs.declared.journal.Epoch.{Epoch}
 use Rattle.partition.specs.declared.journal.Journal.{Journal}
 use Rattle.line_runs.specs.declared.fault.ProgramFault.{ProgramFault}
@@ -53,14 +55,29 @@ abbrev pub TellsNone : ℕ → List (List ℕ) → Option (List ℕ) → Option 
     → Result (Unit {0}) ProgramFault → Type 0
 TellsNone = TellsEach (λ tenant verdict. verdict ≡ false) (codes "settled ")
 
--- What was reported of the tenants of a store that was closed and whose epochs these are: the verdicts over what they join
--- to; a no of each, where they do not join; or nothing, where memory was refused.
+-- what a store that was closed answers where it is joined with these epochs
+abbrev pub IsJoinAnswer : Closed → List (ℕ × ℕ × Epoch) → Result Closed JoinFault → Type 0
+IsJoinAnswer closed epochs (Ok joined) = IsJoinedTo closed epochs joined
+IsJoinAnswer closed epochs (Err Base) = DoNotJoin closed epochs
+IsJoinAnswer closed epochs (Err Numbers) = DoNotJoin closed epochs
+IsJoinAnswer closed epochs (Err NoMemory) = Unit {0}
+
+-- What was reported of so many tenants of a store whose join with its epochs answered this: the verdicts over what they
+-- join to; a no of each, where they do not join; or nothing, where the join found no memory.
+abbrev pub TellsAnswer : ℕ → Result Closed JoinFault → List (List ℕ) → Option (List ℕ) → Option (List ℕ)
+    → Result (Unit {0}) ProgramFault → Type 0
+TellsAnswer tenants (Ok joined) names old new ended = TellsVerdicts joined names old new ended
+TellsAnswer tenants (Err Base) names old new ended = TellsNone tenants names old new ended
+TellsAnswer tenants (Err Numbers) names old new ended = TellsNone tenants names old new ended
+TellsAnswer tenants (Err NoMemory) names old new ended = (ended ≡ Err OutOfMemory) × Keeps old new
+
+-- What was reported of the tenants of a store that was closed and whose epochs these are: what the answer of their join
+-- asks for.
 abbrev pub TellsJoined : Closed → List (ℕ × ℕ × Epoch) → List (List ℕ) → Option (List ℕ) → Option (List ℕ)
     → Result (Unit {0}) ProgramFault → Type 0
 TellsJoined closed epochs names old new ended =
-    ((joined : Closed) × IsJoinedTo closed epochs joined × TellsVerdicts joined names old new ended)
-    ⊎ ((DoNotJoin closed epochs × TellsNone (length closed.config.limits.items) names old new ended)
-    ⊎ ((ended ≡ Err OutOfMemory) × Keeps old new))
+    (answer : Result Closed JoinFault) × IsJoinAnswer closed epochs answer
+    × TellsAnswer (length closed.config.limits.items) answer names old new ended
 
 -- What a load wrote of one store that was closed and whose epochs these are: how many operations its tenants' seats
 -- began, and then what was reported of its tenants.

@@ -96,8 +96,7 @@ fn load_and_join<H: Threads + Wait + Clone + Send + Sync + Drop + 'static, W: Wr
     requires cut { 0 < config.epoch }
     ensures { HasLoaded (config_view config) (record { seats = seats; rounds = orders.rounds; seed = orders.seed; keys = orders.keys }) names.now (W.contents writer.old) (W.contents writer.new) result }
 {
-    let kept = KeptEpochs::open(rt.clone()?, alloc)?;
-    let sink = kept.another(rt.clone()?)?;
+    let (kept, sink) = KeptEpochs::open_both(alloc, rt.clone()?, rt.clone()?)?;
     let closed = run_store(rt, alloc, config, sink, seats, orders)?;
     let epochs = kept.epochs(&closed)?;
     tell_kept(alloc, closed, epochs, names, writer)

@@ -1,6 +1,6 @@
 //! What is reported of a load whose epochs were kept: they are joined, and what they join to is settled.
 ghost use Rattle.std.specs.Prelude.{◌≡◌, ◌≤◌, false};
-ghost use Rattle.workload.specs.Loading.{IsToldOfKept, TellsJoined, TellsNone};
+ghost use Rattle.workload.specs.Loading.{IsToldOfKept, TellsAnswer, TellsJoined, TellsNone};
 
 use crate::load::tally::tell_begun;
 use hub::{Closed, JoinFault};
@@ -51,7 +51,23 @@ fn tell_joined<W: Write>(
     ensures { TellsJoined closed epochs.items names.now (W.contents writer.old) (W.contents writer.new) result }
 {
     let tenants = closed.config.limits.len();
-    match closed.join(epochs, Vec::new(alloc)) {
+    let answer = closed.join(epochs, Vec::new(alloc));
+    tell_answer(alloc, tenants, answer, names, writer)
+}
+
+/// Writes the verdicts over what the epochs of a store of so many tenants join to, or a `no` of each where they do not join.
+/// Nothing is written where the join found no memory.
+fn tell_answer<W: Write>(
+    alloc: Global,
+    tenants: usize,
+    answer: Result<Closed, JoinFault>,
+    names: &[Name],
+    writer: &mut W,
+) -> Result<(), ProgramFault>
+    requires { tenants ≤ 64 }
+    ensures { TellsAnswer tenants answer names.now (W.contents writer.old) (W.contents writer.new) result }
+{
+    match answer {
         Ok(joined) => tell_verdicts(alloc, &joined, names, writer),
         Err(JoinFault::Base) => tell_none(alloc, tenants, names, writer),
         Err(JoinFault::Numbers) => tell_none(alloc, tenants, names, writer),

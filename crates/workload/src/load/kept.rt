@@ -1,5 +1,6 @@
 //! The epochs of a load whose journals are cut, all of which are kept.
 ghost use Rattle.std.specs.Prelude.{◌≡◌, IfOk, IfErr};
+ghost use Rattle.std.specs.Arc.{arc_value};
 ghost use Rattle.line_runs.specs.declared.fault.ProgramFault.TheVariants.{OutOfMemory as NoMemory};
 ghost use Rattle.workload.specs.Loading.{AreAllThere};
 
@@ -27,21 +28,30 @@ impl<H: Wait> Sink for KeptEpochs<H> {
 }
 
 impl<H: Wait + Drop> KeptEpochs<H> {
-    /// A sink to which no epoch came yet.
-    pub(crate) fn open(rt: H, alloc: Global) -> Result<KeptEpochs<H>, AllocError> {
-        match Arc::new(alloc, Mutex::new(Vec::new(alloc))) {
-            Ok(came) => Ok(KeptEpochs { rt, alloc, came }),
-            Err(_) => Err(AllocError),
-        }
-    }
-
-    /// The same sink once more: what comes to one has come to both.
-    pub(crate) fn another(&self, rt: H) -> Result<KeptEpochs<H>, AllocError> {
-        Ok(KeptEpochs {
-            rt,
-            alloc: self.alloc,
-            came: Arc::try_clone(&self.came)?,
-        })
+    /// A sink to which no epoch came yet, and the same sink once more: what comes to one has come to both.
+    /// Each waits by a handle of its own.
+    pub(crate) fn open_both(
+        alloc: Global,
+        one: H,
+        other: H,
+    ) -> Result<(KeptEpochs<H>, KeptEpochs<H>), AllocError>
+        ensures { IfOk result (λ both. arc_value both.1.came ≡ arc_value both.0.came) }
+    {
+        let Ok(came) = Arc::new(alloc, Mutex::new(Vec::new(alloc))) else {
+            return Err(AllocError);
+        };
+        let same = Arc::try_clone(&came)?;
+        let kept = KeptEpochs {
+            rt: one,
+            alloc,
+            came,
+        };
+        let sink = KeptEpochs {
+            rt: other,
+            alloc,
+            came: same,
+        };
+        Ok((kept, sink))
     }
 
     /// All epochs of the store that was closed, which are taken out. It is `OutOfMemory` where one is missing: it found no
