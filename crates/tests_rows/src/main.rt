@@ -11,7 +11,7 @@ mod sims;
 mod slow;
 mod words;
 
-use command_words::{Asked, read_words};
+use command_line::{Asked, read_words};
 use handles::Handles;
 use row::{Row, read_rows};
 use std::alloc::Global;

@@ -3,7 +3,7 @@ use crate::devices::{Pieces, Taken};
 use crate::handles::Handles;
 use crate::row::Row;
 use crate::words;
-use command_words::{ServerOptions, StoreOptions};
+use command_line::{ServerOptions, StoreOptions};
 use hub::{Config, Hub, Transcript};
 use line_protocol::Name;
 use stamps::limits::{MAX_PARTS, MAX_TENANTS};

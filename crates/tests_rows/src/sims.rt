@@ -6,7 +6,7 @@ use crate::handles::Handles;
 use crate::row::Row;
 use crate::slow::{Answers, sort_out};
 use crate::words;
-use command_words::{Asked, StoreOptions, read_words};
+use command_line::{Asked, StoreOptions, read_words};
 use line_protocol::{Name, read_step_line};
 use line_runs::run_sim;
 use oracle::oracle_run;

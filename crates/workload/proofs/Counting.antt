@@ -2,7 +2,7 @@
 use Rattle.std.proofs.Common.{◌≡◌, ℕ, ◌+◌, ◌<◌, List, length, get_or, take, sym, ap, ◌∙◌, arith}
 use Rattle.std.specs.Prelude.{sum_by}
 use Rattle.std.proofs.lemmas.List.Sums.{sum_by_more}
-use Rattle.verdicts.specs.Begun.{told_count}
+use Rattle.server_verdicts.specs.Begun.{told_count}
 
 told_more : (before so_far one : ℕ) → told_count (told_count (before + so_far) + one) ≡ told_count (before + (so_far + one))
 told_more before so_far one = omega arith

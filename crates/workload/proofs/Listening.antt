@@ -10,11 +10,11 @@ use Rattle.hub.specs.Hubs.{AllSoundBooks, ConfigView, config_view}
 use Rattle.closed_store.specs.declared.closed.Closed.{Closed}
 use Rattle.line_runs.specs.Statuses.{status_of}
 use Rattle.workload.specs.Serving.{EndsAfter, HasChecked, HasListened, HasServed, IsClosed, IsFaultBefore, TellsPortFirst, TellsPortFor, greater_fault, listening_line}
-use Rattle.sessions.specs.declared.listener.Listener.{Listener}
-use Rattle.sessions.specs.declared.server.Server.{Server}
-use Rattle.sessions.specs.Ports.{IsPortFor, listener_of, port_of}
-use Rattle.verdicts.specs.Judged.{IsCheckedAs}
-use Rattle.verdicts.specs.Verdicts.{TellsAll, TellsEach, TellsVerdicts, lines_text, verdict_line}
+use Rattle.server_sessions.specs.declared.listener.Listener.{Listener}
+use Rattle.server_sessions.specs.declared.server.Server.{Server}
+use Rattle.server_sessions.specs.Ports.{IsPortFor, listener_of, port_of}
+use Rattle.server_verdicts.specs.Judged.{IsCheckedAs}
+use Rattle.server_verdicts.specs.Verdicts.{TellsAll, TellsEach, TellsVerdicts, lines_text, verdict_line}
 
 -- a beginning of the line was written
 pub line_begun : (old new : Option (List ℕ)) (line : List ℕ) (port n : ℕ) → line ≡ listening_line port → port < 2 ^ 16 → Appends old new (take n line)

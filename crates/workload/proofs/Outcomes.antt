@@ -13,9 +13,9 @@ use Rattle.line_runs.proofs.Faults.{so_far_is_part}
 use Rattle.workload.specs.Serving.{RunsServer}
 use Rattle.workload.specs.Loading.{RunsLoad}
 use Rattle.line_runs.specs.Statuses.{IsHelpStatus, exit_status, fault_of_run, status_of}
-use Rattle.command_words.specs.Asked.{IsWordsFault}
-use Rattle.command_words.specs.Words.{AsksForHelp, AsksForNothing, AsksForVersion}
-use Rattle.command_words.proofs.WordsRead.{faultless_asks_for_nothing}
+use Rattle.command_line.specs.Asked.{IsWordsFault}
+use Rattle.command_line.specs.Words.{AsksForHelp, AsksForNothing, AsksForVersion}
+use Rattle.command_line.proofs.WordsRead.{faultless_asks_for_nothing}
 
 pub ends_so : (words : List (List ℕ)) (input old new : Option (List ℕ)) (end : End) → ServesWords words input old new end → Runs words input old new (ended_as end)
 ends_so words input old new Whole serves = inr serves

@@ -12,7 +12,7 @@ use Rattle.plain_store.specs.declared.answer.Answer.{Answer}
 use Rattle.entry_list.specs.declared.kinds.Entry.{Entry}
 use Rattle.entry_list.specs.declared.kinds.Entry.TheVariants.{Began, Took, Answered}
 use Rattle.hub.specs.Seats.{Follows, SeatView, is_inside}
-use Rattle.sessions.specs.Telling.{IsServed}
+use Rattle.server_sessions.specs.Telling.{IsServed}
 use Rattle.workload.specs.declared.load.mix.RoundKind.{RoundKind}
 use Rattle.workload.specs.declared.load.mix.RoundKind.TheVariants.{Put, Get, Find}
 use Rattle.workload.specs.declared.load.mix.Round.{Round}

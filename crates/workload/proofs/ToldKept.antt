@@ -16,7 +16,7 @@ use Rattle.closed_store.specs.declared.join.joining.JoinFault.TheVariants.{Base,
 use Rattle.line_runs.specs.declared.fault.ProgramFault.{ProgramFault}
 use Rattle.line_runs.specs.declared.fault.ProgramFault.TheVariants.{OutOfMemory, Device}
 use Rattle.workload.specs.Loading.{DoNotJoin, HasLoaded, IsJoinAnswer, IsJoinedTo, IsToldOfKept, IsToldOfLoad, LoadView, TellsJoined}
-use Rattle.verdicts.specs.Verdicts.{TellsBegun, TellsVerdicts}
+use Rattle.server_verdicts.specs.Verdicts.{TellsBegun, TellsVerdicts}
 
 -- a load that told its counts, and then what its epochs join to
 pub kept_told : (closed : Closed) (epochs : List (ℕ × ℕ × Epoch)) (names : List (List ℕ)) (old between new : Option (List ℕ)) (ended : Result (Unit {0}) ProgramFault)

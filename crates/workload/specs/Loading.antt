@@ -15,11 +15,11 @@ use Rattle.partition.specs.declared.journal.Epoch.{Epoch}
 use Rattle.partition.specs.declared.journal.Journal.{Journal}
 use Rattle.line_runs.specs.declared.fault.ProgramFault.{ProgramFault}
 use Rattle.line_runs.specs.declared.fault.ProgramFault.TheVariants.{OutOfMemory, Device}
-use Rattle.command_words.specs.declared.load_options.LoadOptions.{LoadOptions}
-use Rattle.verdicts.specs.Verdicts.{TellsBegun, TellsEach, TellsVerdicts}
+use Rattle.command_line.specs.declared.load_options.LoadOptions.{LoadOptions}
+use Rattle.server_verdicts.specs.Verdicts.{TellsBegun, TellsEach, TellsVerdicts}
 use Rattle.workload.specs.Rounds.{AreOfSeats, seats_of}
 use Rattle.workload.specs.Serving.{IsClosed, store_view}
-use Rattle.command_words.specs.Words.{AsksForLoad}
+use Rattle.command_line.specs.Words.{AsksForLoad}
 
 -- What a load wrote of one store that was closed: how many operations its tenants' seats began, and then the verdicts
 -- over the same store.

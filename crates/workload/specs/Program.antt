@@ -9,7 +9,7 @@ use Rattle.line_runs.specs.declared.fault.ProgramFault.TheVariants.{LineTooLong,
 use Rattle.line_runs.specs.declared.fault.ProgramFault.TheVariants.{OutOfMemory, Device}
 use Rattle.line_runs.specs.RunAnswers.{AnsweredFront, AnsweredPart}
 use Rattle.line_runs.specs.Served.{ServesCell, ServesSim, answers_of_cell, answers_of_store}
-use Rattle.command_words.specs.Words.{MayAskForText, AsksForCell, AsksForStore, AsksForNothing}
+use Rattle.command_line.specs.Words.{MayAskForText, AsksForCell, AsksForStore, AsksForNothing}
 
 -- a cell of the room that the words ask for served the input, which ended so
 abbrev pub CellServes : List (List ℕ) → Option (List ℕ) → Option (List ℕ) → Option (List ℕ) → End → Type 0

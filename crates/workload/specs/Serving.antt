@@ -10,12 +10,12 @@ use Rattle.line_runs.specs.Statuses.{status_of}
 use Rattle.line_runs.specs.declared.fault.ProgramFault.{ProgramFault}
 use Rattle.line_runs.specs.declared.fault.ProgramFault.TheVariants.{LineTooLong, Cut, Settle, Options}
 use Rattle.line_runs.specs.declared.fault.ProgramFault.TheVariants.{OutOfMemory, Device}
-use Rattle.command_words.specs.declared.server_options.ServerOptions.{ServerOptions}
-use Rattle.verdicts.specs.declared.epochs.ending.LastEpochs.{LastEpochs}
-use Rattle.verdicts.specs.Judged.{AreLeft, TellsChecks}
-use Rattle.verdicts.specs.Verdicts.{TellsVerdicts}
-use Rattle.command_words.specs.Words.{AsksForServer}
-use Rattle.sessions.specs.Ports.{IsPortFor}
+use Rattle.command_line.specs.declared.server_options.ServerOptions.{ServerOptions}
+use Rattle.server_verdicts.specs.declared.epochs.ending.LastEpochs.{LastEpochs}
+use Rattle.server_verdicts.specs.Judged.{AreLeft, TellsChecks}
+use Rattle.server_verdicts.specs.Verdicts.{TellsVerdicts}
+use Rattle.command_line.specs.Words.{AsksForServer}
+use Rattle.server_sessions.specs.Ports.{IsPortFor}
 
 -- the line that reports at which port a server listens
 abbrev pub listening_line : ℕ → List ℕ

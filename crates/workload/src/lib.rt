@@ -8,9 +8,9 @@ mod words;
 pub use line_runs::{run_cell, run_sim};
 pub use load::run_load;
 pub use serve::run_server;
-pub use sessions::{
+pub use server_sessions::{
     Accept, Left, Listener, Open, Server, SessionOptions, run_session, run_session_as,
     serve_connections,
 };
-pub use verdicts::{Checked, Ending, LastEpochs, Standing, tell_checks, tell_verdicts};
+pub use server_verdicts::{Checked, Ending, LastEpochs, Standing, tell_checks, tell_verdicts};
 pub use words::run_words;

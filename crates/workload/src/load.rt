@@ -20,12 +20,12 @@ use kept::KeptEpochs;
 use line_protocol::Name;
 use line_runs::ProgramFault;
 use seats::{Orders, run_seats};
+use server_verdicts::tell_verdicts;
 use std::alloc::Global;
 use std::io::Write;
 use std::sync::Wait;
 use std::thread::Threads;
 use tally::tell_begun;
-use verdicts::tell_verdicts;
 
 /// Opens a store, has `seats` clients of each tenant do `rounds` rounds among `keys` keys, each in a thread of its own, and
 /// closes it. Then it writes for each tenant, in the order of the names, `load`, its name, and how many puts, gets and

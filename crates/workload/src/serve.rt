@@ -4,20 +4,20 @@ ghost use Rattle.std.specs.Io.KnownBytes.{Appends};
 ghost use Rattle.line_runs.specs.declared.fault.ProgramFault.TheVariants.{Device, OutOfMemory as NoMemory};
 ghost use Rattle.hub.specs.Hubs.{config_view};
 ghost use Rattle.workload.specs.Serving.{HasListened, HasServed, IsFaultBefore, TellsPortFirst, TellsPortFor, greater_fault, listening_line};
-ghost use Rattle.sessions.specs.Ports.{listener_of, options_of, port_of};
+ghost use Rattle.server_sessions.specs.Ports.{listener_of, options_of, port_of};
 
-use command_words::ServerOptions;
+use command_line::ServerOptions;
 use hub::{Config, Hub, HubFault, Sink};
 use line_protocol::Name;
 use line_runs::{ProgramFault, write_text};
-use sessions::{Left, Listener, Open, Server, SessionOptions, serve_connections};
+use server_sessions::{Left, Listener, Open, Server, SessionOptions, serve_connections};
+use server_verdicts::{Checking, endings_of, tell_checks, tell_verdicts};
 use std::alloc::{AllocError, Global};
 use std::io::{Read, Write};
 use std::net::{Net, TcpListener, TcpStream};
 use std::sync::Wait;
 use std::thread::Threads;
 use std::time::Clock;
-use verdicts::{Checking, endings_of, tell_checks, tell_verdicts};
 
 /// Opens a store and listens at the port of these options. Writes `listening` and the port, serves sessions, each in a
 /// thread of its own, closes the store, and writes the lines of `tell_verdicts`. The tenants go by these names, in the

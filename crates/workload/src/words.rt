@@ -6,13 +6,13 @@ ghost use Rattle.workload.specs.Program.{Runs, ended_as};
 ghost use Rattle.workload.specs.Loading.{HasLoaded, RunsLoad, load_view};
 ghost use Rattle.workload.specs.Serving.{HasServed, RunsServer, TellsPortFor, store_view};
 ghost use Rattle.line_runs.specs.Statuses.{IsHelpStatus, exit_status};
-ghost use Rattle.command_words.specs.Words.{AreTenants, AsksForHelp, AsksForVersion};
+ghost use Rattle.command_line.specs.Words.{AreTenants, AsksForHelp, AsksForVersion};
 ghost use Rattle.hub.specs.Hubs.{config_view};
 ghost use Rattle.stamps.specs.Bounds.{IsParts};
 
 use crate::load::run_load;
 use crate::serve::run_server;
-use command_words::{Asked, LoadOptions, ServerOptions, StoreOptions, read_words};
+use command_line::{Asked, LoadOptions, ServerOptions, StoreOptions, read_words};
 use hub::Config;
 use line_protocol::Name;
 use line_runs::{End, ProgramFault, run_cell, run_sim, write_text};

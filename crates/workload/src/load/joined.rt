@@ -8,9 +8,9 @@ use line_protocol::Name;
 use line_runs::ProgramFault;
 use partition::Epoch;
 use plain_store::OutOfMemory;
+use server_verdicts::{Judge, tell_all, tell_verdicts};
 use std::alloc::Global;
 use std::io::Write;
-use verdicts::{Judge, tell_all, tell_verdicts};
 
 /// What epochs do not join to: none of its tenants is settled.
 #[derive(Drop)]

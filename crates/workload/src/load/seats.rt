@@ -5,13 +5,13 @@ ghost use Rattle.line_runs.specs.declared.fault.ProgramFault.TheVariants.{Device
 ghost use Rattle.plain_store.specs.declared.answer.Answer.{Answer as Told};
 ghost use Rattle.closed_store.specs.declared.transcript.Transcript.{Transcript as Left};
 ghost use Rattle.hub.specs.Seats.{IsNamed};
-ghost use Rattle.sessions.specs.Telling.{IsServed};
+ghost use Rattle.server_sessions.specs.Telling.{IsServed};
 ghost use Rattle.workload.specs.Rounds.{AreOfSeats, ArePicked, IsOfSeat, act_in, act_of_round, acts_drawn, seats_of};
 
 use crate::load::mix::{Draws, Round, RoundKind, four_keys, items_of, tag_of};
 use hub::{Hub, Seat, Transcript};
 use line_runs::ProgramFault;
-use sessions::Open;
+use server_sessions::Open;
 use stamps::{Client, Counter};
 use std::alloc::Global;
 use std::sync::Wait;

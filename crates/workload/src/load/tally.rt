@@ -1,16 +1,16 @@
 //! What is reported of a load: how many operations the seats of each tenant began.
 ghost use Rattle.std.specs.Prelude.{◌≡◌, ◌+◌, ◌++◌, IfErr, OnOk, decimal, sum_by};
 ghost use Rattle.std.specs.Io.KnownBytes.{Appends};
-ghost use Rattle.verdicts.specs.Begun.{counts_begun, counts_in, counts_of, counts_of_entry, counts_of_operation, told_count};
-ghost use Rattle.verdicts.specs.Verdicts.{BreaksOff, TellsBegun, load_line};
+ghost use Rattle.server_verdicts.specs.Begun.{counts_begun, counts_in, counts_of, counts_of_entry, counts_of_operation, told_count};
+ghost use Rattle.server_verdicts.specs.Verdicts.{BreaksOff, TellsBegun, load_line};
 
 use hub::{Closed, EntryList, Operation, Transcript};
 use itoa::Buffer;
 use line_protocol::Name;
 use line_runs::{ProgramFault, write_text};
+use server_verdicts::name_at;
 use std::alloc::{AllocError, Global};
 use std::io::Write;
-use verdicts::name_at;
 
 /// How many operations of each kind were begun.
 #[derive(Clone, Copy)]

@@ -1,7 +1,7 @@
 use Rattle.std.proofs.Common.{◌∙◌, arith, ap, inr}
 use Rattle.std.proofs.lemmas.Result.{err_from_is_err_and}
 use Rattle.hub.specs.Hubs.{ConfigView, config_view}
-use Rattle.sessions.specs.Ports.{listener_of, port_of}
+use Rattle.server_sessions.specs.Ports.{listener_of, port_of}
 use Rattle.workload.proofs.Listening.{closed_on, is_closed, no_port, no_room_to_check, no_store, port_then_checked}
 use Rattle.workload.proofs.serve.serve_and_check.Goals as goal
 

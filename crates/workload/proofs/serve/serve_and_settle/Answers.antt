@@ -2,8 +2,8 @@ use Rattle.std.proofs.Common.{arith}
 use Rattle.std.specs.Prelude.{codes, length}
 use Rattle.std.proofs.lemmas.Result.{err_from_is_err_and}
 use Rattle.hub.specs.Hubs.{config_view}
-use Rattle.sessions.specs.Ports.{listener_of, port_of}
-use Rattle.verdicts.specs.Verdicts.{IsVerdictOf}
+use Rattle.server_sessions.specs.Ports.{listener_of, port_of}
+use Rattle.server_verdicts.specs.Verdicts.{IsVerdictOf}
 use Rattle.workload.proofs.Listening.{closed_on, is_closed, no_port, no_store, no_transcript, nothing_told, port_then}
 use Rattle.workload.proofs.serve.serve_and_settle.Goals as goal
 

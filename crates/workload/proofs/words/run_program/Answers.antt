@@ -1,8 +1,8 @@
 use Rattle.std.proofs.Common.{◌≡◌, map, ap, ◌∙◌, inl, inr}
 use Rattle.std.specs.Prelude.{string_bytes}
-use Rattle.command_words.specs.Asked.{WordsAskFor}
+use Rattle.command_line.specs.Asked.{WordsAskFor}
 use Rattle.line_runs.specs.Served.{ServesSim, answers_of_store}
-use Rattle.command_words.specs.declared.options.Asked.TheVariants.{Cell, Load, Serve, Sim}
+use Rattle.command_line.specs.declared.options.Asked.TheVariants.{Cell, Load, Serve, Sim}
 use Rattle.std.proofs.lemmas.Result.{err_from_is_err_and}
 use Rattle.line_runs.specs.RunAnswers.{FailsSo}
 use Rattle.workload.proofs.Outcomes.{ends_so, run_fails, words_fail}

@@ -1,7 +1,7 @@
 use Rattle.std.proofs.Common.{arith}
 use Rattle.std.proofs.lemmas.Grind.{common_steps}
 use Rattle.plain_store.specs.declared.step.Act.TheVariants.{Put, Get, Find}
-use Rattle.sessions.proofs.ToldOf.{served_by}
+use Rattle.server_sessions.proofs.ToldOf.{served_by}
 use Rattle.workload.proofs.Picked.{finds, gets, puts}
 use Rattle.workload.proofs.load.seats.run_round.Goals as goal
 

@@ -1,4 +1,4 @@
-use Rattle.verdicts.specs.Begun.{counts_begun}
+use Rattle.server_verdicts.specs.Begun.{counts_begun}
 use Rattle.workload.proofs.Counting.{counts_more}
 use Rattle.workload.proofs.load.tally.count_in.Goals as goal
 

@@ -1,6 +1,6 @@
 use Rattle.std.proofs.Common.{◌≡◌, ◌+◌, take}
 use Rattle.std.specs.Prelude.{sum_by}
-use Rattle.verdicts.specs.Begun.{counts_begun, told_count}
+use Rattle.server_verdicts.specs.Begun.{counts_begun, told_count}
 use Rattle.workload.proofs.load.tally.count_in.Given as goal
 
 abbrev pub invariant-loop-transcript : goal.invariant-loop-transcript

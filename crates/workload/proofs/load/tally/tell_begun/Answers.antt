@@ -1,7 +1,7 @@
 use Rattle.std.proofs.Common.{◌<◌, arith}
 use Rattle.std.proofs.lemmas.Result.{err_from_is_err_and}
-use Rattle.verdicts.specs.Verdicts.{named_count}
-use Rattle.verdicts.proofs.ToldVerdicts.{count_breaks_off, none_counted, one_counted}
+use Rattle.server_verdicts.specs.Verdicts.{named_count}
+use Rattle.server_verdicts.proofs.ToldVerdicts.{count_breaks_off, none_counted, one_counted}
 use Rattle.workload.proofs.load.tally.tell_begun.Goals as goal
 
 pub loop-tenant-init : goal.loop-tenant-init

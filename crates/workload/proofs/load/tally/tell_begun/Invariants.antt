@@ -1,4 +1,4 @@
-use Rattle.verdicts.proofs.ToldVerdicts.{TellsCountsOf}
+use Rattle.server_verdicts.proofs.ToldVerdicts.{TellsCountsOf}
 use Rattle.workload.proofs.load.tally.tell_begun.Given as goal
 
 abbrev pub invariant-loop-tenant : goal.invariant-loop-tenant

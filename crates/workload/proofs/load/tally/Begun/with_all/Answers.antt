@@ -9,7 +9,7 @@ use Rattle.entry_list.specs.declared.kinds.Entry.{Entry}
 use Rattle.entry_list.specs.declared.kinds.Entry.TheVariants.{Began, Took, Answered}
 use Rattle.entry_list.specs.declared.kinds.Operation.{Operation}
 use Rattle.entry_list.specs.PackedEntries.{operation_of, operation_of_act}
-use Rattle.verdicts.specs.Begun.{BegunCounts, counts_of_act, counts_of_entry, counts_of_operation, told_count}
+use Rattle.server_verdicts.specs.Begun.{BegunCounts, counts_of_act, counts_of_entry, counts_of_operation, told_count}
 use Rattle.workload.proofs.Counting.{counts_more}
 use Rattle.workload.proofs.load.tally.Begun.with_all.Goals as goal
 

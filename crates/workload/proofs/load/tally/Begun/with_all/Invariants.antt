@@ -1,6 +1,6 @@
 use Rattle.std.proofs.Common.{◌≡◌, ◌+◌, ◌≤◌, length, take}
 use Rattle.std.specs.Prelude.{sum_by}
-use Rattle.verdicts.specs.Begun.{counts_of_entry, told_count}
+use Rattle.server_verdicts.specs.Begun.{counts_of_entry, told_count}
 use Rattle.workload.proofs.load.tally.Begun.with_all.Given as goal
 
 abbrev pub invariant-loop-at : goal.invariant-loop-at

@@ -1,0 +1,29 @@
+use Rattle.std.proofs.Common.{ap, codes, ◌∙◌}
+use Rattle.std.proofs.lemmas.Result.{IfOk-weaker}
+use Rattle.clap.specs.Words.{AddsArg, new_app}
+use Rattle.clap.specs.Simple.{app_of_fields}
+use Rattle.clap.specs.declared.builder.command.Command.{Command}
+use Rattle.command_line.specs.Words.{pace_rules, serve_command, store_rules, with_rules}
+use Rattle.command_line.proofs.KnownWords.{Knows, knows_more}
+use Rattle.command_line.proofs.command.serve_command.Goals as goal
+
+known : (c : goal.After-arg-6) (command : Command) → AddsArg c.in_ok-with_pace.field-0 c.tenants.result command → Knows command serve_command
+known c command adds =
+    let begun = ap app_of_fields c.after_help-serve.ensures ∙ ap app_of_fields c.about.ensures ∙ c.new.ensures.app in
+    let store : Knows c.in_ok-with_store.field-0 (with_rules (new_app (codes "serve")) store_rules) = record {
+      words = c.in_ok-with_store.ensures.words ∙ ap (λ app. with_rules app store_rules) begun;
+      local = c.in_ok-with_store.ensures.local;
+    } in
+    let port = knows_more c.in_ok-with_store.field-0 c.port.result c.in_ok-arg.field-0 _ _ store c.port.ensures.rule c.port.ensures.local c.in_ok-arg.ensures in
+    let sessions = knows_more c.in_ok-arg.field-0 c.number.result c.in_ok-arg-2.field-0 _ _ port c.number.ensures.rule c.number.ensures.local c.in_ok-arg-2.ensures in
+    let stay = knows_more c.in_ok-arg-2.field-0 c.stay.result c.in_ok-arg-3.field-0 _ _ sessions c.stay.ensures.rule c.stay.ensures.local c.in_ok-arg-3.ensures in
+    let strict = knows_more c.in_ok-arg-3.field-0 c.strict.result c.in_ok-arg-4.field-0 _ _ stay c.strict.ensures.rule c.strict.ensures.local c.in_ok-arg-4.ensures in
+    let newest = knows_more c.in_ok-arg-4.field-0 c.newest.result c.in_ok-serve.serve _ _ strict c.newest.ensures.rule c.newest.ensures.local c.in_ok-serve.ensures in
+    let paced : Knows c.in_ok-with_pace.field-0 _ = record {
+      words = c.in_ok-with_pace.ensures.words ∙ ap (λ app. with_rules app pace_rules) newest.words;
+      local = c.in_ok-with_pace.ensures.local;
+    } in
+    knows_more c.in_ok-with_pace.field-0 c.tenants.result command _ _ paced c.tenants.ensures.rule c.tenants.ensures.local adds
+
+pub returns-clause-words : goal.returns-clause-words
+returns-clause-words c = IfOk-weaker c.arg-6.result _ _ (λ command adds. (known c command adds).words) c.arg-6.ensures

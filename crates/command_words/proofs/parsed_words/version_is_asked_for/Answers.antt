@@ -1,5 +1,0 @@
-use Rattle.command_words.proofs.WordsRead.{program_version}
-use Rattle.command_words.proofs.parsed_words.version_is_asked_for.Goals as goal
-
-pub returns : goal.returns
-returns c = program_version

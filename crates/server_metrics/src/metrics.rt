@@ -1,0 +1,324 @@
+//! What was read of a server, in the text format of Prometheus.
+ghost use Rattle.std.specs.Prelude.{◌≡◌, ◌-◌, ◌++◌, OnOk, if◌then◌else◌, not, string_bytes};
+ghost use Rattle.std.specs.List.{list_all};
+ghost use Rattle.std.specs.Option.{option_map};
+ghost use Rattle.server_metrics.specs.Figures.{figure_text};
+ghost use Rattle.server_metrics.specs.MetricsText.{all_tenants_text, client_text, clients_number, clients_text, connections_text, families_text, is_well, metrics_text, number_of, place_of, plain_text, process_text, refusal_rows_text, refusal_text, refusals_text, row_text, rows_text, server_text, table_text, tenants_text};
+
+use crate::families::{Family, OF_ROWS};
+use crate::figures::{Label, put_family, put_figure};
+use itoa::Buffer;
+use std::alloc::AllocError;
+
+/// How much one tenant uses of one partition, of which limits, and how the epochs of its journal there were.
+#[derive(Clone, Copy)]
+pub struct Row<'a> {
+    pub tenant: &'a str,
+    pub partition: u32,
+    pub items: u32,
+    pub items_limit: u32,
+    pub versions: u32,
+    pub versions_limit: u32,
+    pub marks: u32,
+    pub marks_limit: u32,
+    /// Calls that were served, collections among them.
+    pub calls: u64,
+    /// Epochs that were cut.
+    pub cut: u64,
+    /// How many of them were checked and right, where epochs are checked.
+    pub checked: Option<u64>,
+    /// Whether an epoch was not right, or could not be checked.
+    pub is_wrong: bool,
+}
+
+/// How many client numbers of a tenant were used, of how many.
+#[derive(Clone, Copy)]
+pub struct ClientRow<'a> {
+    pub tenant: &'a str,
+    pub clients: u64,
+    pub limit: u64,
+}
+
+/// How many lines were answered by one refusal.
+#[derive(Clone, Copy)]
+pub struct RefusalRow {
+    /// The number by which lines name it.
+    pub number: u8,
+    pub lines: u64,
+}
+
+/// What was read of a server.
+#[derive(Drop)]
+pub struct Readings<'a> {
+    /// For each partition a row of each tenant.
+    pub rows: Vec<Row<'a>>,
+    /// A row of each tenant.
+    pub clients: Vec<ClientRow<'a>>,
+    /// A row of each refusal.
+    pub refusals: Vec<RefusalRow>,
+    /// How many lines were answered by a restart.
+    pub restarts: u64,
+    /// The connections that are open, how many are served at a time, and how many were begun in all.
+    pub open: u64,
+    pub most: u64,
+    pub begun: u64,
+    /// When the server started, in seconds since 1970.
+    pub started: u64,
+    /// Which program it is.
+    pub version: &'static str,
+    /// Whether each partition is there.
+    pub is_whole: bool,
+}
+
+impl Readings<'_> {
+    /// Whether the server is well: each partition is there, and no epoch was found that is not right or could not be checked.
+    pub fn is_well(&self) -> bool
+        ensures { result ≡ is_well self.now }
+    {
+        self.is_whole && are_right(&self.rows)
+    }
+}
+
+// Whether no row is wrong.
+fn are_right(rows: &[Row<'_>]) -> bool
+    ensures { result ≡ list_all (λ row. not row.is_wrong) rows.now }
+{
+    rows.iter().all(|row| !row.is_wrong)
+}
+
+/// Appends the metrics that were read. Where memory is refused, a part of them may be there.
+pub fn put_metrics(text: &mut String, readings: &Readings<'_>) -> Result<(), AllocError>
+    ensures { OnOk result (string_bytes text.new ≡ string_bytes text.old ++ metrics_text readings.now) }
+{
+    put_table(text, &readings.rows)?;
+    put_all_tenants(text, &readings.clients)?;
+    put_refusals(text, &readings.refusals)?;
+    put_server(text, readings)
+}
+
+// Appends all families of rows.
+#[tactic(auto, unfolding(crate::specs::MetricsText::table_text))]
+fn put_table(text: &mut String, rows: &[Row<'_>]) -> Result<(), AllocError>
+    ensures { OnOk result (string_bytes text.new ≡ string_bytes text.old ++ table_text rows.now) }
+{
+    put_families(text, &OF_ROWS, rows)
+}
+
+// Appends families of rows, each with its number of each row.
+fn put_families(text: &mut String, families: &[Family], rows: &[Row<'_>]) -> Result<(), AllocError>
+    ensures { OnOk result (string_bytes text.new ≡ string_bytes text.old ++ families_text rows.now families.now) }
+{
+    for family in families {
+        put_family(text, *family)?;
+        put_rows(text, *family, rows)?;
+    }
+    Ok(())
+}
+
+// Appends a family's number of each row.
+fn put_rows(text: &mut String, family: Family, rows: &[Row<'_>]) -> Result<(), AllocError>
+    ensures { OnOk result (string_bytes text.new ≡ string_bytes text.old ++ rows_text family rows.now) }
+{
+    for row in rows {
+        put_row(text, family, row)?;
+    }
+    Ok(())
+}
+
+// Appends a family's number of a row, if the row has it.
+fn put_row(text: &mut String, family: Family, row: &Row<'_>) -> Result<(), AllocError>
+    ensures { OnOk result (string_bytes text.new ≡ string_bytes text.old ++ row_text family row.now) }
+{
+    let Some(number) = number_of(family, row) else {
+        return Ok(());
+    };
+    let mut buffer = Buffer::new();
+    let partition = buffer.format(row.partition);
+    put_placed(text, family, row.tenant, partition, number)
+}
+
+// Appends a family's number of a tenant at a partition.
+fn put_placed<'a>(
+    text: &mut String,
+    family: Family,
+    tenant: &'a str,
+    partition: &'a str,
+    number: u64,
+) -> Result<(), AllocError>
+    ensures { OnOk result (string_bytes text.new ≡ string_bytes text.old ++ figure_text family (place_of tenant.now partition.now) number) }
+{
+    let labels = [
+        Label {
+            name: "tenant",
+            value: tenant,
+        },
+        Label {
+            name: "partition",
+            value: partition,
+        },
+    ];
+    put_figure(text, family, &labels, number)
+}
+
+// A family's number of a row, if the row has it.
+fn number_of(family: Family, row: &Row<'_>) -> Option<u64>
+    ensures { result ≡ number_of family row.now }
+{
+    match family {
+        Family::Items => Some(u64::from(row.items)),
+        Family::ItemsLimit => Some(u64::from(row.items_limit)),
+        Family::Versions => Some(u64::from(row.versions)),
+        Family::VersionsLimit => Some(u64::from(row.versions_limit)),
+        Family::Marks => Some(u64::from(row.marks)),
+        Family::MarksLimit => Some(u64::from(row.marks_limit)),
+        Family::Calls => Some(row.calls),
+        Family::Cut => Some(row.cut),
+        Family::Checked => row.checked,
+        Family::Waiting => waiting_of(row),
+        Family::Wrong => wrong_of(row),
+        _ => None,
+    }
+}
+
+// How many epochs wait for their check, where epochs are checked.
+fn waiting_of(row: &Row<'_>) -> Option<u64>
+    ensures { result ≡ option_map (λ checked. row.now.cut - checked) row.now.checked }
+{
+    match row.checked {
+        Some(checked) => Some(row.cut.saturating_sub(checked)),
+        None => None,
+    }
+}
+
+// 1 where an epoch was not right, else 0, where epochs are checked.
+fn wrong_of(row: &Row<'_>) -> Option<u64>
+    ensures { result ≡ option_map (λ checked. if row.now.is_wrong then 1 else 0) row.now.checked }
+{
+    if row.checked.is_none() {
+        return None;
+    }
+    Some(if row.is_wrong { 1 } else { 0 })
+}
+
+// Appends how many client numbers of each tenant were used, and how many may be.
+#[tactic(auto, unfolding(crate::specs::MetricsText::all_tenants_text))]
+fn put_all_tenants(text: &mut String, rows: &[ClientRow<'_>]) -> Result<(), AllocError>
+    ensures { OnOk result (string_bytes text.new ≡ string_bytes text.old ++ all_tenants_text rows.now) }
+{
+    put_tenants(text, Family::Clients, rows)?;
+    put_tenants(text, Family::ClientsLimit, rows)
+}
+
+// Appends a family with its number of each tenant.
+fn put_tenants(text: &mut String, family: Family, rows: &[ClientRow<'_>]) -> Result<(), AllocError>
+    ensures { OnOk result (string_bytes text.new ≡ string_bytes text.old ++ tenants_text family rows.now) }
+{
+    put_family(text, family)?;
+    put_clients(text, family, rows)
+}
+
+// Appends a family's number of each tenant.
+fn put_clients(text: &mut String, family: Family, rows: &[ClientRow<'_>]) -> Result<(), AllocError>
+    ensures { OnOk result (string_bytes text.new ≡ string_bytes text.old ++ clients_text family rows.now) }
+{
+    for row in rows {
+        put_client(text, family, row)?;
+    }
+    Ok(())
+}
+
+// Appends a family's number of a tenant.
+fn put_client(text: &mut String, family: Family, row: &ClientRow<'_>) -> Result<(), AllocError>
+    ensures { OnOk result (string_bytes text.new ≡ string_bytes text.old ++ client_text family row.now) }
+{
+    let labels = [Label {
+        name: "tenant",
+        value: row.tenant,
+    }];
+    put_figure(text, family, &labels, clients_number(family, row))
+}
+
+// A family's number of a tenant.
+fn clients_number(family: Family, row: &ClientRow<'_>) -> u64
+    ensures { result ≡ clients_number family row.now }
+{
+    match family {
+        Family::ClientsLimit => row.limit,
+        _ => row.clients,
+    }
+}
+
+// Appends how many lines were answered by each refusal.
+#[tactic(auto, unfolding(crate::specs::MetricsText::refusals_text))]
+fn put_refusals(text: &mut String, rows: &[RefusalRow]) -> Result<(), AllocError>
+    ensures { OnOk result (string_bytes text.new ≡ string_bytes text.old ++ refusals_text rows.now) }
+{
+    put_family(text, Family::Refusals)?;
+    put_refusal_rows(text, Family::Refusals, rows)
+}
+
+// Appends a family's line of each refusal.
+fn put_refusal_rows(
+    text: &mut String,
+    family: Family,
+    rows: &[RefusalRow],
+) -> Result<(), AllocError>
+    ensures { OnOk result (string_bytes text.new ≡ string_bytes text.old ++ refusal_rows_text family rows.now) }
+{
+    for row in rows {
+        put_refusal(text, family, row)?;
+    }
+    Ok(())
+}
+
+// Appends a family's line of a refusal.
+fn put_refusal(text: &mut String, family: Family, row: &RefusalRow) -> Result<(), AllocError>
+    ensures { OnOk result (string_bytes text.new ≡ string_bytes text.old ++ refusal_text family row.now) }
+{
+    let mut buffer = Buffer::new();
+    let labels = [Label {
+        name: "number",
+        value: buffer.format(row.number),
+    }];
+    put_figure(text, family, &labels, row.lines)
+}
+
+// Appends what was read of the sessions and the process.
+#[tactic(auto, unfolding(crate::specs::MetricsText::server_text))]
+fn put_server(text: &mut String, readings: &Readings<'_>) -> Result<(), AllocError>
+    ensures { OnOk result (string_bytes text.new ≡ string_bytes text.old ++ server_text readings.now) }
+{
+    put_plain(text, Family::Restarts, readings.restarts)?;
+    put_connections(text, readings)?;
+    put_process(text, readings)
+}
+
+// Appends how many connections there are, may be and were begun.
+fn put_connections(text: &mut String, readings: &Readings<'_>) -> Result<(), AllocError>
+    ensures { OnOk result (string_bytes text.new ≡ string_bytes text.old ++ connections_text readings.now) }
+{
+    put_plain(text, Family::Connections, readings.open)?;
+    put_plain(text, Family::ConnectionsLimit, readings.most)?;
+    put_plain(text, Family::ConnectionsBegun, readings.begun)
+}
+
+// Appends when the server started, and which program it is.
+fn put_process(text: &mut String, readings: &Readings<'_>) -> Result<(), AllocError>
+    ensures { OnOk result (string_bytes text.new ≡ string_bytes text.old ++ process_text readings.now) }
+{
+    put_plain(text, Family::Started, readings.started)?;
+    put_family(text, Family::Build)?;
+    let labels = [Label {
+        name: "version",
+        value: readings.version,
+    }];
+    put_figure(text, Family::Build, &labels, 1)
+}
+
+// Appends a family of one number.
+fn put_plain(text: &mut String, family: Family, number: u64) -> Result<(), AllocError>
+    ensures { OnOk result (string_bytes text.new ≡ string_bytes text.old ++ plain_text family number) }
+{
+    put_family(text, family)?;
+    put_figure(text, family, &[], number)
+}

@@ -1,0 +1,476 @@
+-- Lines are answered in their turn: for `answer_next`, `answer_waiting`, `answer_piece`, `answer_lines` and `run_session`.
+use Rattle.std.proofs.Common.{◌≡◌, ℕ, ◌+◌, zero, suc, List, [], ◌∷◌, ◌++◌, length, take, Option, Some, None, Result, Ok, Err, refl, sym, ap, subst, ◌∙◌, append_assoc, inl, inr, arith}
+use Rattle.std.specs.Prelude.{IfErr, IfOk, IfSome, IsSome, OnOk, is_some, true, false}
+use Rattle.std.specs.Io.KnownBytes.{Appends, Consumes, IsAtEnd, Keeps}
+use Rattle.std.proofs.KnownBytes.{Appends-kept, Appends-nil, Appends-trans}
+use Rattle.std.proofs.lemmas.List.{append-nil}
+use Rattle.plain_store.specs.declared.refusal.Refusal.{Refusal}
+use Rattle.plain_store.specs.declared.refusal.Refusal.TheVariants.{LineTooLong, OutOfMemory}
+use Rattle.plain_store.specs.declared.answer.Answer.{Answer}
+use Rattle.plain_store.specs.declared.answer.Answer.TheVariants.{Refused}
+use Rattle.closed_store.specs.declared.transcript.Transcript.{Transcript}
+use Rattle.hub.specs.Hubs.{ConfigView}
+use Rattle.hub.specs.Seats.{IsNamed, SeatView}
+use Rattle.line_protocol.specs.AnswerSpelling.{answer_line}
+use Rattle.line_protocol.specs.Held.{EndsAs}
+use Rattle.line_protocol.specs.declared.request.Request.{Request}
+use Rattle.cell_lines.specs.Stream.{HasNoLineFeed, IsLine, IsTooLong, lines_of, terminated}
+use Rattle.line_runs.specs.RunAnswers.{Gathers}
+use Rattle.line_runs.proofs.Fronts.{begins_behind_gathered, AnswersFront-line, AnswersFront-refl, AnswersFront-trans}
+use Rattle.line_runs.proofs.Gathering.{Gathers-end, Gathers-none, Gathers-text, Gathers-trans}
+use Rattle.line_runs.proofs.Lines.{lines_of-none}
+use Rattle.line_runs.proofs.Steps.{IsTooLong-append}
+use Rattle.server_sessions.specs.declared.session_options.SessionOptions.{SessionOptions}
+use Rattle.server_sessions.specs.declared.line_session.SessionEnd.{SessionEnd}
+use Rattle.server_sessions.specs.declared.line_session.SessionEnd.TheVariants.{Silent, Bye as SaysBye, Unread, Refused as IsRefused}
+use Rattle.server_sessions.specs.Answering.{GoesOnBehind, IsAnsweredAlone, IsAnsweredBy, IsEndOfInput, IsLineAnswered, last_line, refused_as}
+use Rattle.server_sessions.specs.Answered.{AnswersLines, AnswersUpTo, EndsBefore, EndsFor, HasAnswered, IsOfSeat, BreaksOffIn, HasAnsweredSome, StaysBehind, TakesBytes, TakesInput}
+use Rattle.server_sessions.specs.Telling.{IsAnsweredAndDrained, IsDrained, IsLastLine}
+use Rattle.server_sessions.proofs.ToldOf.{Gathers-emptied}
+
+-- ---- what was done so far
+
+-- so far a prefix of the stream was answered by the text that was gathered or written
+pub record SoFar (options : SessionOptions) (hub : ConfigView) (names : List (List ℕ)) (first now : Option SeatView) (stream left : List ℕ)
+    (old new : Option (List ℕ)) (before after : List ℕ) : Type 0 where
+  pub text : List ℕ
+  pub gathers : Gathers old new before after text
+  pub answers : AnswersUpTo options hub names first now stream left text
+
+-- so far of an input, where its bytes and those that are left are known
+abbrev pub RunsSo : SessionOptions → ConfigView → List (List ℕ) → Option SeatView → Option SeatView → (held : List ℕ)
+    → (input left : Option (List ℕ)) → (old new : Option (List ℕ)) → (before after : List ℕ) → Type 0
+RunsSo options hub names first now held None left old new before after = Unit {0}
+RunsSo options hub names first now held (Some input) None old new before after = ⊥
+RunsSo options hub names first now held (Some input) (Some left) old new before after =
+    SoFar options hub names first now input (held ++ left) old new before after
+
+-- ---- a line
+
+-- a seat answers what it is asked
+pub seat_answers : (options : SessionOptions) (hub : ConfigView) (names : List (List ℕ)) (request : Request) (old : Option SeatView) (seat new : SeatView) (answer : Answer) → old ≡ Some seat
+    → IsAnsweredAndDrained options.newest hub.epoch (length hub.limits) request seat answer new → IsAnsweredBy options hub names request old answer (Some new)
+seat_answers options hub names request old seat new answer is h = subst (λ (s : Option SeatView). IsAnsweredBy options hub names request s answer (Some new)) (sym is) (new, refl, h)
+
+-- while there is no seat
+pub none_answers : (options : SessionOptions) (hub : ConfigView) (names : List (List ℕ)) (request : Request) (old new : Option SeatView) (answer : Answer) → old ≡ None → IsAnsweredAlone (length hub.limits) names request answer new
+    → IsAnsweredBy options hub names request old answer new
+none_answers options hub names request old new answer is h = subst (λ (s : Option SeatView). IsAnsweredBy options hub names request s answer new) (sym is) h
+
+-- a line that was not read for an allocation failure, or since it asks for nothing
+pub refused_same : (seat : Option SeatView) (cause : Refusal) → (cause ≡ OutOfMemory → seat ≡ None → ⊥) → cause ≡ refused_as seat cause
+refused_same (Some seat) cause not = refl
+refused_same None OutOfMemory not = absurd (not refl refl)
+refused_same None cause not = refl
+
+-- ---- a prefix of a stream
+
+pub up_to_none : (options : SessionOptions) (hub : ConfigView) (names : List (List ℕ)) (seat : Option SeatView) (stream : List ℕ) → AnswersUpTo options hub names seat seat stream stream []
+up_to_none options hub names seat stream last = AnswersFront-refl (AnswersLines options hub names last) seat stream
+
+pub up_to_line : (options : SessionOptions) (hub : ConfigView) (names : List (List ℕ)) (old new : Option SeatView) (line : List ℕ) (answer : Answer) → IsLine line → IsLineAnswered options hub names line old answer new → GoesOnBehind options old line
+    → AnswersUpTo options hub names old new (terminated line) [] (answer_line answer)
+up_to_line options hub names old new line answer is answered goes last =
+    AnswersFront-line (AnswersLines options hub names last) old new line (answer_line answer) is (λ lines others h. (answer, new, others, answered, goes, refl, h))
+
+pub up_to_trans : (options : SessionOptions) (hub : ConfigView) (names : List (List ℕ)) (a b c : Option SeatView) (stream mid held kept after w v : List ℕ) → AnswersUpTo options hub names a b stream mid w
+    → AnswersUpTo options hub names b c held kept v → mid ≡ held ++ after → AnswersUpTo options hub names a c stream (kept ++ after) (w ++ v)
+up_to_trans options hub names a b c stream mid held kept after w v h k is last =
+    AnswersFront-trans (AnswersLines options hub names last) a b c stream mid held kept after w v (h last) (k last) is
+
+-- ---- how a session ends
+
+-- more was answered before
+ends_behind : (options : SessionOptions) (seat : Option SeatView) (ending : SessionEnd) (left before text : List ℕ) → EndsFor options seat ending left text → EndsFor options seat ending left (before ++ text)
+ends_behind options seat Silent left before text (inl none) = inl none
+ends_behind options seat Silent left before text (inr (seated, (so_far, is))) = inr (seated, (before ++ so_far, ap (λ (t : List ℕ). before ++ t) is ∙ sym (append_assoc before so_far (answer_line (Refused OutOfMemory)))))
+ends_behind options seat SaysBye left before text h = h
+ends_behind options seat Unread left before text h = h
+ends_behind options seat (IsRefused cause) left before text h = h
+
+not_terminated : (line : List ℕ) → HasNoLineFeed (terminated line) → ⊥
+not_terminated [] h = let e = h.0 in cc
+not_terminated (b ∷ line) h = not_terminated line h.1
+
+-- the input is at its end
+pub ends_here : (options : SessionOptions) (seat : Option SeatView) (ending : SessionEnd) (held text : List ℕ) → HasNoLineFeed held → IsEndOfInput held ending → EndsFor options seat ending held text
+ends_here options seat Silent held text open_ended (inl none) = inl none
+ends_here options seat Silent held text open_ended (inr waits) = absurd (not_terminated waits.0 (subst HasNoLineFeed waits.2 open_ended))
+ends_here options seat SaysBye held text open_ended h = absurd h
+ends_here options seat Unread held text open_ended h = absurd h
+ends_here options seat (IsRefused cause) held text open_ended h = h
+
+-- ---- what is taken of bytes that came
+
+-- a line is answered, and the session goes on
+pub goes_on : (options : SessionOptions) (hub : ConfigView) (names : List (List ℕ)) (old new : Option SeatView) (line : List ℕ) (answer : Answer) (a b : Option (List ℕ)) (x y : List ℕ) → IsLine line
+    → IsLineAnswered options hub names line old answer new → GoesOnBehind options old line → Gathers a b x y (answer_line answer)
+    → TakesBytes options hub names None old new (terminated line) [] a b x y
+goes_on options hub names old new line answer a b x y is answered goes gathers =
+    record { text = answer_line answer; left = []; seat = new; gathers = gathers; answers = up_to_line options hub names old new line answer is answered goes; goes = (refl, refl) }
+
+-- a line and nothing else is gathered
+pub gathers_line : (a b : Option (List ℕ)) (x y z line : List ℕ) → y ≡ x ++ line → Gathers a b y z [] → Gathers a b x z line
+gathers_line a b x y z line is h = subst (Gathers a b x z) (append-nil line) (Gathers-trans a a b x y z line [] (Gathers-text a x y line is) h)
+
+-- a line is answered by an allocation failure, and the session ends
+pub ends_without_memory : (options : SessionOptions) (hub : ConfigView) (names : List (List ℕ)) (old new : Option SeatView) (line : List ℕ) (answer : Answer) (a b : Option (List ℕ)) (x y : List ℕ) → IsLine line
+    → IsLineAnswered options hub names line old answer new → GoesOnBehind options old line → IsSome new × (answer ≡ Refused OutOfMemory) → Gathers a b x y (answer_line answer)
+    → TakesBytes options hub names (Some Silent) old new (terminated line) [] a b x y
+ends_without_memory options hub names old new line answer a b x y is answered goes want gathers = record {
+  text = answer_line answer;
+  left = [];
+  seat = new;
+  gathers = gathers;
+  answers = up_to_line options hub names old new line answer is answered goes;
+  goes = (λ more. inr (want.0, ([], ap answer_line want.1)), inl refl);
+}
+
+-- a line that ends the session comes next
+comes_next : (options : SessionOptions) (seat : Option SeatView) (ending : SessionEnd) (line more : List ℕ) → EndsBefore options seat ending line → EndsFor options seat ending (terminated line ++ more) []
+comes_next options seat Silent line more h = absurd h
+comes_next options seat SaysBye line more h = (line, more, refl, h)
+comes_next options seat Unread line more h = (line, more, refl, h)
+comes_next options seat (IsRefused cause) line more h = absurd h
+
+-- it is left for the end of the session
+pub ends_before : (options : SessionOptions) (hub : ConfigView) (names : List (List ℕ)) (old new : Option SeatView) (ending : SessionEnd) (line : List ℕ) (a : Option (List ℕ)) (x : List ℕ) → EndsBefore options old ending line
+    → StaysBehind hub.epoch old new → TakesBytes options hub names (Some ending) old new (terminated line) [] a a x x
+ends_before options hub names old new ending line a x h behind = record {
+  text = [];
+  left = terminated line;
+  seat = old;
+  gathers = Gathers-none a x;
+  answers = up_to_none options hub names old (terminated line);
+  goes = (λ more. comes_next options old ending line more h, behind);
+}
+
+-- no line waits
+pub takes_nothing : (options : SessionOptions) (hub : ConfigView) (names : List (List ℕ)) (seat : Option SeatView) (held : List ℕ) (a : Option (List ℕ)) (x : List ℕ) → TakesBytes options hub names None seat seat held held a a x x
+takes_nothing options hub names seat held a x =
+    record { text = []; left = held; seat = seat; gathers = Gathers-none a x; answers = up_to_none options hub names seat held; goes = (refl, refl) }
+
+-- what a flush kept before is taken as it was
+takes_kept : (options : SessionOptions) (hub : ConfigView) (names : List (List ℕ)) (ending : Option SessionEnd) (old new : Option SeatView) (bytes held : List ℕ) (a b c : Option (List ℕ)) (x z : List ℕ) → Keeps a b
+    → TakesBytes options hub names ending old new bytes held b c x z → TakesBytes options hub names ending old new bytes held a c x z
+takes_kept options hub names ending old new bytes held a b c x z keeps h = record {
+  text = h.text;
+  left = h.left;
+  seat = h.seat;
+  gathers = Gathers-trans a b c x x z [] h.text (record { written = []; appends = Appends-kept a a b [] (Appends-nil a) keeps; whole = append-nil x }) h.gathers;
+  answers = h.answers;
+  goes = h.goes;
+}
+
+-- the same of the line that waits
+pub takes_waiting : {E : Type 0} (options : SessionOptions) (hub : ConfigView) (names : List (List ℕ)) (r : Result (Option SessionEnd) E) (old new : Option SeatView) (line bytes held : List ℕ) (a b c : Option (List ℕ)) (x z : List ℕ) → Keeps a b
+    → bytes ≡ terminated line → IsLine line → held ≡ [] → IfOk r (λ ending. IsLine line → TakesBytes options hub names ending old new (terminated line) [] b c x z)
+    → IfOk r (λ ending. TakesBytes options hub names ending old new bytes held a c x z)
+takes_waiting options hub names (Err e) old new line bytes held a b c x z keeps waits is none h = tt
+takes_waiting options hub names (Ok ending) old new line bytes held a b c x z keeps waits is none h =
+    subst (λ (l : List ℕ). TakesBytes options hub names ending old new l held a c x z) (sym waits)
+    (subst (λ (l : List ℕ). TakesBytes options hub names ending old new (terminated line) l a c x z) (sym none)
+    (takes_kept options hub names ending old new (terminated line) [] a b c x z keeps (h is)))
+
+-- before a front was answered, and then what is taken of what was left
+pub takes_after : (options : SessionOptions) (hub : ConfigView) (names : List (List ℕ)) (ending : SessionEnd) (first now last : Option SeatView) (stream bytes after held kept : List ℕ) (a b c : Option (List ℕ)) (x y z : List ℕ)
+    → SoFar options hub names first now stream (bytes ++ after) a b x y → TakesBytes options hub names (Some ending) now last bytes held b c y z
+    → TakesBytes options hub names (Some ending) first last stream kept a c x z
+takes_after options hub names ending first now last stream bytes after held kept a b c x y z h k =
+    let goes : ((more : List ℕ) → EndsFor options k.seat ending (k.left ++ more) k.text) × StaysBehind hub.epoch k.seat last = k.goes in record {
+      text = h.text ++ k.text;
+      left = k.left ++ after;
+      seat = k.seat;
+      gathers = Gathers-trans a b c x y z h.text k.text h.gathers k.gathers;
+      answers = up_to_trans options hub names first now k.seat stream (bytes ++ after) bytes k.left after h.text k.text h.answers k.answers refl;
+      goes = (
+        λ more. subst (λ (l : List ℕ). EndsFor options k.seat ending l (h.text ++ k.text)) (sym (append_assoc k.left after more)) (ends_behind options k.seat ending (k.left ++ (after ++ more)) h.text k.text (goes.0 (after ++ more))),
+        goes.1,
+      );
+    }
+
+pub takes_any_after : (options : SessionOptions) (hub : ConfigView) (names : List (List ℕ)) (ending : Option SessionEnd) (first now last : Option SeatView) (stream bytes after held kept : List ℕ) (a b c : Option (List ℕ)) (x y z : List ℕ)
+    → is_some ending ≡ true → SoFar options hub names first now stream (bytes ++ after) a b x y → TakesBytes options hub names ending now last bytes held b c y z
+    → TakesBytes options hub names ending first last stream kept a c x z
+takes_any_after options hub names None first now last stream bytes after held kept a b c x y z some h k = absurd cc
+takes_any_after options hub names (Some ending) first now last stream bytes after held kept a b c x y z some h k =
+    takes_after options hub names ending first now last stream bytes after held kept a b c x y z h k
+
+-- the same where the session goes on
+pub goes_after : (options : SessionOptions) (hub : ConfigView) (names : List (List ℕ)) (first now last : Option SeatView) (stream bytes after held : List ℕ) (a b c : Option (List ℕ)) (x y z : List ℕ)
+    → SoFar options hub names first now stream (bytes ++ after) a b x y → TakesBytes options hub names None now last bytes held b c y z
+    → SoFar options hub names first last stream (held ++ after) a c x z
+goes_after options hub names first now last stream bytes after held a b c x y z h k =
+    let goes : (k.left ≡ held) × (last ≡ k.seat) = k.goes in record {
+      text = h.text ++ k.text;
+      gathers = Gathers-trans a b c x y z h.text k.text h.gathers k.gathers;
+      answers = subst (λ (s : Option SeatView). AnswersUpTo options hub names first s stream (held ++ after) (h.text ++ k.text)) (sym goes.1)
+          (subst (λ (l : List ℕ). AnswersUpTo options hub names first k.seat stream (l ++ after) (h.text ++ k.text)) goes.0
+          (up_to_trans options hub names first now k.seat stream (bytes ++ after) bytes k.left after h.text k.text h.answers k.answers refl));
+    }
+
+pub goes_any_after : (options : SessionOptions) (hub : ConfigView) (names : List (List ℕ)) (ending : Option SessionEnd) (first now last : Option SeatView) (stream bytes after held : List ℕ) (a b c : Option (List ℕ)) (x y z : List ℕ)
+    → is_some ending ≡ false → SoFar options hub names first now stream (bytes ++ after) a b x y → TakesBytes options hub names ending now last bytes held b c y z
+    → SoFar options hub names first last stream (held ++ after) a c x z
+goes_any_after options hub names (Some ending) first now last stream bytes after held a b c x y z none h k = absurd cc
+goes_any_after options hub names None first now last stream bytes after held a b c x y z none h k = goes_after options hub names first now last stream bytes after held a b c x y z h k
+
+-- what was taken in so far, where no more comes of these bytes
+pub takes_so_far : (options : SessionOptions) (hub : ConfigView) (names : List (List ℕ)) (first now : Option SeatView) (stream held : List ℕ) (a b : Option (List ℕ)) (x y : List ℕ)
+    → SoFar options hub names first now stream held a b x y → TakesBytes options hub names None first now stream held a b x y
+takes_so_far options hub names first now stream held a b x y h =
+    record { text = h.text; left = held; seat = now; gathers = h.gathers; answers = h.answers; goes = (refl, refl) }
+
+-- a line is too long
+pub takes_too_long : (options : SessionOptions) (hub : ConfigView) (names : List (List ℕ)) (first now : Option SeatView) (stream left held : List ℕ) (cause : Refusal) (a b : Option (List ℕ)) (x y : List ℕ)
+    → SoFar options hub names first now stream left a b x y → IsTooLong left → cause ≡ LineTooLong
+    → TakesBytes options hub names (Some (IsRefused cause)) first now stream held a b x y
+takes_too_long options hub names first now stream left held cause a b x y h long is = record {
+  text = h.text;
+  left = left;
+  seat = now;
+  gathers = h.gathers;
+  answers = h.answers;
+  goes = (λ more. subst (λ (e : Refusal). EndsAs (left ++ more) (Err e)) (sym is) (IsTooLong-append left more long), inl refl);
+}
+
+-- ---- what is taken of an input
+
+pub runs_at_first : (options : SessionOptions) (hub : ConfigView) (names : List (List ℕ)) (seat : Option SeatView) (input writer : Option (List ℕ)) (out held : List ℕ) → held ≡ []
+    → RunsSo options hub names seat seat held input input writer writer out out
+runs_at_first options hub names seat None writer out held none = tt
+runs_at_first options hub names seat (Some input) writer out held none =
+    subst (λ (l : List ℕ). SoFar options hub names seat seat input (l ++ input) writer writer out out) (sym none)
+    (record { text = []; gathers = Gathers-none writer out; answers = up_to_none options hub names seat input })
+
+joined : (held piece left after : List ℕ) → left ≡ piece ++ after → held ++ left ≡ (held ++ piece) ++ after
+joined held piece left after eats = ap (λ (t : List ℕ). held ++ t) eats ∙ sym (append_assoc held piece after)
+
+-- a piece is answered, and what is gathered then is written
+pub runs_on : (options : SessionOptions) (hub : ConfigView) (names : List (List ℕ)) (first now next : Option SeatView) (held more piece : List ℕ) (input left after : Option (List ℕ)) (a b c d : Option (List ℕ)) (x y z w : List ℕ)
+    → RunsSo options hub names first now held input left a b x y → Consumes left after piece → TakesBytes options hub names None now next (held ++ piece) more b c y z → Appends c d z → w ≡ []
+    → RunsSo options hub names first next more input after a d x w
+runs_on options hub names first now next held more piece None left after a b c d x y z w run eats takes adds none = tt
+runs_on options hub names first now next held more piece (Some input) None after a b c d x y z w run eats takes adds none = absurd run
+runs_on options hub names first now next held more piece (Some input) (Some left) None a b c d x y z w run eats takes adds none = absurd eats
+runs_on options hub names first now next held more piece (Some input) (Some left) (Some after) a b c d x y z w run eats takes adds none =
+    let so_far = goes_after options hub names first now next input (held ++ piece) after more a b c x y z
+    (subst (λ (l : List ℕ). SoFar options hub names first now input l a b x y) (joined held piece left after eats) run) takes in
+    record { text = so_far.text; gathers = Gathers-emptied a c d x z w so_far.text so_far.gathers adds none; answers = so_far.answers }
+
+-- the session ends in a piece
+pub ends_in_piece : (options : SessionOptions) (hub : ConfigView) (names : List (List ℕ)) (ending : SessionEnd) (first now last : Option SeatView) (held more piece : List ℕ) (input left after : Option (List ℕ)) (a b c : Option (List ℕ)) (x y z : List ℕ)
+    → RunsSo options hub names first now held input left a b x y → Consumes left after piece → TakesBytes options hub names (Some ending) now last (held ++ piece) more b c y z
+    → IfSome input (λ stream. TakesInput options hub names ending first last stream a c x z)
+ends_in_piece options hub names ending first now last held more piece None left after a b c x y z run eats takes = tt
+ends_in_piece options hub names ending first now last held more piece (Some input) None after a b c x y z run eats takes = absurd run
+ends_in_piece options hub names ending first now last held more piece (Some input) (Some left) None a b c x y z run eats takes = absurd eats
+ends_in_piece options hub names ending first now last held more piece (Some input) (Some left) (Some after) a b c x y z run eats takes =
+    let all = takes_after options hub names ending first now last input (held ++ piece) after more more a b c x y z
+    (subst (λ (l : List ℕ). SoFar options hub names first now input l a b x y) (joined held piece left after eats) run) takes in
+    let goes : ((more : List ℕ) → EndsFor options all.seat ending (all.left ++ more) all.text) × StaysBehind hub.epoch all.seat last = all.goes in record {
+      text = all.text;
+      left = all.left;
+      seat = all.seat;
+      gathers = all.gathers;
+      answers = all.answers;
+      ends = subst (λ (l : List ℕ). EndsFor options all.seat ending l all.text) (append-nil all.left) (goes.0 []);
+      behind = goes.1;
+    }
+
+-- the session ends at the end of the input
+pub ends_at_end : (options : SessionOptions) (hub : ConfigView) (names : List (List ℕ)) (ending : SessionEnd) (first now : Option SeatView) (held : List ℕ) (input left after : Option (List ℕ)) (a b : Option (List ℕ)) (x y : List ℕ)
+    → RunsSo options hub names first now held input left a b x y → Consumes left after [] → IsAtEnd after → HasNoLineFeed held → IsEndOfInput held ending
+    → IfSome input (λ stream. TakesInput options hub names ending first now stream a b x y)
+ends_at_end options hub names ending first now held None left after a b x y run eats at open_ended ends = tt
+ends_at_end options hub names ending first now held (Some input) None after a b x y run eats at open_ended ends = absurd run
+ends_at_end options hub names ending first now held (Some input) (Some left) None a b x y run eats at open_ended ends = absurd eats
+ends_at_end options hub names ending first now held (Some input) (Some left) (Some after) a b x y run eats at open_ended ends =
+    let all : held ++ left ≡ held = ap (λ (t : List ℕ). held ++ t) (eats ∙ at) ∙ append-nil held in
+    let so_far = subst (λ (l : List ℕ). SoFar options hub names first now input l a b x y) all run in
+    record { text = so_far.text; left = held; seat = now; gathers = so_far.gathers; answers = so_far.answers; ends = ends_here options now ending held so_far.text open_ended ends; behind = inl refl }
+
+-- ---- the transcript
+
+drained_name : (epoch : ℕ) (old new : SeatView) → IsDrained epoch old new → new.name ≡ old.name
+drained_name zero old new drained = ap (λ (s : SeatView). s.name) (drained.0 refl)
+drained_name (suc n) old new drained = ap (λ (s : SeatView). s.name) (drained.1 (omega arith))
+
+-- the transcript of a seat from which entries may have been returned
+left_in : (epoch : ℕ) (seat : SeatView) (after : SeatView) (transcript : Option Transcript) → IsDrained epoch seat after → IsOfSeat 0 (Some after) transcript → IsOfSeat epoch (Some seat) transcript
+left_in epoch seat after transcript drained h = (
+  h.0,
+  h.1,
+  subst (IsNamed h.0) (drained_name epoch seat after drained) h.2,
+  λ never. h.3 refl ∙ ap (λ (s : SeatView). s.entries) (drained.0 never),
+)
+
+kept_in : (epoch : ℕ) (seat : Option SeatView) (transcript : Option Transcript) → IsOfSeat 0 seat transcript → IsOfSeat epoch seat transcript
+kept_in epoch None transcript h = h
+kept_in epoch (Some seat) transcript h = (h.0, h.1, h.2, λ never. h.3 refl)
+
+pub of_seat : (epoch : ℕ) (seat last : Option SeatView) (transcript : Option Transcript) → StaysBehind epoch seat last → IsOfSeat 0 last transcript → IsOfSeat epoch seat transcript
+of_seat epoch seat last transcript (inl same) h = kept_in epoch seat transcript (subst (λ (s : Option SeatView). IsOfSeat 0 s transcript) same h)
+of_seat epoch seat last transcript (inr (old, after, is, then, drained)) h =
+    subst (λ (s : Option SeatView). IsOfSeat epoch s transcript) (sym is)
+    (left_in epoch old after transcript drained (subst (λ (s : Option SeatView). IsOfSeat 0 s transcript) then h))
+
+-- ---- the whole of a session
+
+answered_whole : (options : SessionOptions) (hub : ConfigView) (names : List (List ℕ)) (ending : SessionEnd) (last : Option SeatView) (transcript : Option Transcript) (input : List ℕ) (a b c : Option (List ℕ)) (gathered : List ℕ)
+    → TakesInput options hub names ending None last input a b [] gathered → Appends b c (gathered ++ last_line ending) → IsOfSeat 0 last transcript
+    → HasAnswered options hub names input transcript a c
+answered_whole options hub names ending last transcript input a b c gathered h adds end =
+    let f = h.answers h.seat in
+    let done : AnswersLines options hub names h.seat h.seat (lines_of []) [] = subst (λ (ls : List (List ℕ)). AnswersLines options hub names h.seat h.seat ls []) (sym (lines_of-none [] tt)) (refl, refl) in
+    let all = (f.passes []).replies_to [] done in record {
+      front = f.front;
+      left = h.left;
+      whole = f.whole;
+      seat = h.seat;
+      text = h.text;
+      answers = subst (AnswersLines options hub names h.seat None (lines_of f.front)) (append-nil h.text)
+          (subst (λ (l : List ℕ). AnswersLines options hub names h.seat None (lines_of l) (h.text ++ [])) (append-nil f.front) all);
+      ending = ending;
+      ends = h.ends;
+      left_behind = of_seat hub.epoch h.seat last transcript h.behind end;
+      written = Gathers-end a b c gathered h.text (last_line ending) h.gathers adds;
+    }
+
+pub session_answered : {A E : Type 0} (options : SessionOptions) (hub : ConfigView) (names : List (List ℕ)) (r : Result A E) (ending : SessionEnd) (last : Option SeatView) (transcript : Option Transcript) (input : Option (List ℕ))
+    (a b c : Option (List ℕ)) (gathered : List ℕ) → IfSome input (λ stream. TakesInput options hub names ending None last stream a b [] gathered)
+    → OnOk r (Appends b c (gathered ++ last_line ending)) → IsOfSeat 0 last transcript
+    → IfOk r (λ done. IfSome input (λ stream. HasAnswered options hub names stream transcript a c))
+session_answered options hub names (Err e) ending last transcript input a b c gathered h adds end = tt
+session_answered options hub names (Ok done) ending last transcript None a b c gathered h adds end = tt
+session_answered options hub names (Ok done) ending last transcript (Some input) a b c gathered h adds end = answered_whole options hub names ending last transcript input a b c gathered h adds end
+
+-- ---- where a session breaks off
+
+-- after a line was answered
+pub breaks_at_line : (options : SessionOptions) (hub : ConfigView) (names : List (List ℕ)) (old new : Option SeatView) (line : List ℕ) (answer : Answer) (a b : Option (List ℕ)) (x y : List ℕ) (n : ℕ) → IsLine line
+    → IsLineAnswered options hub names line old answer new → GoesOnBehind options old line → y ≡ x ++ answer_line answer → Appends a b (take n y) → BreaksOffIn options hub names old new (terminated line) a b x
+breaks_at_line options hub names old new line answer a b x y n is answered goes same adds = record {
+  text = answer_line answer;
+  left = [];
+  size = n;
+  answers = up_to_line options hub names old new line answer is answered goes;
+  written = subst (λ (l : List ℕ). Appends a b (take n l)) same adds;
+}
+
+-- before a line is answered
+pub breaks_before : (options : SessionOptions) (hub : ConfigView) (names : List (List ℕ)) (seat : Option SeatView) (bytes : List ℕ) (a b : Option (List ℕ)) (x : List ℕ) → Keeps a b
+    → BreaksOffIn options hub names seat seat bytes a b x
+breaks_before options hub names seat bytes a b x keeps =
+    record { text = []; left = bytes; size = 0; answers = up_to_none options hub names seat bytes; written = Appends-kept a a b [] (Appends-nil a) keeps }
+
+-- what a flush kept before
+breaks_kept : (options : SessionOptions) (hub : ConfigView) (names : List (List ℕ)) (old new : Option SeatView) (bytes : List ℕ) (a b c : Option (List ℕ)) (x : List ℕ) → Keeps a b
+    → BreaksOffIn options hub names old new bytes b c x → BreaksOffIn options hub names old new bytes a c x
+breaks_kept options hub names old new bytes a b c x keeps h =
+    record { text = h.text; left = h.left; size = h.size; answers = h.answers; written = Appends-trans a b c [] (take h.size (x ++ h.text)) (Appends-kept a a b [] (Appends-nil a) keeps) h.written }
+
+pub breaks_waiting : {A E : Type 0} (options : SessionOptions) (hub : ConfigView) (names : List (List ℕ)) (r : Result A E) (old new : Option SeatView) (line bytes : List ℕ) (a b c : Option (List ℕ)) (x : List ℕ) → Keeps a b
+    → bytes ≡ terminated line → IsLine line → IfErr r (λ fault. IsLine line → BreaksOffIn options hub names old new (terminated line) b c x)
+    → IfErr r (λ fault. BreaksOffIn options hub names old new bytes a c x)
+breaks_waiting options hub names (Ok done) old new line bytes a b c x keeps waits is h = tt
+breaks_waiting options hub names (Err e) old new line bytes a b c x keeps waits is h =
+    subst (λ (l : List ℕ). BreaksOffIn options hub names old new l a c x) (sym waits) (breaks_kept options hub names old new (terminated line) a b c x keeps (h is))
+
+-- after a front was answered
+pub breaks_after : (options : SessionOptions) (hub : ConfigView) (names : List (List ℕ)) (first now last : Option SeatView) (stream bytes after : List ℕ) (a b c : Option (List ℕ)) (x y : List ℕ)
+    → SoFar options hub names first now stream (bytes ++ after) a b x y → BreaksOffIn options hub names now last bytes b c y → BreaksOffIn options hub names first last stream a c x
+breaks_after options hub names first now last stream bytes after a b c x y h k = record {
+  text = h.text ++ k.text;
+  left = k.left ++ after;
+  size = length h.gathers.written + k.size;
+  answers = up_to_trans options hub names first now last stream (bytes ++ after) bytes k.left after h.text k.text h.answers k.answers refl;
+  written = begins_behind_gathered a b c x y h.text k.text k.size h.gathers k.written;
+}
+
+-- where no more was answered, a beginning of what was gathered is written
+pub breaks_so_far : (options : SessionOptions) (hub : ConfigView) (names : List (List ℕ)) (first now : Option SeatView) (stream left : List ℕ) (a b c : Option (List ℕ)) (x y : List ℕ) (n : ℕ)
+    → SoFar options hub names first now stream left a b x y → Appends b c (take n y) → BreaksOffIn options hub names first now stream a c x
+breaks_so_far options hub names first now stream left a b c x y n h adds = record {
+  text = h.text;
+  left = left;
+  size = length h.gathers.written + n;
+  answers = h.answers;
+  written = subst (λ (l : List ℕ). Appends a c (take (length h.gathers.written + n) (x ++ l))) (append-nil h.text)
+      (begins_behind_gathered a b c x y h.text [] n h.gathers (subst (λ (l : List ℕ). Appends b c (take n l)) (sym (append-nil y)) adds));
+}
+
+-- of an input: where no more was answered
+pub breaks_run : (options : SessionOptions) (hub : ConfigView) (names : List (List ℕ)) (first now : Option SeatView) (held : List ℕ) (input left : Option (List ℕ)) (a b c : Option (List ℕ)) (x y : List ℕ) (n : ℕ)
+    → RunsSo options hub names first now held input left a b x y → Appends b c (take n y) → IfSome input (λ stream. BreaksOffIn options hub names first now stream a c x)
+breaks_run options hub names first now held None left a b c x y n run adds = tt
+breaks_run options hub names first now held (Some input) None a b c x y n run adds = absurd run
+breaks_run options hub names first now held (Some input) (Some left) a b c x y n run adds = breaks_so_far options hub names first now input (held ++ left) a b c x y n run adds
+
+-- and where a piece of it breaks off
+pub breaks_in_piece : (options : SessionOptions) (hub : ConfigView) (names : List (List ℕ)) (first now last : Option SeatView) (held piece : List ℕ) (input left after : Option (List ℕ)) (a b c : Option (List ℕ)) (x y : List ℕ)
+    → RunsSo options hub names first now held input left a b x y → Consumes left after piece → BreaksOffIn options hub names now last (held ++ piece) b c y
+    → IfSome input (λ stream. BreaksOffIn options hub names first last stream a c x)
+breaks_in_piece options hub names first now last held piece None left after a b c x y run eats breaks = tt
+breaks_in_piece options hub names first now last held piece (Some input) None after a b c x y run eats breaks = absurd run
+breaks_in_piece options hub names first now last held piece (Some input) (Some left) None a b c x y run eats breaks = absurd eats
+breaks_in_piece options hub names first now last held piece (Some input) (Some left) (Some after) a b c x y run eats breaks =
+    breaks_after options hub names first now last input (held ++ piece) after a b c x y
+    (subst (λ (l : List ℕ). SoFar options hub names first now input l a b x y) (joined held piece left after eats) run) breaks
+
+-- a piece was answered, and what is gathered could not be written
+pub breaks_behind_piece : (options : SessionOptions) (hub : ConfigView) (names : List (List ℕ)) (first now next : Option SeatView) (held more piece : List ℕ) (input left after : Option (List ℕ)) (a b c d : Option (List ℕ)) (x y z : List ℕ) (n : ℕ)
+    → RunsSo options hub names first now held input left a b x y → Consumes left after piece → TakesBytes options hub names None now next (held ++ piece) more b c y z → Appends c d (take n z)
+    → IfSome input (λ stream. BreaksOffIn options hub names first next stream a d x)
+breaks_behind_piece options hub names first now next held more piece None left after a b c d x y z n run eats takes adds = tt
+breaks_behind_piece options hub names first now next held more piece (Some input) None after a b c d x y z n run eats takes adds = absurd run
+breaks_behind_piece options hub names first now next held more piece (Some input) (Some left) None a b c d x y z n run eats takes adds = absurd eats
+breaks_behind_piece options hub names first now next held more piece (Some input) (Some left) (Some after) a b c d x y z n run eats takes adds =
+    breaks_so_far options hub names first next input (more ++ after) a c d x z n
+    (goes_after options hub names first now next input (held ++ piece) after more a b c x y z
+    (subst (λ (l : List ℕ). SoFar options hub names first now input l a b x y) (joined held piece left after eats) run) takes) adds
+
+-- the lines of the front that was answered
+front_lines : (options : SessionOptions) (hub : ConfigView) (names : List (List ℕ)) (seat : Option SeatView) (input left text : List ℕ) (h : AnswersUpTo options hub names None seat input left text)
+    → AnswersLines options hub names seat None (lines_of (h seat).front) text
+front_lines options hub names seat input left text h =
+    let f = h seat in
+    let done : AnswersLines options hub names seat seat (lines_of []) [] = subst (λ (ls : List (List ℕ)). AnswersLines options hub names seat seat ls []) (sym (lines_of-none [] tt)) (refl, refl) in
+    subst (AnswersLines options hub names seat None (lines_of f.front)) (append-nil text)
+    (subst (λ (l : List ℕ). AnswersLines options hub names seat None (lines_of l) (text ++ [])) (append-nil f.front) ((f.passes []).replies_to [] done))
+
+answered_some : (options : SessionOptions) (hub : ConfigView) (names : List (List ℕ)) (seat last : Option SeatView) (transcript : Option Transcript) (input left text : List ℕ) (a b : Option (List ℕ)) (end : List ℕ) (n : ℕ)
+    → AnswersUpTo options hub names None seat input left text → StaysBehind hub.epoch seat last → IsOfSeat 0 last transcript → IsLastLine end → Appends a b (take n (text ++ end))
+    → HasAnsweredSome options hub names input transcript a b
+answered_some options hub names seat last transcript input left text a b end n h behind of is adds = record {
+  front = (h seat).front;
+  left = left;
+  whole = (h seat).whole;
+  seat = seat;
+  text = text;
+  answers = front_lines options hub names seat input left text h;
+  left_behind = of_seat hub.epoch seat last transcript behind of;
+  last = end;
+  is_last = is;
+  size = n;
+  written = adds;
+}
+
+-- the whole of a session that breaks off
+pub session_breaks : (options : SessionOptions) (hub : ConfigView) (names : List (List ℕ)) (last : Option SeatView) (transcript : Option Transcript) (input : Option (List ℕ)) (a b : Option (List ℕ))
+    → IfSome input (λ stream. BreaksOffIn options hub names None last stream a b []) → IsOfSeat 0 last transcript → IfSome input (λ stream. HasAnsweredSome options hub names stream transcript a b)
+session_breaks options hub names last transcript None a b h of = tt
+session_breaks options hub names last transcript (Some input) a b h of =
+    answered_some options hub names last last transcript input h.left h.text a b [] h.size h.answers (inl refl) of (inl refl)
+    (subst (λ (l : List ℕ). Appends a b (take h.size l)) (sym (append-nil h.text)) h.written)
+
+-- the same where its last line could not be written
+pub session_breaks_last : {A E : Type 0} (options : SessionOptions) (hub : ConfigView) (names : List (List ℕ)) (r : Result A E) (ending : SessionEnd) (last : Option SeatView) (transcript : Option Transcript) (input : Option (List ℕ))
+    (a b c : Option (List ℕ)) (gathered : List ℕ) → IfSome input (λ stream. TakesInput options hub names ending None last stream a b [] gathered)
+    → IfErr r (λ fault. (end : List ℕ) × (n : ℕ) × IsLastLine end × Appends b c (take n (gathered ++ end))) → IsOfSeat 0 last transcript
+    → IfErr r (λ fault. IfSome input (λ stream. HasAnsweredSome options hub names stream transcript a c))
+session_breaks_last options hub names (Ok done) ending last transcript input a b c gathered h begun of = tt
+session_breaks_last options hub names (Err e) ending last transcript None a b c gathered h begun of = tt
+session_breaks_last options hub names (Err e) ending last transcript (Some input) a b c gathered h begun of =
+    answered_some options hub names h.seat last transcript input h.left h.text a c begun.0 (length h.gathers.written + begun.1) h.answers h.behind of begun.2
+    (begins_behind_gathered a b c [] gathered h.text begun.0 begun.1 h.gathers begun.3)

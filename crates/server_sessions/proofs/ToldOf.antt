@@ -1,0 +1,498 @@
+-- What the client of a connection is answered, answer by answer.
+use Rattle.std.proofs.Common.{◌≡◌, ◌+◌, ℕ, zero, suc, Bool, true, false, cond, nat_lt, List, [], ◌∷◌, ◌++◌, length, take, Option, Some, None, Result, Ok, Err, refl, sym, ap, subst, inl, inr, arith, ◌∙◌, append_assoc}
+use Rattle.std.proofs.lemmas.List.{append-nil}
+use Rattle.std.proofs.lemmas.List.Elements.{filter_map-append, All-append, All-cons, All-nil}
+use Rattle.std.proofs.lemmas.List.Concat.{flat_map-append}
+use Rattle.std.specs.Prelude.{◌↔◌, ◌⊎◌, All, IfSome, IfOk, IfErr, OnOk}
+use Rattle.std.specs.Option.{option_map}
+use Rattle.std.specs.List.{flat_map, filter_map, cons_option}
+use Rattle.std.specs.Io.KnownBytes.{Appends, Keeps}
+use Rattle.std.proofs.KnownBytes.{Appends-kept, Appends-nil, Appends-trans}
+use Rattle.stamps.specs.declared.record.Item.{Item}
+use Rattle.plain_store.specs.declared.refusal.Refusal.{Refusal}
+use Rattle.plain_store.specs.declared.refusal.Refusal.TheVariants.{Busy, NoTenant, Stopped}
+use Rattle.plain_store.specs.declared.step.Act.{Act}
+use Rattle.plain_store.specs.declared.step.Act.TheVariants.{Put as PutAct, Get as GetAct, Find as FindAct}
+use Rattle.plain_store.specs.declared.answer.Answer.{Answer}
+use Rattle.plain_store.specs.declared.answer.Answer.TheVariants.{Refused, Ready, Keeps as KeepsMany}
+use Rattle.entry_list.specs.declared.kinds.Entry.{Entry}
+use Rattle.entry_list.specs.declared.kinds.Entry.TheVariants.{Began}
+use Rattle.plain_store.specs.Writing.{keys_written}
+use Rattle.hub.specs.ReadsFirst.{IsReadAndWritten, IsWrittenBy}
+use Rattle.hub.specs.Seats.{SeatView, Follows, IsEntered, IsLeftBy, IsStopped, answer_in, is_of_worker, is_unrecorded}
+use Rattle.shard.specs.declared.seat_name.SeatName.{SeatName}
+use Rattle.closed_store.specs.declared.transcript.Transcript.{Transcript}
+use Rattle.line_protocol.specs.AnswerSpelling.{answer_line}
+use Rattle.line_protocol.specs.declared.request.Request.{Request}
+use Rattle.line_protocol.specs.declared.request.Request.TheVariants.{Hello, Put, Get, Find, Keep, Bye}
+use Rattle.line_runs.specs.RunAnswers.{Gathers}
+use Rattle.server_sessions.specs.Telling.{Telling, Entered, Refuses, KeepsSo, answer_told, answer_untold, answers_entered, tellings_text, refusals_text, IsLeftOf, IsReplaced, HasHeard, WasTold, Tells, HasTold, IsLastLine, IsWritten, IsBegun, BreaksTelling, IsServed, IsPut, IsAnswered, IsAnsweredAndDrained, IsDrained, HasName, IsSeated, seat_tenant}
+use Rattle.line_runs.proofs.Fronts.{begins_behind_gathered}
+use Rattle.line_runs.proofs.Gathering.{Gathers-end, Gathers-none, Gathers-text, Gathers-trans, Gathers-written}
+
+pub Tells-same : (newest : Bool) (epoch : ℕ) (seat : Option SeatView) → Tells newest epoch seat seat []
+Tells-same newest epoch seat told h = subst (WasTold newest epoch seat) (sym (append-nil told)) h
+
+pub Tells-trans : (newest : Bool) (epoch : ℕ) (a b c : Option SeatView) (s t : List ℕ) → Tells newest epoch a b s → Tells newest epoch b c t → Tells newest epoch a c (s ++ t)
+Tells-trans newest epoch a b c s t h k told is = subst (WasTold newest epoch c) (append_assoc told s t) (k (told ++ s) (h told is))
+
+refusals-more : (causes : List Refusal) (cause : Refusal) → refusals_text (causes ++ cause ∷ []) ≡ refusals_text causes ++ answer_line (Refused cause)
+refusals-more [] cause = append-nil (answer_line (Refused cause))
+refusals-more (first ∷ causes) cause =
+    ap (λ (t : List ℕ). answer_line (Refused first) ++ t) (refusals-more causes cause)
+    ∙ sym (append_assoc (answer_line (Refused first)) (refusals_text causes) (answer_line (Refused cause)))
+
+tellings-more : (tellings : List Telling) (t : Telling) → tellings_text (tellings ++ t ∷ []) ≡ tellings_text tellings ++ answer_line (answer_told t)
+tellings-more [] t = append-nil (answer_line (answer_told t))
+tellings-more (first ∷ others) t =
+    ap (λ (text : List ℕ). answer_line (answer_told first) ++ text) (tellings-more others t)
+    ∙ sym (append_assoc (answer_line (answer_told first)) (tellings_text others) (answer_line (answer_told t)))
+
+-- ---- while there is no seat
+
+-- a refusal
+pub Tells-refused : (newest : Bool) (epoch : ℕ) (cause : Refusal) → Tells newest epoch None None (answer_line (Refused cause))
+Tells-refused newest epoch cause told h = (h.0 ++ cause ∷ [], ap (λ (t : List ℕ). t ++ answer_line (Refused cause)) h.1 ∙ sym (refusals-more h.0 cause))
+
+-- a seat is opened
+pub Tells-ready : (newest : Bool) (epoch : ℕ) (seat : SeatView) → seat.entries ≡ [] → Tells newest epoch None (Some seat) (answer_line (Ready seat.name.counter))
+Tells-ready newest epoch seat fresh told h =
+    let line = answer_line (Ready seat.name.counter) in (
+      None,
+      record {
+        causes = h.0;
+        tellings = [];
+        all = [];
+        spelled = ap (λ (t : List ℕ). t ++ line) h.1 ∙ ap (λ (t : List ℕ). refusals_text h.0 ++ t) (sym (append-nil line));
+        handed = (λ kept. fresh, λ cut. fresh);
+        agrees = refl;
+        each = λ plain. All-nil (λ telling. answer_untold telling ≡ None);
+        replaced = tt;
+      },
+      λ going. refl,
+    )
+
+-- ---- while there is a seat
+
+-- one line more
+spelled_more : (text : List ℕ) (causes : List Refusal) (counter : ℕ) (tellings : List Telling) (t : Telling)
+    → text ≡ refusals_text causes ++ (answer_line (Ready counter) ++ tellings_text tellings)
+    → text ++ answer_line (answer_told t) ≡ refusals_text causes ++ (answer_line (Ready counter) ++ tellings_text (tellings ++ t ∷ []))
+spelled_more text causes counter tellings t is =
+    let first = refusals_text causes in
+    let ready = answer_line (Ready counter) in
+    let so_far = tellings_text tellings in
+    let line = answer_line (answer_told t) in
+    ap (λ (l : List ℕ). l ++ line) is
+    ∙ append_assoc first (ready ++ so_far) line
+    ∙ ap (λ (l : List ℕ). first ++ l) (append_assoc ready so_far line ∙ ap (λ (l : List ℕ). ready ++ l) (sym (tellings-more tellings t)))
+
+entered_more : (tellings : List Telling) (t : Telling) → flat_map answers_entered (tellings ++ t ∷ []) ≡ flat_map answers_entered tellings ++ answers_entered t
+entered_more tellings t = flat_map-append answers_entered tellings (t ∷ []) ∙ ap (λ (l : List Answer). flat_map answers_entered tellings ++ l) (append-nil (answers_entered t))
+
+-- where no put reads first, all that a line entered is reported
+abbrev EachTold : Bool → List Telling → Type 0
+EachTold newest tellings = newest ≡ false → All (λ telling. answer_untold telling ≡ None) tellings
+
+each_more : (newest : Bool) (tellings : List Telling) (t : Telling) → EachTold newest tellings → (newest ≡ false → answer_untold t ≡ None) → EachTold newest (tellings ++ t ∷ [])
+each_more newest tellings t each told plain =
+    let P : Telling → Type 0 = λ telling. answer_untold telling ≡ None in
+    All-append P tellings (t ∷ []) (each plain) (All-cons P t [] (told plain) (All-nil P))
+
+replaced_more : (unheard : Option Answer) (tellings : List Telling) (t : Telling) → IsReplaced unheard tellings → IsReplaced unheard (tellings ++ t ∷ [])
+replaced_more None tellings t h = tt
+replaced_more (Some answer) tellings t h =
+    (h.0, h.1, h.2, h.3 ++ t ∷ [], h.4, ap (λ (l : List Telling). l ++ t ∷ []) h.5 ∙ append_assoc h.2 (Refuses h.0 h.1 ∷ h.3) (t ∷ []))
+
+replaced_now : (unheard first : Option Answer) (tellings : List Telling) (refusal : Refusal) → is_of_worker refusal ≡ true → IsReplaced unheard (tellings ++ Refuses first refusal ∷ [])
+replaced_now None first tellings refusal is = tt
+replaced_now (Some answer) first tellings refusal is = (first, refusal, tellings, [], is, refl)
+
+-- what is drained is of the same seat, as it was
+drained_stopped : (epoch : ℕ) (old new : SeatView) → IsDrained epoch old new → new.stopped ≡ old.stopped
+drained_stopped zero old new drained = ap (λ (s : SeatView). s.stopped) (drained.0 refl)
+drained_stopped (suc n) old new drained = ap (λ (s : SeatView). s.stopped) (drained.1 (omega arith))
+
+drained_counter : (epoch : ℕ) (old new : SeatView) → IsDrained epoch old new → new.name.counter ≡ old.name.counter
+drained_counter zero old new drained = ap (λ (s : SeatView). s.name.counter) (drained.0 refl)
+drained_counter (suc n) old new drained = ap (λ (s : SeatView). s.name.counter) (drained.1 (omega arith))
+
+-- and has what is left of all entries
+drained_left : (epoch : ℕ) (old new : SeatView) (all : List Entry) → IsDrained epoch old new → (epoch ≡ 0 → old.entries ≡ all) → IsLeftOf epoch all new.entries
+drained_left epoch old new all drained kept =
+    (λ never. ap (λ (s : SeatView). s.entries) (drained.0 never) ∙ kept never, λ cut. ap (λ (s : SeatView). s.entries) (drained.1 cut))
+
+-- an answer that is not entered, and the seat is as it was
+heard_aside : (newest : Bool) (epoch counter other : ℕ) (left rest : List Entry) (unheard : Option Answer) (text : List ℕ) (t : Telling)
+    → HasHeard newest epoch counter left unheard text → answers_entered t ≡ [] → answer_untold t ≡ None → other ≡ counter → ((all : List Entry) → IsLeftOf epoch all left → IsLeftOf epoch all rest)
+    → HasHeard newest epoch other rest unheard (text ++ answer_line (answer_told t))
+heard_aside newest epoch counter other left rest unheard text t h aside told same drained =
+    let more = entered_more h.tellings t ∙ ap (λ (l : List Answer). flat_map answers_entered h.tellings ++ l) aside ∙ append-nil (flat_map answers_entered h.tellings) in
+    record {
+      causes = h.causes;
+      tellings = h.tellings ++ t ∷ [];
+      all = h.all;
+      spelled = subst (λ (n : ℕ). text ++ answer_line (answer_told t) ≡ refusals_text h.causes ++ (answer_line (Ready n) ++ tellings_text (h.tellings ++ t ∷ []))) (sym same)
+          (spelled_more text h.causes counter h.tellings t h.spelled);
+      handed = drained h.all h.handed;
+      agrees = h.agrees ∙ ap (λ (l : List Answer). l ++ cons_option unheard []) (sym more);
+      each = each_more newest h.tellings t h.each (λ plain. told);
+      replaced = replaced_more unheard h.tellings t h.replaced;
+    }
+
+pub told_aside : (newest : Bool) (epoch : ℕ) (old between new : SeatView) (t : Telling) → answers_entered t ≡ [] → answer_untold t ≡ None → between ≡ old → IsDrained epoch between new
+    → Tells newest epoch (Some old) (Some new) (answer_line (answer_told t))
+told_aside newest epoch old between new t aside untold same drained told h = (
+  h.0,
+  heard_aside newest epoch old.name.counter new.name.counter old.entries new.entries h.0 told t h.1 aside untold
+      (drained_counter epoch between new drained ∙ ap (λ (s : SeatView). s.name.counter) same)
+      (λ all left. drained_left epoch between new all drained (λ never. ap (λ (s : SeatView). s.entries) same ∙ left.0 never)),
+  λ going. h.2 (ap (λ (s : SeatView). s.stopped) (sym same) ∙ sym (drained_stopped epoch between new drained) ∙ going),
+)
+
+-- What one or more operations entered, after all that was entered before, and their answers.
+record HasGrown (old between : List Entry) (told : List Answer) : Type 0 where
+  pub more : List Entry
+  pub is : between ≡ old ++ more
+  pub answers : filter_map answer_in more ≡ told
+
+one_grown : (old between : List Entry) (act : Act) (told : Option Answer) → Follows (old ++ Began act ∷ []) told between → HasGrown old between (cons_option told [])
+one_grown old between act told f = record { more = Began act ∷ f.more; is = f.is ∙ append_assoc old (Began act ∷ []) f.more; answers = f.answers }
+
+both_grown : (old between new : List Entry) (one other : List Answer) → HasGrown old between one → HasGrown between new other → HasGrown old new (one ++ other)
+both_grown old between new one other a b = record {
+  more = a.more ++ b.more;
+  is = b.is ∙ ap (λ (l : List Entry). l ++ b.more) a.is ∙ append_assoc old a.more b.more;
+  answers = filter_map-append answer_in a.more b.more ∙ (λ i. a.answers i ++ b.answers i);
+}
+
+grown : (epoch : ℕ) (old between : List Entry) (told : List Answer) (all : List Entry) → IsLeftOf epoch all old → (g : HasGrown old between told) → epoch ≡ 0 → between ≡ all ++ g.more
+grown epoch old between told all left g never = g.is ∙ ap (λ (l : List Entry). l ++ g.more) (left.0 never)
+
+-- operations that the seat began: what it told is what they entered, but for the answer of a read that came first, or a
+-- worker's refusal in its place
+heard_grown : (newest : Bool) (epoch counter other : ℕ) (old between rest : List Entry) (told : List Answer) (unheard : Option Answer) (text : List ℕ) (t : Telling)
+    → HasHeard newest epoch counter old None text → (g : HasGrown old between told) → other ≡ counter
+    → ((all : List Entry) → (epoch ≡ 0 → between ≡ all) → IsLeftOf epoch all rest)
+    → told ≡ answers_entered t ++ cons_option unheard [] → (newest ≡ false → answer_untold t ≡ None)
+    → ((tellings : List Telling) → IsReplaced unheard (tellings ++ t ∷ []))
+    → HasHeard newest epoch other rest unheard (text ++ answer_line (answer_told t))
+heard_grown newest epoch counter other old between rest told unheard text t h g same drained split plain replaced =
+    let so_far = flat_map answers_entered h.tellings in
+    record {
+      causes = h.causes;
+      tellings = h.tellings ++ t ∷ [];
+      all = h.all ++ g.more;
+      spelled = subst (λ (n : ℕ). text ++ answer_line (answer_told t) ≡ refusals_text h.causes ++ (answer_line (Ready n) ++ tellings_text (h.tellings ++ t ∷ []))) (sym same)
+          (spelled_more text h.causes counter h.tellings t h.spelled);
+      handed = drained (h.all ++ g.more) (grown epoch old between told h.all h.handed g);
+      agrees = filter_map-append answer_in h.all g.more
+          ∙ (λ i. (h.agrees ∙ append-nil so_far) i ++ (g.answers ∙ split) i)
+          ∙ sym (append_assoc so_far (answers_entered t) (cons_option unheard []))
+          ∙ ap (λ (l : List Answer). l ++ cons_option unheard []) (sym (entered_more h.tellings t));
+      each = each_more newest h.tellings t h.each plain;
+      replaced = replaced h.tellings;
+    }
+
+-- nothing was unheard of a seat that went on
+heard_all : (newest : Bool) (epoch : ℕ) (seat : SeatView) (text : List ℕ) (h : WasTold newest epoch (Some seat) text) → seat.stopped ≡ false → HasHeard newest epoch seat.name.counter seat.entries None text
+heard_all newest epoch seat text h going = subst (λ (o : Option Answer). HasHeard newest epoch seat.name.counter seat.entries o text) (h.2 going) h.1
+
+-- what a seat reports whose operations entered just this, and that goes on
+told_grown : (newest : Bool) (epoch : ℕ) (old between new : SeatView) (t : Telling) → HasGrown old.entries between.entries (answers_entered t) → (newest ≡ false → answer_untold t ≡ None)
+    → old.stopped ≡ false → between.name.counter ≡ old.name.counter → IsDrained epoch between new → Tells newest epoch (Some old) (Some new) (answer_line (answer_told t))
+told_grown newest epoch old between new t g plain going name drained told h = (
+  None,
+  heard_grown newest epoch old.name.counter new.name.counter old.entries between.entries new.entries (answers_entered t) None told t (heard_all newest epoch old told h going) g
+      (drained_counter epoch between new drained ∙ name) (λ all kept. drained_left epoch between new all drained kept) (sym (append-nil (answers_entered t))) plain (λ tellings. tt),
+  λ still. refl,
+)
+
+pub told_entered : (newest : Bool) (epoch : ℕ) (old between new : SeatView) (act : Act) (answer : Answer) → Follows (old.entries ++ Began act ∷ []) (Some answer) between.entries
+    → old.stopped ≡ false → between.name.counter ≡ old.name.counter → IsDrained epoch between new → Tells newest epoch (Some old) (Some new) (answer_line answer)
+told_entered newest epoch old between new act answer f going name drained =
+    told_grown newest epoch old between new (Entered None answer) (one_grown old.entries between.entries act (Some answer) f) (λ plain. refl) going name drained
+
+-- what it reports that a worker's refusal stopped
+told_broken : (newest : Bool) (epoch : ℕ) (old between new : SeatView) (first entered : Option Answer) (refusal : Refusal) → is_of_worker refusal ≡ true
+    → HasGrown old.entries between.entries (cons_option first [] ++ cons_option entered []) → (newest ≡ false → first ≡ None) → old.stopped ≡ false → between.stopped ≡ true
+    → between.name.counter ≡ old.name.counter → IsDrained epoch between new → Tells newest epoch (Some old) (Some new) (answer_line (Refused refusal))
+told_broken newest epoch old between new first entered refusal worker g plain went_on stops name drained told h = (
+  entered,
+  heard_grown newest epoch old.name.counter new.name.counter old.entries between.entries new.entries (cons_option first [] ++ cons_option entered []) entered told (Refuses first refusal)
+      (heard_all newest epoch old told h went_on) g (drained_counter epoch between new drained ∙ name) (λ all kept. drained_left epoch between new all drained kept) refl plain
+      (λ tellings. replaced_now entered first tellings refusal worker),
+  λ going. absurd (let both : true ≡ false = sym stops ∙ sym (drained_stopped epoch between new drained) ∙ going in cc),
+)
+
+pub told_stopped : (newest : Bool) (epoch : ℕ) (old between new : SeatView) (act : Act) (refusal : Refusal) → is_of_worker refusal ≡ true → IsStopped act old between
+    → between.name.counter ≡ old.name.counter → IsDrained epoch between new → Tells newest epoch (Some old) (Some new) (answer_line (Refused refusal))
+told_stopped newest epoch old between new act refusal worker stop name drained =
+    told_broken newest epoch old between new None stop.told refusal worker (one_grown old.entries between.entries act stop.told stop.entered) (λ plain. refl) stop.went_on stop.stops name drained
+
+-- an operation that a seat ran was served
+pub served_by : (act : Act) (old new : SeatView) (answer : Answer) → IsEntered act old answer new → IsServed act old answer new
+served_by act old new answer (inl (inside, going, goes, follows)) = inl (follows, going, goes)
+served_by act old new answer (inr (outside, left)) = inr left
+
+-- the same of the request that asked for it
+pub asked_put : (newest : Bool) (tenants : ℕ) (request : Request) (items given : List Item) (old new : SeatView) (answer : Answer) → request ≡ Put items → given ≡ items
+    → IsPut newest given old answer new → IsAnswered newest tenants request old answer new
+asked_put newest tenants request items given old new answer is same served =
+    subst (λ (r : Request). IsAnswered newest tenants r old answer new) (sym is) (subst (λ (xs : List Item). IsPut newest xs old answer new) same served)
+
+pub asked_get : (newest : Bool) (tenants : ℕ) (request : Request) (keys given : List (List ℕ)) (old new : SeatView) (answer : Answer) → request ≡ Get keys → given ≡ keys
+    → IsServed (GetAct old.name.client given) old answer new → IsAnswered newest tenants request old answer new
+asked_get newest tenants request keys given old new answer is same served =
+    subst (λ (r : Request). IsAnswered newest tenants r old answer new) (sym is) (subst (λ (xs : List (List ℕ)). IsServed (GetAct old.name.client xs) old answer new) same served)
+
+pub asked_find : (newest : Bool) (tenants : ℕ) (request : Request) (tag : List ℕ) (old new : SeatView) (answer : Answer) → request ≡ Find tag
+    → IsServed (FindAct old.name.client tag) old answer new → IsAnswered newest tenants request old answer new
+asked_find newest tenants request tag old new answer is served = subst (λ (r : Request). IsAnswered newest tenants r old answer new) (sym is) served
+
+-- what an operation is answered
+told_served : (newest : Bool) (epoch : ℕ) (old between new : SeatView) (act : Act) (answer : Answer) → IsServed act old answer between → between.name.counter ≡ old.name.counter
+    → IsDrained epoch between new → Tells newest epoch (Some old) (Some new) (answer_line answer)
+told_served newest epoch old between new act answer (inl entered) name drained = told_entered newest epoch old between new act answer entered.0 entered.1 name drained
+told_served newest epoch old between new act answer (inr (refusal, is, inl unbegun)) name drained =
+    subst (λ (a : Answer). Tells newest epoch (Some old) (Some new) (answer_line a)) (sym is) (told_aside newest epoch old between new (Refuses None refusal) refl refl unbegun.1 drained)
+told_served newest epoch old between new act answer (inr (refusal, is, inr stopped)) name drained =
+    subst (λ (a : Answer). Tells newest epoch (Some old) (Some new) (answer_line a)) (sym is) (told_stopped newest epoch old between new act refusal stopped.0 stopped.1 name drained)
+
+-- what a put is answered whose keys were read first
+told_both : (epoch : ℕ) (items : List Item) (old between new : SeatView) (answer : Answer) → IsReadAndWritten items old answer between → between.name.counter ≡ old.name.counter
+    → IsDrained epoch between new → Tells true epoch (Some old) (Some new) (answer_line answer)
+told_both epoch items old between new answer both name drained = go both.written both.read.entered
+  where
+    client : ℕ
+    client = old.name.client
+
+    get : Act
+    get = GetAct client (keys_written items)
+
+    put : Act
+    put = PutAct both.between.name.client items
+
+    plain : true ≡ false → Some both.told ≡ None
+    plain is = cc
+
+    -- the read was entered, and then
+    written : is_unrecorded both.told ≡ false → old.stopped ≡ false → HasGrown old.entries both.between.entries (both.told ∷ []) → IsEntered put both.between answer between → Tells true epoch (Some old) (Some new) (answer_line answer)
+    written is going first (inl (recorded, went_on, stays, follows)) =
+        told_grown true epoch old between new (Entered (Some both.told) answer)
+        (both_grown old.entries both.between.entries between.entries (both.told ∷ []) (answer ∷ []) first (one_grown both.between.entries between.entries put (Some answer) follows)) plain going name drained
+    written is going first (inr (outside, (refusal, same, inl unbegun))) =
+        subst (λ (a : Answer). Tells true epoch (Some old) (Some new) (answer_line a)) (sym same)
+        (told_grown true epoch old between new (Refuses (Some both.told) refusal)
+        (subst (λ (es : List Entry). HasGrown old.entries es (both.told ∷ [])) (ap (λ (v : SeatView). v.entries) (sym unbegun.1)) first) plain going name drained)
+    written is going first (inr (outside, (refusal, same, inr stopped))) =
+        subst (λ (a : Answer). Tells true epoch (Some old) (Some new) (answer_line a)) (sym same)
+        (told_broken true epoch old between new (Some both.told) stopped.1.told refusal stopped.0
+        (both_grown old.entries both.between.entries between.entries (both.told ∷ []) (cons_option stopped.1.told []) first (one_grown both.between.entries between.entries put stopped.1.told stopped.1.entered))
+        plain going stopped.1.stops name drained)
+
+    go : ((is_unrecorded both.told ≡ false) × IsWrittenBy items both.between answer between) ⊎ ((is_unrecorded both.told ≡ true) × (answer ≡ both.told) × (between ≡ both.between))
+        → IsEntered get old both.told both.between → Tells true epoch (Some old) (Some new) (answer_line answer)
+    go (inl (is, writes)) (inl (recorded, going, stays, follows)) = written is going (one_grown old.entries both.between.entries get (Some both.told) follows) writes.entered
+    go (inl (is, writes)) (inr (outside, left)) = absurd (let bad : true ≡ false = sym outside ∙ is in cc)
+    go (inr (is, same, stays)) (inl (recorded, going, on, follows)) = absurd (let bad : true ≡ false = sym is ∙ recorded in cc)
+    go (inr (is, same, stays)) (inr (outside, left)) =
+        let served : IsLeftBy get answer old between = subst (λ (a : Answer). IsLeftBy get a old between) (sym same) (subst (λ (v : SeatView). IsLeftBy get both.told old v) (sym stays) left) in
+        told_served true epoch old between new get answer (inr served) name drained
+
+-- what any put is answered
+told_put : (newest : Bool) (epoch : ℕ) (items : List Item) (old between new : SeatView) (answer : Answer) → IsPut newest items old answer between → between.name.counter ≡ old.name.counter
+    → IsDrained epoch between new → Tells newest epoch (Some old) (Some new) (answer_line answer)
+told_put false epoch items old between new answer h name drained = told_served false epoch old between new (PutAct old.name.client items) answer h name drained
+told_put true epoch items old between new answer h name drained = told_both epoch items old between new answer h name drained
+
+-- what `keep` is answered
+told_keep : (newest : Bool) (epoch keep : ℕ) (old between new : SeatView) (answer : Answer) (there : Bool) → answer ≡ cond there (KeepsMany keep) (Refused NoTenant) → between ≡ old
+    → IsDrained epoch between new → Tells newest epoch (Some old) (Some new) (answer_line answer)
+told_keep newest epoch keep old between new answer true is same drained =
+    subst (λ (a : Answer). Tells newest epoch (Some old) (Some new) (answer_line a)) (sym is) (told_aside newest epoch old between new (KeepsSo keep) refl refl same drained)
+told_keep newest epoch keep old between new answer false is same drained =
+    subst (λ (a : Answer). Tells newest epoch (Some old) (Some new) (answer_line a)) (sym is) (told_aside newest epoch old between new (Refuses None NoTenant) refl refl same drained)
+
+-- what any request is answered
+told_answered : (newest : Bool) (epoch tenants : ℕ) (request : Request) (old between new : SeatView) (answer : Answer) → IsAnswered newest tenants request old answer between
+    → between.name.counter ≡ old.name.counter → IsDrained epoch between new → Tells newest epoch (Some old) (Some new) (answer_line answer)
+told_answered newest epoch tenants (Hello name client base) old between new answer h counter drained =
+    subst (λ (a : Answer). Tells newest epoch (Some old) (Some new) (answer_line a)) (sym h.0) (told_aside newest epoch old between new (Refuses None Busy) refl refl h.1 drained)
+told_answered newest epoch tenants (Put items) old between new answer h counter drained = told_put newest epoch items old between new answer h counter drained
+told_answered newest epoch tenants (Get keys) old between new answer h counter drained = told_served newest epoch old between new (GetAct old.name.client keys) answer h counter drained
+told_answered newest epoch tenants (Find tag) old between new answer h counter drained = told_served newest epoch old between new (FindAct old.name.client tag) answer h counter drained
+told_answered newest epoch tenants (Keep keep) old between new answer h counter drained = told_keep newest epoch keep old between new answer (nat_lt old.name.tenant tenants) h.0 h.1 drained
+told_answered newest epoch tenants Bye old between new answer h counter drained = absurd h
+
+-- a refusal, with a seat or without
+pub Tells-cause : (newest : Bool) (epoch : ℕ) (seat : Option SeatView) (cause : Refusal) → Tells newest epoch seat seat (answer_line (Refused cause))
+Tells-cause newest epoch None cause told h = Tells-refused newest epoch cause told h
+Tells-cause newest epoch (Some seat) cause told h = (
+  h.0,
+  heard_aside newest epoch seat.name.counter seat.name.counter seat.entries seat.entries h.0 told (Refuses None cause) h.1 refl refl refl (λ all left. left),
+  h.2,
+)
+
+-- nothing is answered
+pub told_drained : (newest : Bool) (epoch : ℕ) (old new : SeatView) → IsDrained epoch old new → Tells newest epoch (Some old) (Some new) []
+told_drained newest epoch old new drained told h =
+    let same = drained_counter epoch old new drained in (
+      h.0,
+      record {
+        causes = h.1.causes;
+        tellings = h.1.tellings;
+        all = h.1.all;
+        spelled = append-nil told ∙ h.1.spelled ∙ ap (λ (n : ℕ). refusals_text h.1.causes ++ (answer_line (Ready n) ++ tellings_text h.1.tellings)) (sym same);
+        handed = drained_left epoch old new h.1.all drained (λ never. h.1.handed.0 never);
+        agrees = h.1.agrees;
+        each = h.1.each;
+        replaced = h.1.replaced;
+      },
+      λ going. h.2 (sym (drained_stopped epoch old new drained) ∙ going),
+    )
+
+-- whatever a connection's seat answers
+pub answered_by : (newest : Bool) (epoch tenants : ℕ) (request : Request) (old : Option SeatView) (seat new : SeatView) (answer : Answer) → old ≡ Some seat
+    → IsAnsweredAndDrained newest epoch tenants request seat answer new → Tells newest epoch old (Some new) (answer_line answer)
+answered_by newest epoch tenants request old seat new answer is answered =
+    subst (λ (s : Option SeatView). Tells newest epoch s (Some new) (answer_line answer)) (sym is)
+    (told_answered newest epoch tenants request seat answered.0 new answer answered.1 (ap (λ (n : SeatName). n.counter) answered.2) answered.3)
+
+pub left_by : (newest : Bool) (epoch : ℕ) (old : Option SeatView) (seat new : SeatView) → old ≡ Some seat → IsDrained epoch seat new → Tells newest epoch old (Some new) []
+left_by newest epoch old seat new is drained = subst (λ (s : Option SeatView). Tells newest epoch s (Some new) []) (sym is) (told_drained newest epoch seat new drained)
+
+-- what was gathered is written
+pub Gathers-emptied : (a b c : Option (List ℕ)) (x y z text : List ℕ) → Gathers a b x y text → Appends b c y → z ≡ [] → Gathers a c x z text
+Gathers-emptied a b c x y z text h adds none = record {
+  written = h.written ++ y;
+  appends = Appends-trans a b c h.written y h.appends adds;
+  whole = h.whole ∙ sym (append-nil (h.written ++ y)) ∙ ap (λ (l : List ℕ). (h.written ++ y) ++ l) (sym none);
+}
+
+-- ---- the end of a session
+
+-- what was reported of a seat, of the transcript that it left
+told_at_end : (newest : Bool) (epoch : ℕ) (seat : Option SeatView) (transcript : Option Transcript) (text : List ℕ) → WasTold newest epoch seat text
+    → option_map (λ (t : Transcript). t.counter) transcript ≡ option_map (λ (s : SeatView). s.name.counter) seat
+    → option_map (λ (t : Transcript). t.entries.items) transcript ≡ option_map (λ (s : SeatView). s.entries) seat
+    → HasTold newest epoch transcript text
+told_at_end newest epoch None None text h counter entries = h
+told_at_end newest epoch None (Some t) text h counter entries = absurd cc
+told_at_end newest epoch (Some s) None text h counter entries = absurd cc
+told_at_end newest epoch (Some s) (Some t) text h counter entries =
+    let same : s.name.counter ≡ t.counter = cc in
+    let left : s.entries ≡ t.entries.items = cc in
+    (h.0, subst (λ (n : ℕ). HasHeard newest epoch n t.entries.items h.0 text) same (subst (λ (es : List Entry). HasHeard newest epoch s.name.counter es h.0 text) left h.1))
+
+-- the transcript is that of this seat, or there is neither
+pub record IsLeftIn (seat : Option SeatView) (transcript : Option Transcript) : Type 0 where
+  pub counter : option_map (λ (t : Transcript). t.counter) transcript ≡ option_map (λ (s : SeatView). s.name.counter) seat
+  pub entries : option_map (λ (t : Transcript). t.entries.items) transcript ≡ option_map (λ (s : SeatView). s.entries) seat
+
+-- the whole of a session
+pub writes : (newest : Bool) (epoch : ℕ) (seat : Option SeatView) (transcript : Option Transcript) (a b c : Option (List ℕ)) (gathered text last : List ℕ)
+    → Gathers a b [] gathered text → Tells newest epoch None seat text → IsLastLine last → Appends b c (gathered ++ last) → IsLeftIn seat transcript
+    → IsWritten newest epoch transcript a c
+writes newest epoch seat transcript a b c gathered text last h tells is adds end =
+    (text, last, told_at_end newest epoch seat transcript text (tells [] ([], refl)) end.counter end.entries, is, Gathers-end a b c gathered text last h adds)
+
+-- ---- what is gathered, and what it reports
+
+abbrev pub ToldSo : Bool → ℕ → Option (List ℕ) → Option (List ℕ) → List ℕ → List ℕ → Option SeatView → Option SeatView → Type 0
+ToldSo newest epoch old new before after first last = (text : List ℕ) × Gathers old new before after text × Tells newest epoch first last text
+
+pub told_none : (newest : Bool) (epoch : ℕ) (writer : Option (List ℕ)) (out : List ℕ) (seat : Option SeatView) → ToldSo newest epoch writer writer out out seat seat
+told_none newest epoch writer out seat = ([], Gathers-none writer out, Tells-same newest epoch seat)
+
+-- what a flush keeps is reported as it was
+pub told_kept : (newest : Bool) (epoch : ℕ) (a b : Option (List ℕ)) (out : List ℕ) (seat : Option SeatView) → Keeps a b → ToldSo newest epoch a b out out seat seat
+told_kept newest epoch a b out seat keeps = ([], record { written = []; appends = Appends-kept a a b [] (Appends-nil a) keeps; whole = append-nil out }, Tells-same newest epoch seat)
+
+pub told_on : (newest : Bool) (epoch : ℕ) (a b c : Option (List ℕ)) (x y z : List ℕ) (first next last : Option SeatView) → ToldSo newest epoch a b x y first next → ToldSo newest epoch b c y z next last → ToldSo newest epoch a c x z first last
+told_on newest epoch a b c x y z first next last h k = (h.0 ++ k.0, Gathers-trans a b c x y z h.0 k.0 h.1 k.1, Tells-trans newest epoch first next last h.0 k.0 h.2 k.2)
+
+pub told_line : (newest : Bool) (epoch : ℕ) (a b : Option (List ℕ)) (x y z line : List ℕ) (first last : Option SeatView) → y ≡ x ++ line → Tells newest epoch first last line → Gathers a b y z [] → ToldSo newest epoch a b x z first last
+told_line newest epoch a b x y z line first last is tells h = (line ++ [], Gathers-trans a a b x y z line [] (Gathers-text a x y line is) h, Tells-trans newest epoch first last last line [] tells (Tells-same newest epoch last))
+
+pub told_flushed : (newest : Bool) (epoch : ℕ) (a b c : Option (List ℕ)) (x y z : List ℕ) (first last : Option SeatView) → ToldSo newest epoch a b x y first last → Appends b c y → z ≡ [] → ToldSo newest epoch a c x z first last
+told_flushed newest epoch a b c x y z first last h adds none = (h.0, Gathers-emptied a b c x y z h.0 h.1 adds none, h.2)
+
+-- the same of a call that went well, after what was reported before
+pub told_after : {A E : Type 0} (newest : Bool) (epoch : ℕ) (r : Result A E) (a b c : Option (List ℕ)) (x y z : List ℕ) (first next last : Option SeatView) → ToldSo newest epoch a b x y first next
+    → OnOk r (ToldSo newest epoch b c y z next last) → OnOk r (ToldSo newest epoch a c x z first last)
+told_after newest epoch (Ok done) a b c x y z first next last told more = told_on newest epoch a b c x y z first next last told more
+told_after newest epoch (Err e) a b c x y z first next last told more = tt
+
+-- ---- the whole of a session
+
+-- whether its last lines were written
+pub session_written : {A E : Type 0} (newest : Bool) (epoch : ℕ) (r : Result A E) (seat : Option SeatView) (transcript : Option Transcript) (a b c : Option (List ℕ)) (gathered : List ℕ)
+    → ToldSo newest epoch a b [] gathered None seat → OnOk r ((last : List ℕ) × IsLastLine last × Appends b c (gathered ++ last)) → IsLeftIn seat transcript
+    → IfOk r (λ done. IsWritten newest epoch transcript a c)
+session_written newest epoch (Ok done) seat transcript a b c gathered told ended end = writes newest epoch seat transcript a b c gathered told.0 ended.0 told.1 told.2 ended.1 ended.2 end
+session_written newest epoch (Err e) seat transcript a b c gathered told ended end = tt
+
+pub named : (transcript : Option Transcript) (seat : Option SeatView) (names : List (List ℕ)) → option_map (λ t. t.tenant) transcript ≡ seat_tenant seat → IsSeated seat names
+    → IfSome transcript (λ t. HasName names t.tenant)
+named None seat names same h = tt
+named (Some t) None names same h = absurd cc
+named (Some t) (Some s) names same h =
+    let tenant : s.name.tenant ≡ t.tenant = cc in
+    subst (HasName names) tenant h
+
+-- where a write went well, what was gathered is written
+pub flushed : {A E : Type 0} (r : Result A E) (a b : Option (List ℕ)) (x z : List ℕ) → OnOk r (Appends a b x) → z ≡ [] → OnOk r (Gathers a b x z [])
+flushed (Ok done) a b x z adds none = Gathers-written a b x x z [] (sym (append-nil x)) adds none
+flushed (Err e) a b x z adds none = tt
+
+-- ---- where a session breaks off
+
+-- nothing more is reported, and nothing is written
+pub breaks_here : (newest : Bool) (epoch : ℕ) (a : Option (List ℕ)) (x : List ℕ) (seat : Option SeatView) → BreaksTelling newest epoch seat seat a a x
+breaks_here newest epoch a x seat = ([], 0, Tells-same newest epoch seat, Appends-nil a)
+
+-- a beginning of what was gathered is written
+pub breaks_at : (newest : Bool) (epoch : ℕ) (a b : Option (List ℕ)) (x : List ℕ) (seat : Option SeatView) (n : ℕ) → Appends a b (take n x) → BreaksTelling newest epoch seat seat a b x
+breaks_at newest epoch a b x seat n adds = ([], n, Tells-same newest epoch seat, subst (λ (l : List ℕ). Appends a b (take n l)) (sym (append-nil x)) adds)
+
+-- a line was reported before
+pub breaks_line : (newest : Bool) (epoch : ℕ) (a b : Option (List ℕ)) (x y line : List ℕ) (first last : Option SeatView) (n : ℕ) → y ≡ x ++ line → Tells newest epoch first last line → Appends a b (take n y) → BreaksTelling newest epoch first last a b x
+breaks_line newest epoch a b x y line first last n is tells adds = (line, n, tells, subst (λ (l : List ℕ). Appends a b (take n l)) is adds)
+
+-- more was reported before
+pub breaks_after : (newest : Bool) (epoch : ℕ) (a b c : Option (List ℕ)) (x y : List ℕ) (first next last : Option SeatView) → ToldSo newest epoch a b x y first next → BreaksTelling newest epoch next last b c y → BreaksTelling newest epoch first last a c x
+breaks_after newest epoch a b c x y first next last h k =
+    (h.0 ++ k.0, length h.1.written + k.1, Tells-trans newest epoch first next last h.0 k.0 h.2 k.2, begins_behind_gathered a b c x y h.0 k.0 k.1 h.1 k.3)
+
+-- the same of a call that broke off
+pub begun_after : {A E : Type 0} (newest : Bool) (epoch : ℕ) (r : Result A E) (a b c : Option (List ℕ)) (x y : List ℕ) (first next last : Option SeatView) → ToldSo newest epoch a b x y first next
+    → IfErr r (λ fault. BreaksTelling newest epoch next last b c y) → IfErr r (λ fault. BreaksTelling newest epoch first last a c x)
+begun_after newest epoch (Ok done) a b c x y first next last told breaks = tt
+begun_after newest epoch (Err e) a b c x y first next last told breaks = breaks_after newest epoch a b c x y first next last told breaks
+
+-- the whole of a session that breaks off
+pub session_begun : (newest : Bool) (epoch : ℕ) (seat : Option SeatView) (transcript : Option Transcript) (a b : Option (List ℕ)) → BreaksTelling newest epoch None seat a b [] → IsLeftIn seat transcript
+    → IsBegun newest epoch transcript a b
+session_begun newest epoch seat transcript a b h end = (
+  h.0,
+  [],
+  h.1,
+  told_at_end newest epoch seat transcript h.0 (h.2 [] ([], refl)) end.counter end.entries,
+  inl refl,
+  subst (λ (l : List ℕ). Appends a b (take h.1 l)) (sym (append-nil h.0)) h.3,
+)
+
+-- the same where its last line could not be written
+pub session_broken : {A E : Type 0} (newest : Bool) (epoch : ℕ) (r : Result A E) (seat : Option SeatView) (transcript : Option Transcript) (a b c : Option (List ℕ)) (gathered : List ℕ)
+    → ToldSo newest epoch a b [] gathered None seat → IfErr r (λ fault. (last : List ℕ) × (n : ℕ) × IsLastLine last × Appends b c (take n (gathered ++ last)))
+    → IsLeftIn seat transcript → IfErr r (λ fault. IsBegun newest epoch transcript a c)
+session_broken newest epoch (Ok done) seat transcript a b c gathered told ended end = tt
+session_broken newest epoch (Err e) seat transcript a b c gathered told ended end = (
+  told.0,
+  ended.0,
+  length told.1.written + ended.1,
+  told_at_end newest epoch seat transcript told.0 (told.2 [] ([], refl)) end.counter end.entries,
+  ended.2,
+  begins_behind_gathered a b c [] gathered told.0 ended.0 ended.1 told.1 ended.3,
+)

@@ -1,0 +1,55 @@
+-- A line that could not be read: for `Connection::answer`.
+use Rattle.std.proofs.Common.{◌≡◌, Bool, ℕ, List, [], Option, Some, None, Result, Ok, Err, sym, ap, subst, inl, inr}
+use Rattle.std.specs.Prelude.{IfNone, IfSome, IsTrue}
+use Rattle.plain_store.specs.declared.refusal.Refusal.{Refusal}
+use Rattle.plain_store.specs.declared.refusal.Refusal.TheVariants.{BadLine}
+use Rattle.plain_store.specs.declared.answer.Answer.{Answer}
+use Rattle.plain_store.specs.declared.answer.Answer.TheVariants.{Refused}
+use Rattle.hub.specs.Hubs.{ConfigView}
+use Rattle.hub.specs.Seats.{SeatView}
+use Rattle.line_protocol.specs.AnswerSpelling.{answer_line}
+use Rattle.line_protocol.specs.ServeSpelling.{IsNoServeLine, RefusesLine}
+use Rattle.server_sessions.specs.declared.session_options.SessionOptions.{SessionOptions}
+use Rattle.server_sessions.specs.declared.line_session.SessionEnd.{SessionEnd}
+use Rattle.server_sessions.specs.declared.line_session.SessionEnd.TheVariants.{Unread}
+use Rattle.server_sessions.specs.Answering.{GoesOnBehind, IsLineAnswered, refused_as}
+use Rattle.server_sessions.specs.Answered.{EndsBefore, StaysBehind}
+use Rattle.server_sessions.specs.Telling.{Tells}
+use Rattle.server_sessions.proofs.ToldOf.{Tells-cause, Tells-same}
+
+-- it is refused
+pub unread_told : (r : Option SessionEnd) (newest : Bool) (epoch : ℕ) (old new : Option SeatView) (answer : Answer) (cause : Refusal) → new ≡ old → IfNone r (answer ≡ Refused cause)
+    → IfNone r (Tells newest epoch old new (answer_line answer))
+unread_told (Some ending) newest epoch old new answer cause same h = tt
+unread_told None newest epoch old new answer cause same h =
+    subst (λ (s : Option SeatView). Tells newest epoch old s (answer_line answer)) (sym same)
+    (subst (λ (a : Answer). Tells newest epoch old old (answer_line a)) (sym h) (Tells-cause newest epoch old cause))
+
+pub unread_answered : (r : Option SessionEnd) (options : SessionOptions) (hub : ConfigView) (names : List (List ℕ)) (line : List ℕ) (refusal : Refusal) (old new : Option SeatView) (answer : Answer) → RefusesLine line refusal → new ≡ old
+    → IfNone r (answer ≡ Refused (refused_as old refusal)) → IfNone r (IsLineAnswered options hub names line old answer new)
+unread_answered (Some ending) options hub names line refusal old new answer refuses same h = tt
+unread_answered None options hub names line refusal old new answer refuses same h = inr ((refusal, refuses, h), same)
+
+abbrev cause_of : {A : Type 0} → Result A Refusal → Refusal
+cause_of (Ok a) = BadLine
+cause_of (Err cause) = cause
+
+pub unread_goes_on : {A : Type 0} (r : Option SessionEnd) (options : SessionOptions) (seat : Option SeatView) (line : List ℕ) (refusal : Refusal) → (IsNoServeLine line → ◌≡◌ {A = Result A Refusal} (Err refusal) (Err BadLine))
+    → IfNone r (IsTrue options.strict → seat ≡ None → refusal ≡ BadLine → ⊥) → IfNone r (GoesOnBehind options seat line)
+unread_goes_on (Some ending) options seat line refusal bad h = tt
+unread_goes_on None options seat line refusal bad h = λ strict none no_line. h strict none (ap cause_of (bad no_line))
+
+-- or it ends the session
+pub unread_untold : (r : Option SessionEnd) (newest : Bool) (epoch : ℕ) (old new : Option SeatView) → new ≡ old → IfSome r (λ ending. Tells newest epoch old new [])
+unread_untold None newest epoch old new same = tt
+unread_untold (Some ending) newest epoch old new same = subst (λ (s : Option SeatView). Tells newest epoch old s []) (sym same) (Tells-same newest epoch old)
+
+pub unread_ends : (r : Option SessionEnd) (options : SessionOptions) (seat : Option SeatView) (line : List ℕ) (refusal : Refusal) → RefusesLine line refusal
+    → IfSome r (λ ending. (ending ≡ Unread) × IsTrue options.strict × (seat ≡ None) × (refusal ≡ BadLine)) → IfSome r (λ ending. EndsBefore options seat ending line)
+unread_ends None options seat line refusal refuses h = tt
+unread_ends (Some ending) options seat line refusal refuses (is, strict, none, bad) =
+    subst (λ (e : SessionEnd). EndsBefore options seat e line) (sym is) (strict, none, subst (RefusesLine line) bad refuses)
+
+pub unread_left : (r : Option SessionEnd) (epoch : ℕ) (old new : Option SeatView) → new ≡ old → IfSome r (λ ending. StaysBehind epoch old new)
+unread_left None epoch old new same = tt
+unread_left (Some ending) epoch old new same = inl same

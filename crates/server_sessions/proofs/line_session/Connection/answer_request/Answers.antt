@@ -1,0 +1,28 @@
+use Rattle.plain_store.specs.declared.refusal.Refusal.TheVariants.{NoSession}
+use Rattle.server_sessions.proofs.ToldOf.{Tells-cause, Tells-same, answered_by, left_by}
+use Rattle.std.proofs.Common.{refl, inl, inr}
+use Rattle.server_sessions.proofs.InTurn.{seat_answers}
+use Rattle.server_sessions.proofs.line_session.Connection.answer_request.Goals as goal
+
+pub returns-in-Some-clause-told : goal.returns-in-Some-clause-told
+returns-in-Some-clause-told g c = λ is.
+    answered_by c.args.self.now.terms.options.newest c.args.hub.now.epoch _ c.args.request.now c.args.self.now.seat c.in-Some.seat c.answer_by_seat.new.seat c.answer_by_seat.new.answer c.in-Some.is (c.answer_by_seat.ensures.answered is)
+
+pub returns-in-Some-clause-bye : goal.returns-in-Some-clause-bye
+returns-in-Some-clause-bye g c = λ is. left_by c.args.self.now.terms.options.newest c.args.hub.now.epoch c.args.self.now.seat c.in-Some.seat c.answer_by_seat.new.seat c.in-Some.is (c.answer_by_seat.ensures.bye is)
+
+pub returns-in-Put-clause-told : goal.returns-in-Put-clause-told
+returns-in-Put-clause-told g c = λ is. rw c.tell_refusal.ensures (Tells-cause c.args.self.now.terms.options.newest c.args.hub.now.epoch c.args.self.now.seat NoSession)
+
+pub returns-in-Bye-clause-bye : goal.returns-in-Bye-clause-bye
+returns-in-Bye-clause-bye g c = λ is. Tells-same c.args.self.now.terms.options.newest c.args.hub.now.epoch c.args.self.now.seat
+
+pub returns-in-Some-clause-answered : goal.returns-in-Some-clause-answered
+returns-in-Some-clause-answered g c = λ is.
+    seat_answers c.args.self.now.terms.options c.args.hub.now c.args.self.now.terms.names.now c.args.request.now c.args.self.now.seat c.in-Some.seat c.answer_by_seat.new.seat c.answer_by_seat.new.answer c.in-Some.is (c.answer_by_seat.ensures.answered is)
+
+pub returns-in-Some-clause-left : goal.returns-in-Some-clause-left
+returns-in-Some-clause-left g c = λ is. inr (c.in-Some.seat, c.answer_by_seat.new.seat, c.in-Some.is, refl, c.answer_by_seat.ensures.bye is)
+
+pub returns-in-Bye-clause-left : goal.returns-in-Bye-clause-left
+returns-in-Bye-clause-left g c = λ is. inl refl

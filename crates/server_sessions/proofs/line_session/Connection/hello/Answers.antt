@@ -1,0 +1,27 @@
+use Rattle.std.proofs.Common.{inl, refl}
+use Rattle.plain_store.specs.declared.refusal.Refusal.TheVariants.{NoTenant}
+use Rattle.server_sessions.proofs.ToldOf.{Tells-refused}
+use Rattle.server_sessions.proofs.Greeting.{greeted, greeting_seated, greeting_told}
+use Rattle.server_sessions.proofs.line_session.Connection.hello.Goals as goal
+
+pub returns-in_default-clause-told : goal.returns-in_default-clause-told
+returns-in_default-clause-told g c = rw (c.requires, c.tell_refusal.ensures) (Tells-refused c.args.self.now.terms.options.newest c.args.hub.now.epoch NoTenant)
+
+pub returns-in_default-clause-greeted : goal.returns-in_default-clause-greeted
+returns-in_default-clause-greeted g c = rw c.requires (NoTenant, c.tell_refusal.ensures, inl (c.in_default.ensures.none, refl))
+
+pub returns-clause-tenant : goal.returns-clause-tenant
+returns-clause-tenant g c =
+    rw c.greet.ensures.terms (greeting_seated _ c.in-Some.tenant _ _ _ _ c.args.name.now c.seat.result _ _ _ c.in-Some.ensures.some c.requires
+    (record { fresh = c.seat.ensures.fresh; name = c.seat.ensures.name; no_tenant = c.seat.ensures.no_tenant; refusals = c.seat.ensures.refusals })
+    (record { ready = c.greet.ensures.ready; refused = c.greet.ensures.refused }))
+
+pub returns-clause-told : goal.returns-clause-told
+returns-clause-told g c = greeting_told c.args.self.now.terms.options.newest c.args.hub.now.epoch _ _ _ _ _ c.seat.result _ _ _ c.requires
+    (record { fresh = c.seat.ensures.fresh; name = c.seat.ensures.name; no_tenant = c.seat.ensures.no_tenant; refusals = c.seat.ensures.refusals })
+    (record { ready = c.greet.ensures.ready; refused = c.greet.ensures.refused })
+
+pub returns-clause-greeted : goal.returns-clause-greeted
+returns-clause-greeted g c = greeted _ c.in-Some.tenant _ _ _ _ c.args.name.now c.seat.result _ _ _ c.in-Some.ensures.some c.requires
+    (record { fresh = c.seat.ensures.fresh; name = c.seat.ensures.name; no_tenant = c.seat.ensures.no_tenant; refusals = c.seat.ensures.refusals })
+    (record { ready = c.greet.ensures.ready; refused = c.greet.ensures.refused })

@@ -1,0 +1,73 @@
+use Rattle.std.proofs.Common.{[]}
+use Rattle.std.proofs.lemmas.Bool.{both_ways}
+use Rattle.line_runs.proofs.Gathering.{Gathers-none}
+use Rattle.line_protocol.specs.AnswerSpelling.{answer_line}
+use Rattle.server_sessions.specs.Telling.{BreaksTelling}
+use Rattle.line_runs.proofs.Faults.{at_any}
+use Rattle.cell_lines.specs.Stream.{IsLine, terminated}
+use Rattle.server_sessions.specs.Answered.{BreaksOffIn}
+use Rattle.server_sessions.proofs.ToldOf.{breaks_line, told_line}
+use Rattle.server_sessions.proofs.InTurn.{breaks_at_line, ends_before, ends_without_memory, gathers_line, goes_on}
+use Rattle.server_sessions.proofs.line_session.answer_next.Goals as goal
+
+pub returns-then-ends-clause-told : goal.returns-then-ends-clause-told
+returns-then-ends-clause-told g c =
+    told_line c.args.connection.now.terms.options.newest c.args.hub.now.epoch (g.W.Write.contents c.args.writer.now) (g.W.Write.contents c.make_room.new.writer) c.args.out.now.items c.put_answer.new.out.items c.make_room.new.out.items (answer_line c.answer.new.self.answer)
+    c.args.connection.now.seat c.answer.new.self.seat c.put_answer.ensures.text c.in_default.ensures.told c.in_ok-make_room.ensures.gathered
+
+pub returns-else-ends-clause-told : goal.returns-else-ends-clause-told
+returns-else-ends-clause-told g c =
+    told_line c.args.connection.now.terms.options.newest c.args.hub.now.epoch (g.W.Write.contents c.args.writer.now) (g.W.Write.contents c.make_room.new.writer) c.args.out.now.items c.put_answer.new.out.items c.make_room.new.out.items (answer_line c.answer.new.self.answer)
+    c.args.connection.now.seat c.answer.new.self.seat c.put_answer.ensures.text c.in_default.ensures.told c.in_ok-make_room.ensures.gathered
+
+pub returns-in_err-make_room-clause-begun : goal.returns-in_err-make_room-clause-begun
+returns-in_err-make_room-clause-begun g c =
+    let first = c.args.connection.now.seat in
+    let last = c.answer.new.self.seat in
+    let old = g.W.Write.contents c.args.writer.now in
+    let new = g.W.Write.contents c.make_room.new.writer in
+    let begun = c.in_err-make_room.ensures.begun in
+    at_any c.from_residual.result (λ fault. BreaksTelling c.args.connection.now.terms.options.newest c.args.hub.now.epoch first last old new c.args.out.now.items)
+    (λ fault. breaks_line c.args.connection.now.terms.options.newest c.args.hub.now.epoch old new c.args.out.now.items c.put_answer.new.out.items (answer_line c.answer.new.self.answer) first last begun.0 c.put_answer.ensures.text c.in_default.ensures.told begun.1)
+
+-- nothing is reported
+pub returns-in-Some-clause-told : goal.returns-in-Some-clause-told
+returns-in-Some-clause-told g c = ([], Gathers-none (g.W.Write.contents c.args.writer.now) c.args.out.now.items, c.in-Some.ensures.untold)
+
+pub returns-then-ends-clause-answered : goal.returns-then-ends-clause-answered
+returns-then-ends-clause-answered g c = λ is.
+    let answer = c.answer.new.self.answer in
+    ends_without_memory c.args.connection.now.terms.options c.args.hub.now c.args.connection.now.terms.names.now c.args.connection.now.seat c.answer.new.self.seat c.args.line.now answer (g.W.Write.contents c.args.writer.now) (g.W.Write.contents c.make_room.new.writer)
+    c.args.out.now.items c.make_room.new.out.items is c.in_default.ensures.line c.in_default.ensures.goes_on (c.ends-ends.ensures.0 c.if-ends.true)
+    (gathers_line (g.W.Write.contents c.args.writer.now) (g.W.Write.contents c.make_room.new.writer) c.args.out.now.items c.put_answer.new.out.items c.make_room.new.out.items (answer_line answer)
+    c.put_answer.ensures.text c.in_ok-make_room.ensures.gathered)
+
+pub returns-else-ends-clause-answered : goal.returns-else-ends-clause-answered
+returns-else-ends-clause-answered g c = λ is.
+    let answer = c.answer.new.self.answer in
+    goes_on c.args.connection.now.terms.options c.args.hub.now c.args.connection.now.terms.names.now c.args.connection.now.seat c.answer.new.self.seat c.args.line.now answer (g.W.Write.contents c.args.writer.now) (g.W.Write.contents c.make_room.new.writer)
+    c.args.out.now.items c.make_room.new.out.items is c.in_default.ensures.line c.in_default.ensures.goes_on
+    (gathers_line (g.W.Write.contents c.args.writer.now) (g.W.Write.contents c.make_room.new.writer) c.args.out.now.items c.put_answer.new.out.items c.make_room.new.out.items (answer_line answer)
+    c.put_answer.ensures.text c.in_ok-make_room.ensures.gathered)
+
+pub returns-in-Some-clause-answered : goal.returns-in-Some-clause-answered
+returns-in-Some-clause-answered g c = λ is.
+    ends_before c.args.connection.now.terms.options c.args.hub.now c.args.connection.now.terms.names.now c.args.connection.now.seat c.answer.new.self.seat c.in-Some.ending c.args.line.now (g.W.Write.contents c.args.writer.now) c.args.out.now.items
+    c.in-Some.ensures.ends c.in-Some.ensures.left
+
+pub returns-in_err-make_room-clause-broke : goal.returns-in_err-make_room-clause-broke
+returns-in_err-make_room-clause-broke g c =
+    let options = c.args.connection.now.terms.options in
+    let hub = c.args.hub.now in
+    let names = c.args.connection.now.terms.names.now in
+    let line = c.args.line.now in
+    let first = c.args.connection.now.seat in
+    let last = c.answer.new.self.seat in
+    let old = g.W.Write.contents c.args.writer.now in
+    let new = g.W.Write.contents c.make_room.new.writer in
+    let begun = c.in_err-make_room.ensures.begun in
+    at_any c.from_residual.result (λ fault. IsLine line → BreaksOffIn options hub names first last (terminated line) old new c.args.out.now.items)
+    (λ fault is. breaks_at_line options hub names first last line c.answer.new.self.answer old new c.args.out.now.items c.put_answer.new.out.items begun.0 is c.in_default.ensures.line c.in_default.ensures.goes_on c.put_answer.ensures.text begun.1)
+
+pub returns-else-ends-clause-goes_on : goal.returns-else-ends-clause-goes_on
+returns-else-ends-clause-goes_on g c = λ none seated want. both_ways c.ends-ends.result c.if-ends.false (c.ends-ends.ensures.1 (seated, want))

@@ -1,0 +1,144 @@
+//! What a line was answered. Once a seat has given an answer, nobody changes it.
+ghost use Rattle.std.specs.Prelude.{◌≡◌, ◌+◌, ◌<◌, ◌≤◌, ◌++◌, ◌↔◌, true, false, cond, nat_lt, length, IsTrue};
+ghost use Rattle.plain_store.specs.declared.answer.Answer.TheVariants.{Ignored, Keeps as KeepsSoMany, Ready, Refused};
+ghost use Rattle.plain_store.specs.declared.refusal.Refusal.TheVariants.{NoTenant, OutOfMemory};
+ghost use Rattle.line_protocol.specs.declared.request.Request.TheVariants.{Bye};
+ghost use Rattle.line_protocol.specs.AnswerSpelling.{answer_line};
+ghost use Rattle.server_sessions.specs.Telling.{IsAnswered, IsPut};
+
+use crate::answer_counts::AnswerCounts;
+use bytes::BytesMut;
+use hub::{Gate, Hub, Seat};
+use line_protocol::{LINE_LIMIT, Request};
+use plain_store::{Answer, Refusal};
+use stamps::{Counter, Item, Keep};
+use std::marker::Model;
+use std::sync::Wait;
+
+/// What a line of a connection was answered, and the place for the next answer. What a seat puts there is written as it is, and
+/// is replaced by the next answer alone. Contracts see it as the answer.
+#[derive(Drop)]
+pub(crate) struct Given {
+    answer: Answer,
+}
+
+impl Model for Given {
+    ghost use Rattle.plain_store.specs.declared.answer.Answer.{Answer as Told};
+
+    ghost Value = { Told };
+
+    ghost view = { λ g. g.answer };
+}
+
+impl Given {
+    /// Nothing was answered yet.
+    pub(crate) fn new() -> Given
+        ensures { result ≡ Ignored }
+    {
+        Given {
+            answer: Answer::Ignored,
+        }
+    }
+
+    /// A seat was opened, and has this counter.
+    pub(crate) fn ready(&mut self, counter: Counter)
+        ensures { self.new ≡ Ready counter }
+    {
+        self.answer = Answer::Ready(counter);
+    }
+
+    /// Counts it.
+    pub(crate) fn count(&self, counts: &AnswerCounts) {
+        counts.count(&self.answer);
+    }
+
+    /// Whether it is an allocation failure.
+    pub(crate) fn is_want_of_memory(&self) -> bool
+        ensures { IsTrue result ↔ (self.now ≡ Refused OutOfMemory) }
+    {
+        matches!(&self.answer, Answer::Refused(Refusal::OutOfMemory))
+    }
+}
+
+/// Appends the line of an answer, for which there is room.
+pub(crate) fn put_answer(answer: &Given, out: &mut BytesMut)
+    requires { LINE_LIMIT ≤ out.old.spare }
+    ensures text { out.new.items ≡ out.old.items ++ answer_line answer.now }
+    ensures room { length out.old.items + out.old.spare ≤ length out.new.items + out.new.spare }
+{
+    line_runs::put_answer(&answer.answer, out);
+}
+
+/// Writes a refusal into the answer. A function of its own, so that no caller reserves stack space for a second `Answer`.
+pub(crate) fn tell_refusal(refusal: Refusal, answer: &mut Given)
+    ensures { answer.new ≡ Refused refusal }
+{
+    answer.answer = Answer::Refused(refusal);
+}
+
+/// Answers a request by a seat, and says whether it is answered. Newest: whether a put reads its keys first.
+pub(crate) fn ask_seat<G: Gate, H: Wait>(
+    rt: &H,
+    hub: &Hub<G>,
+    newest: bool,
+    seat: &mut Seat<'_, G>,
+    request: &Request,
+    answer: &mut Given,
+) -> bool
+    ensures answered { result ≡ true → IsAnswered newest (length hub.now.limits) request.now seat.old answer.new seat.new }
+    ensures bye { result ≡ false → (request.now ≡ Bye) × (seat.new ≡ seat.old) }
+    ensures name { seat.new.name ≡ seat.old.name }
+{
+    match request {
+        Request::Hello(..) => {
+            tell_refusal(Refusal::Busy, answer);
+            true
+        }
+        Request::Put(items) => {
+            ask_put(rt, newest, seat, items.as_slice(), answer);
+            true
+        }
+        Request::Get(keys) => {
+            seat.get_all_into(rt, keys.as_slice(), &mut answer.answer);
+            true
+        }
+        Request::Find(tag) => {
+            seat.find_into(rt, *tag, &mut answer.answer);
+            true
+        }
+        Request::Keep(keep) => {
+            set_keep(rt, hub, seat.tenant(), *keep, answer);
+            true
+        }
+        Request::Bye => false,
+    }
+}
+
+// Answers a put by a seat.
+fn ask_put<G: Gate, H: Wait>(
+    rt: &H,
+    newest: bool,
+    seat: &mut Seat<'_, G>,
+    items: &[Item],
+    answer: &mut Given,
+)
+    ensures answered { IsPut newest items.now seat.old answer.new seat.new }
+    ensures name { seat.new.name ≡ seat.old.name }
+{
+    if newest {
+        return seat.put_newest_into(rt, items, &mut answer.answer);
+    }
+    seat.put_all_into(rt, items, &mut answer.answer);
+}
+
+// Sets how many versions a collection of this tenant keeps.
+#[cold]
+#[inline(never)]
+fn set_keep<G: Gate, H: Wait>(rt: &H, hub: &Hub<G>, tenant: u32, keep: Keep, answer: &mut Given)
+    ensures { answer.new ≡ cond (nat_lt tenant (length hub.now.limits)) (KeepsSoMany keep) (Refused NoTenant) }
+{
+    match hub.set_keep(rt, tenant, keep) {
+        Ok(()) => answer.answer = Answer::Keeps(keep),
+        Err(refusal) => answer.answer = Answer::Refused(refusal),
+    }
+}

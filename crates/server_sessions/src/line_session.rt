@@ -1,0 +1,574 @@
+//! A session: the lines of one connection, answered by a running store.
+ghost use Rattle.std.specs.Prelude.{◌≡◌, ◌+◌, ◌<◌, ◌≤◌, ◌++◌, true, false, cond, nat_lt, length, vec_len, take, ℕ, List, [], ◌↔◌, Some, None, IfSome, IfNone, IsSome, IsTrue, IfOk, IfErr, OnOk};
+ghost use Rattle.std.specs.Option.{option_map};
+ghost use Rattle.std.specs.Io.KnownBytes.{Appends, Keeps};
+ghost use Rattle.plain_store.specs.declared.answer.Answer.TheVariants.{Keeps as KeepsSoMany, Ready, Refused};
+ghost use Rattle.plain_store.specs.declared.refusal.Refusal.{Refusal as Cause};
+ghost use Rattle.plain_store.specs.declared.refusal.Refusal.TheVariants.{BadLine, NoTenant, OutOfMemory};
+ghost use Rattle.line_protocol.specs.declared.request.Request.TheVariants.{Bye};
+ghost use Rattle.line_protocol.specs.AnswerSpelling.{answer_line};
+ghost use Rattle.line_protocol.specs.ServeSpelling.{IsServeLine};
+ghost use Rattle.cell_lines.specs.Stream.{HasNoLineFeed, IsLine, terminated};
+ghost use Rattle.line_runs.specs.RunAnswers.{Gathers};
+ghost use Rattle.server_sessions.specs.Answered.{BreaksOffIn, EndsBefore, HasAnswered, HasAnsweredSome, IsOfSeat, StaysBehind, TakesBytes, TakesInput};
+ghost use Rattle.server_sessions.specs.declared.line_session.SessionEnd.TheVariants.{Unread};
+ghost use Rattle.server_sessions.specs.Answering.{GoesOnBehind, IsAnsweredBy, IsEndOfInput, IsGreeted, IsLineAnswered, last_line, no_options, refused_as};
+ghost use Rattle.server_sessions.specs.Telling.{BreaksTelling, HasName, IsAnswered, IsAnsweredAndDrained, IsBegun, IsDrained, IsLastLine, IsPut, IsSeated, IsWritten, Tells, seat_tenant};
+
+use crate::answer_counts::AnswerCounts;
+use crate::given::{Given, ask_seat, put_answer, tell_refusal};
+use crate::session_options::SessionOptions;
+use bytes::BytesMut;
+use hub::{Gate, Hub, Seat, Transcript};
+use line_protocol::{
+    LINE_LIMIT, Lines, Name, Request, read_serve_line, tenant_number, write_bye, write_refusal,
+};
+use line_runs::{GATHERED, READ_LIMIT, RunFault, flush, read_buffer};
+use plain_store::{Answer, Refusal};
+use stamps::{Client, Counter, Item, Keep};
+use std::alloc::Global;
+use std::io::{Read, Write};
+use std::sync::Wait;
+
+/// By which names the tenants go, how lines are answered, and where the answers are counted.
+#[derive(Clone, Copy)]
+struct Terms<'s> {
+    names: &'s [Name],
+    options: SessionOptions,
+    counts: Option<&'s AnswerCounts>,
+}
+
+/// What answers the lines of one connection.
+#[derive(Drop)]
+struct Connection<'s, G> {
+    alloc: Global,
+    terms: Terms<'s>,
+    seat: Option<Seat<'s, G>>,
+    // What the line before was answered, and the place for the next answer.
+    answer: Given,
+}
+
+/// Why no more lines are answered.
+#[derive(Clone, Copy)]
+enum SessionEnd {
+    /// The input ended after a whole line or before any byte, or an allocation failure was answered.
+    Silent,
+    /// `bye` was read, and is still to be answered.
+    Bye,
+    /// A line could not be read before a seat was there, in a strict session, as is still to be answered.
+    Unread,
+    /// A line was too long or cut, as is still to be answered.
+    Refused(Refusal),
+}
+
+/// Answers the lines of one connection as [`run_session_as`] does, of a session without options: a line that can't be read
+/// is refused 40, and the session goes on, and a put reads nothing first.
+pub fn run_session<'s, G: Gate, H: Wait, R: Read, W: Write>(
+    rt: &H,
+    alloc: Global,
+    hub: &'s Hub<G>,
+    names: &'s [Name],
+    reader: &mut R,
+    writer: &mut W,
+) -> (Option<Transcript>, Result<(), RunFault>)
+    // A transcript stands there exactly where a seat was opened. Then `ready` and its counter were written, and the answers
+    // that the transcript has, each in its turn.
+    ensures written { IfOk result.1 (λ _. IsWritten false hub.now.epoch result.0 (W.contents writer.old) (W.contents writer.new)) }
+    // At a fault a beginning of that was written, and the transcript stands there just so.
+    ensures begun { IfErr result.1 (λ _. IsBegun false hub.now.epoch result.0 (W.contents writer.old) (W.contents writer.new)) }
+    ensures tenant { IfSome result.0 (λ t. HasName names.now t.tenant) }
+    // Each line of a prefix of the input was answered, in its turn, and then the session ended.
+    ensures answered { IfOk result.1 (λ _. IfSome (R.remaining reader.old) (λ input. HasAnswered no_options hub.now names.now input result.0 (W.contents writer.old) (W.contents writer.new))) }
+    // At a fault a beginning of the answers to such lines was written.
+    ensures broke { IfErr result.1 (λ _. IfSome (R.remaining reader.old) (λ input. HasAnsweredSome no_options hub.now names.now input result.0 (W.contents writer.old) (W.contents writer.new))) }
+{
+    let options = SessionOptions {
+        strict: false,
+        newest: false,
+    };
+    run_session_as(rt, alloc, hub, names, options, None, reader, writer)
+}
+
+/// Answers the lines of one connection by the tenants of a running store, which go by these names, until the session
+/// ends. The answers of all whole lines that were read are written before more is read. While answers wait to be written,
+/// the writer is flushed before a line is answered: one that fails there has nobody who would take the answer, and no more
+/// lines are answered.
+///
+/// `hello` opens a seat of the hub, and `put`, `get` and `find` are answered by it. Where puts are to be newest, each reads its
+/// keys first (`Seat::put_newest`), which is not told. `keep` sets how many versions a
+/// collection of its tenant keeps. Before the seat is there these four are refused 11. A `hello` where the connection has a seat is refused 12, and changes nothing. A line that is none of a session's
+/// is refused 40, and the session goes on; but where it is strict and has no seat, that ends it. `bye` ends it too, and so do a line that is too long (41), an input that ends
+/// within a line (42) and an allocation failure (30), but as the answer to `hello`. However it ends, its seat is ended, and
+/// that before the last of these answers is written.
+///
+/// Where counts are given, each answer is counted there.
+///
+/// Beside what the session came to stands the transcript of its seat, and `None` where none was opened. The fault is
+/// `Read` where a read failed, `ReadsUsed` after 2^62 reads, and `Write` where a write or a flush failed or a write took no
+/// byte: nothing is read or written then, and no line is answered. `OutOfMemory` comes before anything is read.
+pub fn run_session_as<'s, G: Gate, H: Wait, R: Read, W: Write>(
+    rt: &H,
+    alloc: Global,
+    hub: &'s Hub<G>,
+    names: &'s [Name],
+    options: SessionOptions,
+    counts: Option<&'s AnswerCounts>,
+    reader: &mut R,
+    writer: &mut W,
+) -> (Option<Transcript>, Result<(), RunFault>)
+    // A transcript stands there exactly where a seat was opened. Then `ready` and its counter were written, and the answers
+    // that the transcript has, each in its turn.
+    ensures written { IfOk result.1 (λ _. IsWritten options.newest hub.now.epoch result.0 (W.contents writer.old) (W.contents writer.new)) }
+    // At a fault a beginning of that was written, and the transcript stands there just so.
+    ensures begun { IfErr result.1 (λ _. IsBegun options.newest hub.now.epoch result.0 (W.contents writer.old) (W.contents writer.new)) }
+    ensures tenant { IfSome result.0 (λ t. HasName names.now t.tenant) }
+    // Each line of a prefix of the input was answered, in its turn, and then the session ended. A strict one goes on only
+    // behind lines that it could read, until it has a seat.
+    ensures answered { IfOk result.1 (λ _. IfSome (R.remaining reader.old) (λ input. HasAnswered options hub.now names.now input result.0 (W.contents writer.old) (W.contents writer.new))) }
+    // At a fault a beginning of the answers to such lines was written.
+    ensures broke { IfErr result.1 (λ _. IfSome (R.remaining reader.old) (λ input. HasAnsweredSome options hub.now names.now input result.0 (W.contents writer.old) (W.contents writer.new))) }
+{
+    let Ok(mut out) = BytesMut::with_capacity(alloc, GATHERED) else {
+        return (None, Err(RunFault::OutOfMemory));
+    };
+    let mut connection = Connection {
+        alloc,
+        terms: Terms {
+            names,
+            options,
+            counts,
+        },
+        seat: None,
+        answer: Given::new(),
+    };
+    let ended = answer_lines(rt, hub, &mut connection, &mut out, reader, writer);
+    let transcript = end_seat(rt, connection.seat);
+    match ended {
+        Ok(ending) => {
+            count_last(ending, counts);
+            (transcript, finish(ending, &mut out, writer))
+        }
+        Err(fault) => (transcript, Err(fault)),
+    }
+}
+
+// Ends the seat, if one was opened.
+fn end_seat<G: Gate, H: Wait>(rt: &H, seat: Option<Seat<'_, G>>) -> Option<Transcript>
+    ensures counter { option_map (λ t. t.counter) result ≡ option_map (λ s. s.name.counter) seat.entry }
+    ensures entries { option_map (λ t. t.entries.items) result ≡ option_map (λ s. s.entries) seat.entry }
+    ensures tenant { option_map (λ t. t.tenant) result ≡ seat_tenant seat.entry }
+    ensures whole { IsOfSeat 0 seat.entry result }
+{
+    match seat {
+        Some(seat) => Some(seat.end(rt)),
+        None => None,
+    }
+}
+
+// Counts the last answer, where answers are counted.
+fn count_last(ending: SessionEnd, counts: Option<&AnswerCounts>) {
+    let Some(counts) = counts else {
+        return;
+    };
+    match ending {
+        SessionEnd::Silent | SessionEnd::Bye => {}
+        SessionEnd::Unread => counts.count_refusal(Refusal::BadLine),
+        SessionEnd::Refused(refusal) => counts.count_refusal(refusal),
+    }
+}
+
+// Writes what is gathered, and the last answer.
+fn finish<W: Write>(ending: SessionEnd, out: &mut BytesMut, writer: &mut W) -> Result<(), RunFault>
+    requires { LINE_LIMIT ≤ out.old.spare }
+    ensures written { OnOk result ((last : List ℕ) × IsLastLine last
+        × Appends (W.contents writer.old) (W.contents writer.new) (out.old.items ++ last)) }
+    ensures begun { IfErr result (λ _. (last : List ℕ) × (n : ℕ) × IsLastLine last
+        × Appends (W.contents writer.old) (W.contents writer.new) (take n (out.old.items ++ last))) }
+    ensures last { OnOk result (Appends (W.contents writer.old) (W.contents writer.new) (out.old.items ++ last_line ending)) }
+{
+    put_last(ending, out);
+    flush(out, writer)
+}
+
+// Gathers the last answer, for which there is room.
+fn put_last(ending: SessionEnd, out: &mut BytesMut)
+    requires { LINE_LIMIT ≤ out.old.spare }
+    ensures told { (last : List ℕ) × IsLastLine last × (out.new.items ≡ out.old.items ++ last) }
+    ensures last { out.new.items ≡ out.old.items ++ last_line ending }
+{
+    match ending {
+        SessionEnd::Silent => {}
+        SessionEnd::Bye => {
+            if write_bye(out).is_err() {
+                unreachable!();
+            }
+        }
+        SessionEnd::Unread => put_refusal(Refusal::BadLine, out),
+        SessionEnd::Refused(refusal) => put_refusal(refusal, out),
+    }
+}
+
+// Gathers a refusal, for which there is room.
+fn put_refusal(refusal: Refusal, out: &mut BytesMut)
+    requires { LINE_LIMIT ≤ out.old.spare }
+    ensures { out.new.items ≡ out.old.items ++ answer_line (Refused refusal) }
+{
+    if write_refusal(refusal, out).is_err() {
+        unreachable!();
+    }
+}
+
+// Answers lines until the session ends.
+fn answer_lines<'s, G: Gate, H: Wait, R: Read, W: Write>(
+    rt: &H,
+    hub: &'s Hub<G>,
+    connection: &mut Connection<'s, G>,
+    out: &mut BytesMut,
+    reader: &mut R,
+    writer: &mut W,
+) -> Result<SessionEnd, RunFault>
+    requires ready { LINE_LIMIT ≤ out.old.spare }
+    requires tenant { IsSeated connection.old.seat connection.old.terms.names.now }
+    ensures ready { OnOk result (LINE_LIMIT ≤ out.new.spare) }
+    ensures terms { connection.new.terms ≡ connection.old.terms }
+    ensures tenant { IsSeated connection.new.seat connection.new.terms.names.now }
+    ensures told { OnOk result ((text : List ℕ) × Gathers (W.contents writer.old) (W.contents writer.new) out.old.items out.new.items text
+        × Tells connection.old.terms.options.newest hub.now.epoch connection.old.seat connection.new.seat text) }
+    ensures begun { IfErr result (λ _. BreaksTelling connection.old.terms.options.newest hub.now.epoch connection.old.seat connection.new.seat
+        (W.contents writer.old) (W.contents writer.new) out.old.items) }
+    ensures answered { IfOk result (λ ending. IfSome (R.remaining reader.old) (λ input. TakesInput connection.old.terms.options hub.now connection.old.terms.names.now ending connection.old.seat connection.new.seat
+        input (W.contents writer.old) (W.contents writer.new) out.old.items out.new.items)) }
+    ensures broke { IfErr result (λ _. IfSome (R.remaining reader.old) (λ input. BreaksOffIn connection.old.terms.options hub.now connection.old.terms.names.now connection.old.seat connection.new.seat
+        input (W.contents writer.old) (W.contents writer.new) out.old.items)) }
+{
+    let mut lines = Lines::open(connection.alloc)?;
+    let mut buffer = read_buffer(connection.alloc)?;
+    let piece = buffer.as_mut_slice();
+    for _ in 0..READ_LIMIT {
+        let Ok(taken) = reader.read(piece) else {
+            return Err(RunFault::Read);
+        };
+        if taken == 0 {
+            return Ok(ending_of(&lines));
+        }
+        let ending = answer_piece(
+            rt,
+            hub,
+            connection,
+            &mut lines,
+            out,
+            &piece[..taken],
+            writer,
+        )?;
+        if let Some(ending) = ending {
+            return Ok(ending);
+        }
+        flush(out, writer)?;
+    }
+    Err(RunFault::ReadsUsed)
+}
+
+// How the input ended.
+fn ending_of(lines: &Lines) -> SessionEnd
+    ensures { IsEndOfInput lines.now result }
+{
+    match lines.end() {
+        Ok(()) => SessionEnd::Silent,
+        Err(refusal) => SessionEnd::Refused(refusal),
+    }
+}
+
+// Answers the lines of a piece, until the session ends.
+fn answer_piece<'s, G: Gate, H: Wait, W: Write>(
+    rt: &H,
+    hub: &'s Hub<G>,
+    connection: &mut Connection<'s, G>,
+    lines: &mut Lines,
+    out: &mut BytesMut,
+    piece: &[u8],
+    writer: &mut W,
+) -> Result<Option<SessionEnd>, RunFault>
+    requires ready { LINE_LIMIT ≤ out.old.spare }
+    requires waits { HasNoLineFeed lines.old }
+    requires tenant { IsSeated connection.old.seat connection.old.terms.names.now }
+    ensures ready { OnOk result (LINE_LIMIT ≤ out.new.spare) }
+    ensures waits { OnOk result (HasNoLineFeed lines.new) }
+    ensures terms { connection.new.terms ≡ connection.old.terms }
+    ensures tenant { IsSeated connection.new.seat connection.new.terms.names.now }
+    ensures told { OnOk result ((text : List ℕ) × Gathers (W.contents writer.old) (W.contents writer.new) out.old.items out.new.items text
+        × Tells connection.old.terms.options.newest hub.now.epoch connection.old.seat connection.new.seat text) }
+    ensures begun { IfErr result (λ _. BreaksTelling connection.old.terms.options.newest hub.now.epoch connection.old.seat connection.new.seat
+        (W.contents writer.old) (W.contents writer.new) out.old.items) }
+    ensures answered { IfOk result (λ ending. TakesBytes connection.old.terms.options hub.now connection.old.terms.names.now ending connection.old.seat connection.new.seat
+        (lines.old ++ piece.now) lines.new (W.contents writer.old) (W.contents writer.new) out.old.items out.new.items) }
+    ensures broke { IfErr result (λ _. BreaksOffIn connection.old.terms.options hub.now connection.old.terms.names.now connection.old.seat connection.new.seat
+        (lines.old ++ piece.now) (W.contents writer.old) (W.contents writer.new) out.old.items) }
+{
+    let mut rest = piece;
+    while !rest.is_empty() {
+        match lines.feed(rest) {
+            Ok(taken) => rest = &rest[taken..],
+            Err(refusal) => return Ok(Some(SessionEnd::Refused(refusal))),
+        }
+        let ending = answer_waiting(rt, hub, connection, lines, out, writer)?;
+        if ending.is_some() {
+            return Ok(ending);
+        }
+    }
+    Ok(None)
+}
+
+// Answers the line that waits, if one does and its peer is still there. There is room for the next answer then.
+fn answer_waiting<'s, G: Gate, H: Wait, W: Write>(
+    rt: &H,
+    hub: &'s Hub<G>,
+    connection: &mut Connection<'s, G>,
+    lines: &mut Lines,
+    out: &mut BytesMut,
+    writer: &mut W,
+) -> Result<Option<SessionEnd>, RunFault>
+    requires ready { LINE_LIMIT ≤ out.old.spare }
+    requires tenant { IsSeated connection.old.seat connection.old.terms.names.now }
+    ensures ready { OnOk result (LINE_LIMIT ≤ out.new.spare) }
+    ensures waits { OnOk result (HasNoLineFeed lines.new) }
+    ensures terms { connection.new.terms ≡ connection.old.terms }
+    ensures tenant { IsSeated connection.new.seat connection.new.terms.names.now }
+    ensures told { OnOk result ((text : List ℕ) × Gathers (W.contents writer.old) (W.contents writer.new) out.old.items out.new.items text
+        × Tells connection.old.terms.options.newest hub.now.epoch connection.old.seat connection.new.seat text) }
+    ensures begun { IfErr result (λ _. BreaksTelling connection.old.terms.options.newest hub.now.epoch connection.old.seat connection.new.seat
+        (W.contents writer.old) (W.contents writer.new) out.old.items) }
+    ensures answered { IfOk result (λ ending. TakesBytes connection.old.terms.options hub.now connection.old.terms.names.now ending connection.old.seat connection.new.seat
+        lines.old lines.new (W.contents writer.old) (W.contents writer.new) out.old.items out.new.items) }
+    ensures broke { IfErr result (λ _. BreaksOffIn connection.old.terms.options hub.now connection.old.terms.names.now connection.old.seat connection.new.seat
+        lines.old (W.contents writer.old) (W.contents writer.new) out.old.items) }
+{
+    let Some(line) = lines.next_line() else {
+        return Ok(None);
+    };
+    find_peer(out, writer)?;
+    answer_next(rt, hub, connection, line, out, writer)
+}
+
+// A fault where answers wait to be written and it is known that nobody takes them.
+fn find_peer<W: Write>(out: &BytesMut, writer: &mut W) -> Result<(), RunFault>
+    ensures { Keeps (W.contents writer.old) (W.contents writer.new) }
+{
+    if out.is_empty() {
+        return Ok(());
+    }
+    match writer.flush() {
+        Ok(()) => Ok(()),
+        Err(_) => Err(RunFault::Write),
+    }
+}
+
+// Answers a line.
+fn answer_next<'s, G: Gate, H: Wait, W: Write>(
+    rt: &H,
+    hub: &'s Hub<G>,
+    connection: &mut Connection<'s, G>,
+    line: &[u8],
+    out: &mut BytesMut,
+    writer: &mut W,
+) -> Result<Option<SessionEnd>, RunFault>
+    requires ready { LINE_LIMIT ≤ out.old.spare }
+    requires tenant { IsSeated connection.old.seat connection.old.terms.names.now }
+    ensures ready { OnOk result (LINE_LIMIT ≤ out.new.spare) }
+    ensures terms { connection.new.terms ≡ connection.old.terms }
+    ensures tenant { IsSeated connection.new.seat connection.new.terms.names.now }
+    ensures told { OnOk result ((text : List ℕ) × Gathers (W.contents writer.old) (W.contents writer.new) out.old.items out.new.items text
+        × Tells connection.old.terms.options.newest hub.now.epoch connection.old.seat connection.new.seat text) }
+    ensures begun { IfErr result (λ _. BreaksTelling connection.old.terms.options.newest hub.now.epoch connection.old.seat connection.new.seat
+        (W.contents writer.old) (W.contents writer.new) out.old.items) }
+    ensures answered { IfOk result (λ ending. IsLine line.now → TakesBytes connection.old.terms.options hub.now connection.old.terms.names.now ending connection.old.seat connection.new.seat
+        (terminated line.now) [] (W.contents writer.old) (W.contents writer.new) out.old.items out.new.items) }
+    ensures broke { IfErr result (λ _. IsLine line.now → BreaksOffIn connection.old.terms.options hub.now connection.old.terms.names.now connection.old.seat connection.new.seat
+        (terminated line.now) (W.contents writer.old) (W.contents writer.new) out.old.items) }
+    // A session whose seat answered that an allocation failed does not go on.
+    ensures goes_on { IfOk result (λ ending. ending ≡ None → IsSome connection.new.seat → connection.new.answer ≡ Refused OutOfMemory → ⊥) }
+{
+    if let Some(ending) = connection.answer(rt, hub, line) {
+        return Ok(Some(ending));
+    }
+    let ends = connection.ends();
+    connection.count();
+    put_answer(&connection.answer, out);
+    make_room(out, writer)?;
+    Ok(if ends { Some(SessionEnd::Silent) } else { None })
+}
+
+// Writes what is gathered where there is no room for the next answer.
+fn make_room<W: Write>(out: &mut BytesMut, writer: &mut W) -> Result<(), RunFault>
+    requires { LINE_LIMIT ≤ length out.old.items + out.old.spare }
+    ensures ready { OnOk result (LINE_LIMIT ≤ out.new.spare) }
+    ensures gathered { OnOk result (Gathers (W.contents writer.old) (W.contents writer.new) out.old.items out.new.items []) }
+    ensures begun { IfErr result (λ _. (n : ℕ) × Appends (W.contents writer.old) (W.contents writer.new) (take n out.old.items)) }
+{
+    if out.capacity() - out.len() < LINE_LIMIT {
+        return flush(out, writer);
+    }
+    Ok(())
+}
+
+impl<'s, G: Gate> Connection<'s, G> {
+    // Answers a line in the connection's place. Where it ends the session instead, it is still to be answered.
+    fn answer<H: Wait>(&mut self, rt: &H, hub: &'s Hub<G>, line: &[u8]) -> Option<SessionEnd>
+        requires tenant { IsSeated self.old.seat self.old.terms.names.now }
+        ensures terms { self.new.terms ≡ self.old.terms }
+        ensures tenant { IsSeated self.new.seat self.new.terms.names.now }
+        ensures told { IfNone result (Tells self.old.terms.options.newest hub.now.epoch self.old.seat self.new.seat (answer_line self.new.answer)) }
+        ensures line { IfNone result (IsLineAnswered self.old.terms.options hub.now self.old.terms.names.now line.now self.old.seat self.new.answer self.new.seat) }
+        ensures goes_on { IfNone result (GoesOnBehind self.old.terms.options self.old.seat line.now) }
+        ensures untold { IfSome result (λ _. Tells self.old.terms.options.newest hub.now.epoch self.old.seat self.new.seat []) }
+        ensures ends { IfSome result (λ ending. EndsBefore self.old.terms.options self.old.seat ending line.now) }
+        ensures left { IfSome result (λ _. StaysBehind hub.now.epoch self.old.seat self.new.seat) }
+    {
+        match read_serve_line(self.alloc, line) {
+            Ok(request) => {
+                if self.answer_request(rt, hub, &request) {
+                    None
+                } else {
+                    Some(SessionEnd::Bye)
+                }
+            }
+            Err(refusal) => self.answer_unread(refusal),
+        }
+    }
+
+    // Answers a line that could not be read. Where it ends the session, it is still to be answered.
+    fn answer_unread(&mut self, refusal: Refusal) -> Option<SessionEnd>
+        ensures terms { self.new.terms ≡ self.old.terms }
+        ensures seat { self.new.seat ≡ self.old.seat }
+        ensures answered { IfNone result (self.new.answer ≡ Refused (refused_as self.old.seat refusal)) }
+        ensures goes_on { IfNone result (IsTrue self.old.terms.options.strict → self.old.seat ≡ None → refusal ≡ BadLine → ⊥) }
+        ensures ends { IfSome result (λ ending. (ending ≡ Unread) × IsTrue self.old.terms.options.strict × (self.old.seat ≡ None) × (refusal ≡ BadLine)) }
+    {
+        if self.terms.options.strict && self.seat.is_none() && refusal == Refusal::BadLine {
+            return Some(SessionEnd::Unread);
+        }
+        let cause = self.refuse(refusal);
+        tell_refusal(cause, &mut self.answer);
+        None
+    }
+
+    // Why a line is refused that could not be read. Only a `put` or a `get` asks for memory, and neither is answered
+    // before a seat is there.
+    fn refuse(&self, refusal: Refusal) -> Refusal
+        ensures { result ≡ refused_as self.now.seat refusal }
+    {
+        match (refusal, &self.seat) {
+            (Refusal::OutOfMemory, None) => Refusal::NoSession,
+            _ => refusal,
+        }
+    }
+
+    // Counts the answer, where answers are counted.
+    fn count(&self) {
+        if let Some(counts) = self.terms.counts {
+            self.answer.count(counts);
+        }
+    }
+
+    // An allocation failure ends the session, but as the answer to the `hello` that would have opened its seat.
+    fn ends(&self) -> bool
+        ensures { IsTrue result ↔ (IsSome self.now.seat × (self.now.answer ≡ Refused OutOfMemory)) }
+    {
+        self.seat.is_some() && self.answer.is_want_of_memory()
+    }
+
+    fn answer_request<H: Wait>(&mut self, rt: &H, hub: &'s Hub<G>, request: &Request) -> bool
+        requires tenant { IsSeated self.old.seat self.old.terms.names.now }
+        ensures terms { self.new.terms ≡ self.old.terms }
+        ensures tenant { IsSeated self.new.seat self.new.terms.names.now }
+        ensures told { result ≡ true → Tells self.old.terms.options.newest hub.now.epoch self.old.seat self.new.seat (answer_line self.new.answer) }
+        ensures bye { result ≡ false → Tells self.old.terms.options.newest hub.now.epoch self.old.seat self.new.seat [] }
+        ensures answered { result ≡ true → IsAnsweredBy self.old.terms.options hub.now self.old.terms.names.now request.now self.old.seat self.new.answer self.new.seat }
+        ensures said_bye { result ≡ false → request.now ≡ Bye }
+        ensures left { result ≡ false → StaysBehind hub.now.epoch self.old.seat self.new.seat }
+    {
+        let newest = self.terms.options.newest;
+        if let Some(seat) = &mut self.seat {
+            return answer_by_seat(rt, hub, newest, seat, request, &mut self.answer);
+        }
+        match request {
+            Request::Hello(name, client, base) => {
+                self.hello(rt, hub, name, *client, *base);
+                true
+            }
+            Request::Put(_) | Request::Get(_) | Request::Find(_) | Request::Keep(_) => {
+                tell_refusal(Refusal::NoSession, &mut self.answer);
+                true
+            }
+            Request::Bye => false,
+        }
+    }
+
+    // Opens the connection's seat, and answers that.
+    #[cold]
+    #[inline(never)]
+    fn hello<H: Wait>(
+        &mut self,
+        rt: &H,
+        hub: &'s Hub<G>,
+        name: &Name,
+        client: Client,
+        base: Counter,
+    )
+        requires { self.old.seat ≡ None }
+        ensures terms { self.new.terms ≡ self.old.terms }
+        ensures tenant { IsSeated self.new.seat self.new.terms.names.now }
+        ensures told { Tells self.old.terms.options.newest hub.now.epoch None self.new.seat (answer_line self.new.answer) }
+        ensures greeted { IsGreeted (length hub.now.limits) self.old.terms.names.now name.now client base self.new.answer self.new.seat }
+    {
+        let Some(tenant) = tenant_number(self.terms.names, name) else {
+            tell_refusal(Refusal::NoTenant, &mut self.answer);
+            return;
+        };
+        self.greet(hub.seat(rt, tenant, client, base));
+    }
+
+    // Answers `ready` and the counter of a seat that was opened, which is the connection's from then on; or why none was.
+    fn greet(&mut self, opened: Result<Seat<'s, G>, Refusal>)
+        ensures terms { self.new.terms ≡ self.old.terms }
+        ensures ready { IfOk opened.entry (λ seat. (self.new.answer ≡ Ready seat.name.counter) × (self.new.seat ≡ Some seat)) }
+        ensures refused { IfErr opened.entry (λ cause. (self.new.answer ≡ Refused cause) × (self.new.seat ≡ self.old.seat)) }
+    {
+        match opened {
+            Ok(seat) => {
+                let counter = seat.counter();
+                self.seat = Some(seat);
+                self.answer.ready(counter);
+            }
+            Err(refusal) => tell_refusal(refusal, &mut self.answer),
+        }
+    }
+}
+
+// Answers a request by a connection's seat, and says whether it is answered. Where journals are cut, what the seat noted is
+// released.
+fn answer_by_seat<G: Gate, H: Wait>(
+    rt: &H,
+    hub: &Hub<G>,
+    newest: bool,
+    seat: &mut Seat<'_, G>,
+    request: &Request,
+    answer: &mut Given,
+) -> bool
+    ensures answered { result ≡ true → IsAnsweredAndDrained newest hub.now.epoch (length hub.now.limits) request.now seat.old answer.new seat.new }
+    ensures bye { result ≡ false → IsDrained hub.now.epoch seat.old seat.new }
+    ensures said_bye { result ≡ false → request.now ≡ Bye }
+    ensures name { seat.new.name ≡ seat.old.name }
+{
+    let is_answered = ask_seat(rt, hub, newest, seat, request, answer);
+    drain_seat(hub, seat);
+    is_answered
+}
+
+// Hands out what a seat noted, where journals are cut.
+fn drain_seat<G: Gate>(hub: &Hub<G>, seat: &mut Seat<'_, G>)
+    ensures { IsDrained hub.now.epoch seat.old seat.new }
+{
+    if hub.epoch() > 0 {
+        drop(seat.drain());
+    }
+}

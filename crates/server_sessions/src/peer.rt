@@ -1,0 +1,107 @@
+//! The other side of a connection, as a session reads it and writes to it.
+ghost use Rattle.std.specs.Prelude.{◌≡◌, ◌==◌, ◌-◌, ◌↔◌, None, OnOk, IsTrue};
+ghost use Rattle.std.specs.Io.{ReadsAtMost, WritesAtMost};
+ghost use Rattle.std.specs.Io.KnownBytes.{Keeps, ReadConsumes, WriteAppends};
+ghost use Rattle.server_sessions.specs.Peers.{flushes_left};
+
+use std::io::{self, Read, Write};
+use std::net::{Shutdown, TcpStream};
+use std::sync::atomic::{AtomicBool, Ordering};
+
+/// How many flushes there are from one look whether the peer is gone to the next, where nothing is written between them.
+const FLUSHES_A_LOOK: u32 = 16;
+
+/// How many reads pass over what a peer sent that is not read: of 4 KiB each, they are more than a connection holds.
+const PASSED: u32 = 2048;
+
+/// The peer of a connection. A read fails once sessions are to end: no line is cut by that, and none is answered so. A flush fails
+/// once the peer is known to be gone, or is waited for no longer. A look is a call of the system, so not each flush takes one: the first one behind
+/// a write does, and then one of 16.
+#[derive(Clone, Copy, Drop)]
+pub(crate) struct Peer<'s> {
+    pub(crate) stream: &'s TcpStream,
+    /// Whether nothing more is read.
+    pub(crate) is_last: &'s AtomicBool,
+    /// Whether no more lines are answered.
+    pub(crate) is_cut: &'s AtomicBool,
+    /// How many flushes are left that take no look.
+    pub(crate) unlooked: u32,
+}
+
+impl Peer<'_> {
+    /// Whether this flush takes a look.
+    fn is_look(&mut self) -> bool
+        ensures look { IsTrue result ↔ (self.old.unlooked ≡ 0) }
+        ensures next { self.new.unlooked ≡ flushes_left self.old.unlooked }
+    {
+        if self.unlooked > 0 {
+            self.unlooked -= 1;
+            return false;
+        }
+        self.unlooked = FLUSHES_A_LOOK - 1;
+        true
+    }
+
+    /// Parts from a peer whose connection is shut down for reads: it is sent the end, and what it sent is passed over. A close
+    /// behind unread bytes would reset the connection, and its last answers might be lost.
+    pub(crate) fn part(&self) {
+        let mut stream = self.stream;
+        let _ = stream.shutdown(Shutdown::Write);
+        let mut piece = [0; 4096];
+        for _ in 0..PASSED {
+            match stream.read(&mut piece) {
+                Ok(taken) if taken > 0 => {}
+                _ => return,
+            }
+        }
+    }
+}
+
+impl Read for Peer<'_> {
+    fn read(&mut self, buf: &mut [u8]) -> io::Result<usize>
+        ensures bound { ReadsAtMost result buf.new }
+        ensures bytes { ReadConsumes None None result buf.new }
+        // A read changes nothing of when the next look is.
+        ensures looks { self.new.unlooked ≡ self.old.unlooked }
+    {
+        let mut stream = self.stream;
+        if !self.is_last.load(Ordering::SeqCst) {
+            let taken = stream.read(buf)?;
+            // One that waits when sessions are to end takes nothing: the connection is shut down.
+            if taken > 0 || !self.is_last.load(Ordering::SeqCst) {
+                return Ok(taken);
+            }
+        }
+        Err(io::Error::from(io::ErrorKind::ConnectionAborted))
+    }
+}
+
+impl Write for Peer<'_> {
+    fn write(&mut self, buf: &[u8]) -> io::Result<usize>
+        ensures bound { WritesAtMost result buf.now }
+        ensures bytes { WriteAppends None None result buf.now }
+        // The first flush behind it takes a look.
+        ensures looks { self.new.unlooked ≡ 0 }
+    {
+        self.unlooked = 0;
+        let mut stream = self.stream;
+        stream.write(buf)
+    }
+
+    fn flush(&mut self) -> io::Result<()>
+        ensures bytes { Keeps None None }
+        ensures looks { OnOk result (self.new.unlooked ≡ flushes_left self.old.unlooked) }
+    {
+        if self.is_cut.load(Ordering::SeqCst) {
+            return Err(io::Error::from(io::ErrorKind::ConnectionAborted));
+        }
+        if !self.is_look() {
+            return Ok(());
+        }
+        match self.stream.take_error() {
+            Ok(None) => Ok(()),
+            Ok(Some(error)) => Err(error),
+            Err(error) => Err(error),
+        }
+    }
+}

@@ -1,0 +1,348 @@
+//! A server's connections: those that it serves, and what those that ended left.
+ghost use Rattle.std.specs.Prelude.{◌≡◌, false, true, is_none, IfOk, IfSome, IsTrue};
+ghost use Rattle.std.specs.Arc.{arc_value};
+ghost use Rattle.server_sessions.specs.declared.served.Change.TheVariants.{Begun, Ended, Failed, GivenUp};
+ghost use Rattle.std.specs.IoError.{raw_os_error};
+ghost use Rattle.server_sessions.specs.Passing.{is_passing};
+ghost use Rattle.server_sessions.specs.Ports.{answers_of, listener_of, most_of, options_of, stays_of};
+
+use crate::answer_counts::AnswerCounts;
+use crate::listener::{Accept, passes};
+use crate::peer::Peer;
+use crate::served::{Connections, Left, Receipt, ServedConnections};
+use crate::session_options::SessionOptions;
+use hub::Transcript;
+use std::alloc::{AllocError, Global};
+use std::io;
+use std::net::{Shutdown, TcpStream};
+use std::sync::atomic::{AtomicBool, Ordering};
+use std::sync::{Arc, Condvar, CondvarTimeouts, Mutex, Wait};
+use std::time::{Clock, Duration};
+
+/// After how many milliseconds an `accept` that failed is tried again, where no session has ended before.
+const MOMENT: u64 = 50;
+
+/// How many seconds a session has to write its answers, once it is to end.
+const GRACE: u64 = 5;
+
+/// A server: where its connections come from, and those that it serves. Any thread may hold a `&` to it.
+#[derive(Drop)]
+pub struct Server<L> {
+    alloc: Global,
+    listener: L,
+    /// How many connections it serves at a time.
+    sessions: u32,
+    stays: bool,
+    options: SessionOptions,
+    answers: AnswerCounts,
+    served: Mutex<ServedConnections>,
+    changed: Condvar,
+    /// Whether no more is accepted or read.
+    is_ending: AtomicBool,
+    /// Whether no more lines are answered.
+    is_cut: AtomicBool,
+}
+
+impl<L> Server<L> {
+    /// A server of as many connections as these, and then no more. Memory for their places and their transcripts is asked
+    /// for now.
+    pub fn counted(alloc: Global, listener: L, sessions: u32) -> Result<Server<L>, AllocError>
+    where
+        L: Drop,
+        ensures listener { IfOk result (λ server. listener_of server ≡ listener) }
+        ensures most { IfOk result (λ server. most_of server ≡ sessions) }
+        ensures stays { IfOk result (λ server. stays_of server ≡ false) }
+    {
+        let transcripts = Vec::with_capacity(alloc, sessions as usize)?;
+        Server::of(alloc, listener, sessions, Some(sessions), transcripts)
+    }
+
+    /// A server of all connections that come until it is ended, as many as these at a time. Memory for their places is asked
+    /// for now, and for transcripts as they come.
+    pub fn staying(alloc: Global, listener: L, sessions: u32) -> Result<Server<L>, AllocError>
+    where
+        L: Drop,
+        ensures listener { IfOk result (λ server. listener_of server ≡ listener) }
+        ensures most { IfOk result (λ server. most_of server ≡ sessions) }
+        ensures stays { IfOk result (λ server. stays_of server ≡ true) }
+    {
+        Server::of(alloc, listener, sessions, None, Vec::new(alloc))
+    }
+
+    fn of(
+        alloc: Global,
+        listener: L,
+        sessions: u32,
+        left: Option<u32>,
+        transcripts: Vec<Transcript>,
+    ) -> Result<Server<L>, AllocError>
+    where
+        L: Drop,
+        ensures listener { IfOk result (λ server. listener_of server ≡ listener) }
+        ensures most { IfOk result (λ server. most_of server ≡ sessions) }
+        ensures stays { IfOk result (λ server. stays_of server ≡ is_none left) }
+    {
+        let stays = left.is_none();
+        let served = ServedConnections::new(alloc, sessions, left, transcripts)?;
+        let answers = AnswerCounts::new(alloc)?;
+        Ok(Server {
+            alloc,
+            listener,
+            sessions,
+            stays,
+            options: SessionOptions {
+                strict: false,
+                newest: false,
+            },
+            answers,
+            served: Mutex::new(served),
+            changed: Condvar::new(),
+            is_ending: AtomicBool::new(false),
+            is_cut: AtomicBool::new(false),
+        })
+    }
+
+    /// The same server, whose sessions have these options. Else they have none: they are not strict, and no put reads first.
+    pub fn with_options(self, options: SessionOptions) -> Server<L>
+        ensures listener { listener_of result ≡ listener_of self }
+        ensures connections { (most_of result ≡ most_of self) × (stays_of result ≡ stays_of self) }
+        ensures options { options_of result ≡ options }
+    {
+        let mut server = self;
+        server.options = options;
+        server
+    }
+
+    /// What it left, once all its sessions have ended.
+    pub fn left(self) -> Left
+    where
+        L: Drop,
+    {
+        let Server {
+            alloc: _,
+            listener: _,
+            sessions: _,
+            stays: _,
+            options: _,
+            answers: _,
+            served,
+            changed: _,
+            is_ending: _,
+            is_cut: _,
+        } = self;
+        served.into_inner().leave()
+    }
+
+    /// Where its connections come from.
+    pub fn listener(&self) -> &L
+        ensures { result.now ≡ listener_of self.now }
+    {
+        &self.listener
+    }
+
+    /// Whether its connections are not counted, so that it stays until it is asked to end.
+    pub(crate) fn stays(&self) -> bool
+        ensures { result ≡ stays_of self.now }
+    {
+        self.stays
+    }
+
+    /// How the lines of its sessions are answered.
+    pub(crate) fn options(&self) -> SessionOptions
+        ensures { result ≡ options_of self.now }
+    {
+        self.options
+    }
+
+    /// How many lines its sessions answered by refusals and by restarts.
+    pub fn answers(&self) -> &AnswerCounts
+        ensures { result.now ≡ answers_of self.now }
+    {
+        &self.answers
+    }
+
+    /// The peer of a connection that it serves.
+    pub(crate) fn peer<'s>(&'s self, stream: &'s TcpStream) -> Peer<'s>
+        ensures stream { result.stream.now ≡ stream.now }
+        ensures looks { result.unlooked ≡ 0 }
+    {
+        Peer {
+            stream,
+            is_last: &self.is_ending,
+            is_cut: &self.is_cut,
+            unlooked: 0,
+        }
+    }
+
+    /// How many connections it has.
+    pub fn connections<R: Wait>(&self, rt: &R) -> Connections
+        ensures { result.most ≡ most_of self.now }
+    {
+        let (open, begun) = self.served.lock(rt).counts();
+        Connections {
+            open,
+            most: self.sessions as usize,
+            begun,
+        }
+    }
+
+    /// Notes that a device failed: the program reports so at its end.
+    pub(crate) fn fail<R: Wait>(&self, rt: &R) -> Receipt
+        ensures { result.change ≡ Failed }
+    {
+        self.served.lock(rt).fail()
+    }
+
+    /// The connection at this place is served no longer, and left this transcript, if any.
+    pub(crate) fn leave<R: Wait>(
+        &self,
+        rt: &R,
+        place: usize,
+        transcript: Option<Transcript>,
+    ) -> Receipt
+        ensures { result.change ≡ Ended place }
+    {
+        let ended = self.served.lock(rt).end(place, transcript);
+        self.changed.notify_all();
+        ended
+    }
+
+    /// The connection at this place can't be served, since no thread could be started.
+    pub(crate) fn give_up<R: Wait>(&self, rt: &R, place: usize) -> Receipt
+        ensures { result.change ≡ GivenUp place }
+    {
+        let given_up = self.served.lock(rt).give_up(place);
+        self.changed.notify_all();
+        given_up
+    }
+
+    /// Whether it is to end.
+    pub(crate) fn is_ending(&self) -> bool {
+        self.is_ending.load(Ordering::SeqCst)
+    }
+
+    /// Waits for a place that is free. None where no more connections are to be accepted.
+    fn free_place<R: Wait>(&self, rt: &R) -> Option<usize> {
+        let served = self.changed.wait_while(rt, self.served.lock(rt), |served| {
+            served.waits() && !self.is_ending()
+        });
+        if self.is_ending() {
+            return None;
+        }
+        served.free_place()
+    }
+
+    /// Gives a connection this place. None where it is to end by now, and where it found no memory: then it is closed, and the
+    /// program reports so at its end.
+    fn enter<R: Wait>(
+        &self,
+        rt: &R,
+        place: usize,
+        stream: TcpStream,
+    ) -> Option<(Arc<TcpStream>, Receipt)>
+        ensures stream { IfSome result (λ entered. arc_value entered.0 ≡ stream) }
+        ensures begun { IfSome result (λ entered. entered.1.change ≡ Begun place) }
+    {
+        let Ok((stream, same)) = shared(self.alloc, stream) else {
+            self.served.lock(rt).refuse();
+            return None;
+        };
+        let mut served = self.served.lock(rt);
+        if self.is_ending() {
+            return None;
+        }
+        let begun = served.begin(place, same);
+        Some((stream, begun))
+    }
+}
+
+/// A connection, as its thread and the server hold it.
+fn shared(alloc: Global, stream: TcpStream) -> Result<(Arc<TcpStream>, Arc<TcpStream>), AllocError>
+    ensures { IfOk result (λ both. (arc_value both.0 ≡ stream) × (arc_value both.1 ≡ stream)) }
+{
+    let stream = Arc::new(alloc, stream)?;
+    let same = Arc::try_clone(&stream)?;
+    Ok((stream, same))
+}
+
+impl<L: Accept> Server<L> {
+    /// The next connection, the place that it has, and the receipt that it began there. None where no more are accepted. An
+    /// `accept` that failed is made again once a session has ended or a moment has passed, where its error passes; one that does
+    /// not pass ends the server.
+    pub(crate) fn next<R: Wait + Clock>(&self, rt: &R) -> Option<(usize, Arc<TcpStream>, Receipt)>
+        ensures given { IfSome result (λ next. L.has_given (listener_of self.now) (arc_value next.1)) }
+        ensures begun { IfSome result (λ next. next.2.change ≡ Begun next.0) }
+    {
+        for _ in rt.forever() {
+            let place = self.free_place(rt)?;
+            match self.listener.accept() {
+                Ok(stream) => {
+                    if let Some((stream, begun)) = self.enter(rt, place, stream) {
+                        return Some((place, stream, begun));
+                    }
+                }
+                Err(error) => {
+                    if !self.goes_on_after(rt, &error) {
+                        return None;
+                    }
+                }
+            }
+        }
+        unreachable!()
+    }
+
+    /// Whether it goes on after an `accept` that failed: where the error passes, once a session has ended or a moment has passed.
+    /// An error that does not pass ends it. Either is noted, unless the `accept` failed since the server is to end.
+    fn goes_on_after<R: Wait + Clock>(&self, rt: &R, error: &io::Error) -> bool
+        ensures { IsTrue result → IsTrue (is_passing (raw_os_error error.now)) }
+    {
+        if self.is_ending() {
+            return false;
+        }
+        let _failed = self.fail(rt);
+        if !passes(error) {
+            self.end(rt);
+            return false;
+        }
+        let served = self.served.lock(rt);
+        let _ = self
+            .changed
+            .wait_timeout(rt, served, Duration::from_millis(MOMENT));
+        true
+    }
+
+    /// Ends it: no more connections are accepted, and each session ends at its next read.
+    pub(crate) fn end<R: Wait>(&self, rt: &R)
+        ensures { L.is_closed (listener_of self.now) }
+    {
+        {
+            let _served = self.served.lock(rt);
+            self.is_ending.store(true, Ordering::SeqCst);
+        }
+        self.changed.notify_all();
+        self.listener.close();
+    }
+
+    /// Closes the listener. Where the server is to end, the connections are shut down, so that each session ends at its next
+    /// read. One that has not ended after some seconds, since its peer takes nothing or its lines take long, answers no more
+    /// lines.
+    pub(crate) fn close<R: Wait + Clock>(&self, rt: &R)
+        ensures { L.is_closed (listener_of self.now) }
+    {
+        self.listener.close();
+        if !self.is_ending() {
+            return;
+        }
+        let _cut = self.served.lock(rt).shut(Shutdown::Read);
+        let served = self.served.lock(rt);
+        let (served, _) = self.changed.wait_timeout_while(
+            rt,
+            served,
+            Duration::from_secs(GRACE),
+            |served| !served.is_empty(),
+        );
+        drop(served);
+        self.is_cut.store(true, Ordering::SeqCst);
+        let _cut = self.served.lock(rt).shut(Shutdown::Both);
+    }
+}

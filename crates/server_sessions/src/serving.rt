@@ -1,0 +1,156 @@
+//! The connections of a server, each served in a thread of its own.
+ghost use Rattle.std.specs.Prelude.{◌≡◌, false, IsTrue};
+ghost use Rattle.std.specs.Io.KnownBytes.{IsAtEnd};
+ghost use Rattle.server_sessions.specs.declared.served.Change.TheVariants.{Ended};
+ghost use Rattle.server_sessions.specs.Ports.{listener_of, stays_of};
+
+use crate::line_session::run_session_as;
+use crate::listener::Accept;
+use crate::served::Receipt;
+use crate::server::Server;
+use hub::{Gate, Hub};
+use line_protocol::Name;
+use std::alloc::Global;
+use std::io::{ErrorKind, Read};
+use std::net::TcpStream;
+use std::sync::{Arc, Wait};
+use std::thread;
+use std::thread::Threads;
+use std::time::Clock;
+
+/// The gate at which nobody is watched or held.
+#[derive(Clone, Copy, Drop)]
+pub struct Open;
+
+impl Gate for Open {
+    fn pass(&self, _partition: u32, _nth: u64) {}
+
+    fn inside(&self, _partition: u32, _nth: u64) {}
+}
+
+/// Serves the connections of this server, each in a thread of its own: its lines are answered as `run_session_as` answers them,
+/// by the server's options and the tenants of these names. Where the server is to stay, it ends when the input does, or can't be read; else nothing is
+/// read of it. When it returns, no connection is accepted any more, and these threads have ended. What they left the server
+/// reports.
+pub fn serve_connections<H: Threads + Wait + Clock + Sync, L: Accept + Sync, R: Read>(
+    rt: &H,
+    alloc: Global,
+    hub: &Hub<Open>,
+    names: &[Name],
+    server: &Server<L>,
+    reader: &mut R,
+)
+    // No connection is accepted any more.
+    ensures closed { L.is_closed (listener_of server.now) }
+    ensures unread { stays_of server.now ≡ false → reader.new ≡ reader.old }
+{
+    if !server.stays() {
+        return accept_all(rt, alloc, hub, names, server);
+    }
+    thread::scope(
+        thread::scope_env(),
+        rt,
+        |scope|
+            ensures { L.is_closed (listener_of server.entry.now) }
+        {
+            let started = scope.spawn(move || accept_all(rt, alloc, hub, names, server));
+            if started.is_err() || !is_read_out(rt, reader) {
+                let _failed = server.fail(rt);
+            }
+            server.end(rt);
+        },
+    );
+}
+
+// Reads the input to its end, and keeps nothing of it. Whether no read failed.
+fn is_read_out<H: Wait, R: Read>(rt: &H, reader: &mut R) -> bool
+    ensures { IsTrue result → IsAtEnd (R.remaining reader.new) }
+{
+    let mut piece = [0; 512];
+    for _ in rt.forever() {
+        match reader.read(&mut piece) {
+            Ok(0) => return true,
+            Ok(_) => {}
+            Err(error) if error.kind() == ErrorKind::Interrupted => {}
+            Err(_) => return false,
+        }
+    }
+    unreachable!()
+}
+
+// Accepts connections until the server has no more, and serves each in a thread of its own. These threads have ended when
+// it returns.
+fn accept_all<H: Threads + Wait + Clock + Sync, L: Accept + Sync>(
+    rt: &H,
+    alloc: Global,
+    hub: &Hub<Open>,
+    names: &[Name],
+    server: &Server<L>,
+)
+    ensures { L.is_closed (listener_of server.now) }
+{
+    thread::scope(
+        thread::scope_env(),
+        rt,
+        |scope|
+            ensures { L.is_closed (listener_of server.entry.now) }
+        {
+            for _ in rt.forever() {
+                let Some((place, stream, _begun)) = server.next(rt) else {
+                    break;
+                };
+                let started = scope.spawn(move || serve_connection(
+                    rt,
+                    alloc,
+                    hub,
+                    names,
+                    server,
+                    (place, stream),
+                ));
+                if started.is_err() {
+                    let _given_up = server.give_up(rt, place);
+                }
+            }
+            server.close(rt);
+        },
+    );
+}
+
+// Answers one connection's lines. Its seat has ended before the stream is closed, so that its client may connect again
+// at once.
+fn serve_connection<H: Wait, L>(
+    rt: &H,
+    alloc: Global,
+    hub: &Hub<Open>,
+    names: &[Name],
+    server: &Server<L>,
+    entered: (usize, Arc<TcpStream>),
+) -> Receipt
+    // Its place is given back.
+    ensures { result.change ≡ Ended entered.0 }
+{
+    let (place, stream) = entered;
+    // A stream that can't be told so only answers later.
+    let _ = stream.set_nodelay(true);
+    let mut reader = server.peer(&stream);
+    let mut writer = reader;
+    let options = server.options();
+    let counts = Some(server.answers());
+    let (transcript, _) = run_session_as(
+        rt,
+        alloc,
+        hub,
+        names,
+        options,
+        counts,
+        &mut reader,
+        &mut writer,
+    );
+    if server.is_ending() {
+        reader.part();
+    }
+    drop(stream);
+    // Where journals are cut, nothing is settled at the end.
+    let kept = if hub.epoch() == 0 { transcript } else { None };
+    server.leave(rt, place, kept)
+}

@@ -1,0 +1,200 @@
+//! What a scrape reads of a running server.
+ghost use Rattle.std.specs.Prelude.{◌≡◌, ◌≢◌, ◌-◌, ◌↔◌, IfOk, IsSomeAnd, IsTrue};
+ghost use Rattle.std.specs.Option.{option_map};
+ghost use Rattle.server_status.specs.Reported.{AreRowsAt, AreRowsBehind, IsRowOf};
+
+use hub::{Hub, Usage};
+use line_protocol::Name;
+use server_metrics::{ClientRow, Readings, RefusalRow, Row};
+use server_sessions::{AnswerCounts, Listener, Open, Server};
+use server_verdicts::{Known, Progress, Standing, progress_at};
+use stamps::Limits;
+use std::alloc::{AllocError, Global};
+use std::sync::Wait;
+
+/// What a status port reports of.
+#[derive(Clone, Copy)]
+pub struct Watched<'s> {
+    /// The store.
+    pub hub: &'s Hub<Open>,
+    /// The names of its tenants.
+    pub names: &'s [Name],
+    /// What serves its sessions.
+    pub server: &'s Server<Listener>,
+    /// What is known of its journals, where epochs are checked.
+    pub known: Option<&'s Known>,
+    /// When the server started, in seconds since 1970.
+    pub started: u64,
+    /// Which program it is.
+    pub version: &'static str,
+}
+
+impl<'s> Watched<'s> {
+    /// Reads all that is reported, one partition after another, each under its own lock. It takes time for each tenant at each
+    /// partition, and visits none of what they hold. It waits for no session, but where an epoch is being checked for that
+    /// check. The one error is that an allocation failed.
+    pub fn read<H: Wait>(&self, rt: &H, alloc: Global) -> Result<Readings<'s>, AllocError> {
+        let mut rows = Vec::new(alloc);
+        let mut is_whole = true;
+        for partition in 0..self.hub.parts() {
+            if !self.read_partition(rt, alloc, partition, &mut rows)? {
+                is_whole = false;
+            }
+        }
+        let connections = self.server.connections(rt);
+        Ok(Readings {
+            rows,
+            clients: self.read_clients(rt, alloc)?,
+            refusals: read_refusals(alloc, self.server.answers())?,
+            restarts: self.server.answers().restarts(),
+            open: connections.open as u64,
+            most: connections.most as u64,
+            begun: connections.begun,
+            started: self.started,
+            version: self.version,
+            is_whole,
+        })
+    }
+
+    // Puts a row of each tenant at a partition behind the rows. Says whether the partition is there: the rows are then of one
+    // moment.
+    fn read_partition<H: Wait>(
+        &self,
+        rt: &H,
+        alloc: Global,
+        partition: u32,
+        rows: &mut Vec<Row<'s>>,
+    ) -> Result<bool, AllocError>
+        ensures { IfOk result (λ is_there. IsTrue is_there → AreRowsAt self.now.hub.now.parts partition rows.old.items rows.new.items) }
+    {
+        // Before the epochs, so that no more are checked than cut.
+        let checked = self.read_checked(rt, alloc, partition)?;
+        let mut usages = Vec::new(alloc);
+        if !self.hub.status(rt, partition, &mut usages)? {
+            return Ok(false);
+        }
+        self.put_rows(partition, &usages, &checked, rows)
+    }
+
+    // How far the checks of each tenant's journal at a partition have come.
+    fn read_checked<H: Wait>(
+        &self,
+        rt: &H,
+        alloc: Global,
+        partition: u32,
+    ) -> Result<Vec<Option<Progress>>, AllocError> {
+        let mut checked = Vec::new(alloc);
+        for tenant in 0..tenants_of(self.names) {
+            let progress = match self.known {
+                Some(known) => progress_at(rt, known, partition, tenant),
+                None => None,
+            };
+            checked.push(progress)?;
+        }
+        Ok(checked)
+    }
+
+    // Puts a row of each usage behind the rows. Says whether each is of a tenant that has a name.
+    fn put_rows(
+        &self,
+        partition: u32,
+        usages: &[Usage],
+        checked: &[Option<Progress>],
+        rows: &mut Vec<Row<'s>>,
+    ) -> Result<bool, AllocError>
+        ensures { IfOk result (λ is_there. IsTrue is_there → AreRowsBehind usages.now rows.old.items rows.new.items) }
+    {
+        let limits = self.hub.limits();
+        for (tenant, usage) in usages.iter().enumerate() {
+            let (Some(name), Some(limits)) = (self.names.get(tenant), limits.get(tenant)) else {
+                return Ok(false);
+            };
+            let progress = checked.get(tenant).copied().flatten();
+            rows.push(row_of(text_of(name), partition, usage, limits, progress))?;
+        }
+        Ok(true)
+    }
+
+    // A row of each tenant's clients.
+    fn read_clients<H: Wait>(
+        &self,
+        rt: &H,
+        alloc: Global,
+    ) -> Result<Vec<ClientRow<'s>>, AllocError> {
+        let mut clients = Vec::new(alloc);
+        let limits = self.hub.limits();
+        for tenant in 0..tenants_of(self.names) {
+            let (Some(name), Some(limits)) = (
+                self.names.get(tenant as usize),
+                limits.get(tenant as usize),
+            ) else {
+                break;
+            };
+            clients.push(ClientRow {
+                tenant: text_of(name),
+                clients: self.hub.clients(rt, tenant) as u64,
+                limit: u64::from(limits.clients),
+            })?;
+        }
+        Ok(clients)
+    }
+}
+
+// How many tenants have these names.
+fn tenants_of(names: &[Name]) -> u32 {
+    u32::try_from(names.len()).unwrap_or(u32::MAX)
+}
+
+// A row of each refusal that was answered.
+fn read_refusals(alloc: Global, answers: &AnswerCounts) -> Result<Vec<RefusalRow>, AllocError> {
+    let mut refusals = Vec::new(alloc);
+    for number in 0..AnswerCounts::NUMBERS {
+        let lines = answers.refusals(number);
+        if lines > 0 {
+            refusals.push(RefusalRow { number, lines })?;
+        }
+    }
+    Ok(refusals)
+}
+
+// The row of a tenant at a partition.
+fn row_of<'s>(
+    tenant: &'s str,
+    partition: u32,
+    usage: &Usage,
+    limits: &Limits,
+    progress: Option<Progress>,
+) -> Row<'s>
+    ensures place { (result.tenant.now ≡ tenant.now) × (result.partition ≡ partition) }
+    ensures usage { IsRowOf usage.now result }
+    ensures limits { (result.items_limit ≡ limits.now.items) × (result.versions_limit ≡ limits.now.slots) × (result.marks_limit ≡ limits.now.clients) }
+    ensures checked { result.checked ≡ option_map (λ its. its.checked) progress }
+    ensures wrong { IsTrue result.is_wrong ↔ IsSomeAnd progress (λ its. its.standing ≢ Standing.Right) }
+{
+    let (checked, is_wrong) = match progress {
+        Some(its) => (Some(its.checked), its.standing != Standing::Right),
+        None => (None, false),
+    };
+    Row {
+        tenant,
+        partition,
+        items: usage.holdings.items,
+        items_limit: limits.items,
+        versions: usage.holdings.versions,
+        versions_limit: limits.slots,
+        marks: usage.holdings.marks,
+        marks_limit: limits.clients,
+        calls: usage.served,
+        cut: usage.epoch.saturating_sub(1),
+        checked,
+        is_wrong,
+    }
+}
+
+// The name as text.
+#[tactic(auto, using(crate::proofs::Names::name_is_utf8))]
+fn text_of(name: &Name) -> &str
+    ensures { result.now ≡ name.now }
+{
+    str::from_utf8(name.as_bytes()).unwrap()
+}

@@ -1,0 +1,256 @@
+//! Epochs that are checked while a store runs, by a thread for each partition.
+ghost use Rattle.std.specs.Prelude.{◌≡◌, ◌⊎◌, ◌<◌, ◌≤◌, ◌+◌, IfNone, IfOk, IfSome, OnErr, OnOk, None, Some, [], length, vec_len, vec_capacity};
+ghost use Rattle.std.specs.Arc.{arc_value};
+ghost use Rattle.server_verdicts.specs.Rows.{HavePlaces, at_place};
+ghost use Rattle.shard.specs.Journals.{WasCut};
+
+use crate::epochs::{Checked, Progress, Taken};
+use crossbeam_channel::{Receiver, Sender, bounded};
+use hub::{HubFault, Sink};
+use partition::Epoch;
+use stamps::Limits;
+use std::alloc::{AllocError, Global};
+use std::sync::{Arc, Mutex, Wait};
+use std::thread;
+use std::thread::{JoinHandle, Threads};
+
+/// How many epochs of a partition may wait for its thread, each with a copy of what its tenant held when it began.
+const MOST_WAITING: usize = 2;
+
+/// What is known of the journals of a store: for each partition that of each tenant, each with a lock of its own.
+pub type Known = Vec<Vec<Mutex<Checked>>>;
+
+/// An epoch that was cut, with its journal's partition and tenant, on its way to the thread that checks it.
+#[derive(Drop)]
+struct QueuedEpoch {
+    partition: u32,
+    tenant: u32,
+    epoch: Epoch,
+    ghost was_cut: { WasCut partition tenant epoch },
+}
+
+/// A sink that hands each epoch to the thread that checks its partition's. It waits where as many as may be are waiting there:
+/// none is passed over. Of a journal one of whose epochs could not be handed over, nothing is known any more.
+#[derive(Drop)]
+pub struct Checker<H> {
+    rt: H,
+    known: Arc<Known>,
+    queues: Vec<Sender<QueuedEpoch>>,
+}
+
+impl<H: Wait> Sink for Checker<H> {
+    fn epoch(&self, partition: u32, tenant: u32, epoch: Epoch) {
+        let Some(queue) = self.queues.get(partition as usize) else {
+            return;
+        };
+        let cut = QueuedEpoch {
+            partition,
+            tenant,
+            epoch,
+        };
+        if queue.send(&self.rt, cut).is_err()
+            && let Some(checked) = journal_of(&*self.known, partition, tenant)
+        {
+            checked.lock(&self.rt).lose();
+        }
+    }
+}
+
+/// The threads that check the epochs of a store, and what they know of its journals.
+#[derive(Drop)]
+pub struct Checking {
+    known: Arc<Known>,
+    threads: Vec<JoinHandle<()>>,
+}
+
+impl Checking {
+    /// Starts a thread for each of so many partitions of a store with tenants of these limits, before any epoch came. It fails
+    /// where memory or a thread was refused; then the threads that it started have ended.
+    pub fn start<H: Threads + Wait + Clone + Send + Drop + 'static>(
+        rt: &H,
+        alloc: Global,
+        parts: u32,
+        limits: &[Limits],
+    ) -> Result<(Checking, Checker<H>), HubFault>
+        ensures places { IfOk result (λ started. HavePlaces (arc_value started.0.known).items parts (length limits.now)) }
+        ensures shared { IfOk result (λ started. arc_value started.1.known ≡ arc_value started.0.known) }
+        ensures queues { IfOk result (λ started. vec_len started.1.queues ≡ parts) }
+        ensures threads { IfOk result (λ started. vec_len started.0.threads ≡ parts) }
+    {
+        let known = shared(alloc, unchecked(alloc, parts, limits)?)?;
+        let theirs = Arc::try_clone(&known)?;
+        let handle = rt.clone()?;
+        let mut queues = Vec::with_capacity(alloc, parts as usize)?;
+        let mut threads = Vec::with_capacity(alloc, parts as usize)?;
+        if let Err(fault) = start_all(rt, alloc, parts, &known, &mut queues, &mut threads) {
+            drop(queues);
+            let _ended = join_all(rt, threads);
+            return Err(fault);
+        }
+        let checker = Checker {
+            rt: handle,
+            known: theirs,
+            queues,
+        };
+        Ok((Checking { known, threads }, checker))
+    }
+
+    /// What is known of the journals so far, while its threads go on to check.
+    pub fn known(&self) -> &Known
+        ensures { result.now ≡ arc_value self.now.known }
+    {
+        &*self.known
+    }
+
+    /// Waits until each epoch that was handed over is checked, once the checker is dropped, and answers what is known then;
+    /// nothing where the checker is not dropped.
+    pub fn end<H: Threads>(self, rt: &H, alloc: Global) -> Known
+        ensures { (result.items ≡ []) ⊎ (result ≡ arc_value self.known) }
+    {
+        let Checking { known, threads } = self;
+        let _ended = join_all(rt, threads);
+        taken_out(alloc, known)
+    }
+}
+
+/// Starts a thread for each partition. Where it fails, the threads started so far are in `threads`.
+fn start_all<H: Threads + Wait + Clone + Send + Drop + 'static>(
+    rt: &H,
+    alloc: Global,
+    parts: u32,
+    known: &Arc<Known>,
+    queues: &mut Vec<Sender<QueuedEpoch>>,
+    threads: &mut Vec<JoinHandle<()>>,
+) -> Result<(), HubFault>
+    requires queues { vec_len queues.old + parts ≤ vec_capacity queues.old }
+    requires threads { vec_len threads.old + parts ≤ vec_capacity threads.old }
+    ensures queues { OnOk result (vec_len queues.new ≡ vec_len queues.old + parts) }
+    ensures threads { OnOk result (vec_len threads.new ≡ vec_len threads.old + parts) }
+{
+    for _partition in 0..parts {
+        start_one(rt, alloc, known, queues, threads)?;
+    }
+    Ok(())
+}
+
+/// Starts the thread of one more partition, with its queue. Where it fails, neither is there.
+fn start_one<H: Threads + Wait + Clone + Send + Drop + 'static>(
+    rt: &H,
+    alloc: Global,
+    known: &Arc<Known>,
+    queues: &mut Vec<Sender<QueuedEpoch>>,
+    threads: &mut Vec<JoinHandle<()>>,
+) -> Result<(), HubFault>
+    requires queues { vec_len queues.old < vec_capacity queues.old }
+    requires threads { vec_len threads.old < vec_capacity threads.old }
+    ensures queues { OnOk result (vec_len queues.new ≡ vec_len queues.old + 1) }
+    ensures threads { OnOk result (vec_len threads.new ≡ vec_len threads.old + 1) }
+    ensures failed { OnErr result ((queues.new ≡ queues.old) × (threads.new ≡ threads.old)) }
+    ensures room { (vec_capacity queues.new ≡ vec_capacity queues.old) × (vec_capacity threads.new ≡ vec_capacity threads.old) }
+{
+    let (queue, cuts) = bounded(alloc, MOST_WAITING)?;
+    let handle = rt.clone()?;
+    let known = Arc::try_clone(known)?;
+    let Ok(thread) = thread::spawn(rt, move || check_all(&handle, alloc, &cuts, &*known)) else {
+        return Err(HubFault::Thread);
+    };
+    queues.push_reserved(queue);
+    threads.push_reserved(thread);
+    Ok(())
+}
+
+/// Waits until each of these threads has ended, and answers how many have.
+fn join_all<H: Threads>(rt: &H, threads: Vec<JoinHandle<()>>) -> usize
+    ensures { result ≡ vec_len threads }
+{
+    let mut ended = 0;
+    for thread in threads {
+        thread.join(rt);
+        ended += 1;
+    }
+    ended
+}
+
+/// Checks each epoch that comes, in the order in which they come, until no end sends any more and none is left.
+fn check_all<H: Wait>(rt: &H, alloc: Global, cuts: &Receiver<QueuedEpoch>, known: &Known) {
+    for _ in rt.forever() {
+        let Ok(cut) = cuts.recv(rt) else {
+            break;
+        };
+        let _taken = check_one(rt, alloc, cut, known);
+    }
+}
+
+/// Has what is known of the epoch's journal take it, and answers the receipt; none where there is no such journal.
+fn check_one<H: Wait>(rt: &H, alloc: Global, cut: QueuedEpoch, known: &Known) -> Option<Taken>
+    ensures taken { IfSome result (λ taken. taken.number ≡ cut.epoch.number) }
+    ensures none { IfNone result (at_place known.now.items cut.partition cut.tenant ≡ None) }
+{
+    let QueuedEpoch {
+        partition,
+        tenant,
+        epoch,
+    } = cut;
+    let checked = journal_of(known, partition, tenant)?;
+    let taken = checked.lock(rt).take(alloc, epoch);
+    Some(taken)
+}
+
+/// How far the checks of a tenant's journal at a partition have come. It waits where one of its epochs is being checked. `None`
+/// where there is no such journal.
+pub fn progress_at<R: Wait>(rt: &R, known: &Known, partition: u32, tenant: u32) -> Option<Progress>
+    ensures { IfNone result (at_place known.now.items partition tenant ≡ None) }
+{
+    let checked = journal_of(known, partition, tenant)?;
+    Some(checked.lock(rt).progress())
+}
+
+/// What is known of a tenant's journal at a partition, if they are there.
+fn journal_of(known: &Known, partition: u32, tenant: u32) -> Option<&Mutex<Checked>>
+    ensures there { IfSome result (λ checked. at_place known.now.items partition tenant ≡ Some checked.now) }
+    ensures not_there { IfNone result (at_place known.now.items partition tenant ≡ None) }
+{
+    known.get(partition as usize)?.get(tenant as usize)
+}
+
+/// What is known of the journals of a store of so many partitions and tenants of these limits before any epoch came.
+fn unchecked(alloc: Global, parts: u32, limits: &[Limits]) -> Result<Known, AllocError>
+    ensures { IfOk result (λ known. HavePlaces known.items parts (length limits.now)) }
+{
+    let mut known = Vec::with_capacity(alloc, parts as usize)?;
+    for _row in 0..parts {
+        known.push(unchecked_row(alloc, limits)?)?;
+    }
+    Ok(known)
+}
+
+/// What is known of the journals of a partition before any epoch came, of a tenant of each of these limits.
+fn unchecked_row(alloc: Global, limits: &[Limits]) -> Result<Vec<Mutex<Checked>>, AllocError>
+    ensures { IfOk result (λ row. vec_len row ≡ length limits.now) }
+{
+    let mut row = Vec::with_capacity(alloc, limits.len())?;
+    for of_tenant in limits {
+        row.push(Mutex::new(Checked::new(alloc, of_tenant)))?;
+    }
+    Ok(row)
+}
+
+/// What is known, for several threads to share.
+fn shared(alloc: Global, known: Known) -> Result<Arc<Known>, AllocError>
+    ensures { IfOk result (λ shared. arc_value shared ≡ known) }
+{
+    match Arc::new(alloc, known) {
+        Ok(known) => Ok(known),
+        Err(_) => Err(AllocError),
+    }
+}
+
+/// What is known, where nobody shares it any more; else nothing.
+fn taken_out(alloc: Global, known: Arc<Known>) -> Known
+    ensures { (result.items ≡ []) ⊎ (result ≡ arc_value known) }
+{
+    match Arc::into_inner(known) {
+        Some(known) => known,
+        None => Vec::new(alloc),
+    }
+}

@@ -1,6 +1,0 @@
-use Rattle.std.proofs.Common.{◌≡◌, vec_len}
-use Rattle.sessions.specs.Places.{AreFree}
-use Rattle.sessions.proofs.served.free_places.Given as goal
-
-abbrev pub invariant-loop-place : goal.invariant-loop-place
-invariant-loop-place l = (vec_len l.places ≡ l._place) × AreFree l.places.items

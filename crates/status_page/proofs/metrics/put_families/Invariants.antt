@@ -1,8 +1,0 @@
-use Rattle.std.proofs.Common.{◌≡◌, ◌++◌, take}
-use Rattle.std.specs.Prelude.{string_bytes}
-use Rattle.status_page.specs.MetricsText.{families_text}
-use Rattle.status_page.proofs.metrics.put_families.Given as goal
-
--- those so far
-abbrev pub invariant-loop-family : goal.invariant-loop-family
-invariant-loop-family l = string_bytes l.text ≡ string_bytes l.fn.text ++ families_text l.rows (take l.family-index l.families)

@@ -1,8 +1,0 @@
-use Rattle.std.proofs.Common.{◌≡◌, ◌++◌, take}
-use Rattle.std.specs.Prelude.{string_bytes}
-use Rattle.status_page.specs.MetricsText.{rows_text}
-use Rattle.status_page.proofs.metrics.put_rows.Given as goal
-
--- those so far
-abbrev pub invariant-loop-row : goal.invariant-loop-row
-invariant-loop-row l = string_bytes l.text ≡ string_bytes l.fn.text ++ rows_text l.family (take l.row-index l.rows)
