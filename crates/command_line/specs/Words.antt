@@ -111,7 +111,7 @@ abbrev pub newest_rule : Rule
 newest_rule = record (new_rule (codes "newest")) { long = Some (codes "newest"); action = Some SetTrue }
 
 -- `serve [--parts N] [--slots N] [--items N] [--clients N] [--keep N] [--port N] [--sessions N] [--stay] [--strict]
--- [--newest] [--queue N] [--every N] [--epoch N] TENANT..`
+-- [--newest] [--queue N] [--every N] [--epoch N] [--status N] TENANT..`
 abbrev pub serve_command : App
 serve_command = with_rules (new_app (codes "serve"))
     (number_rule (codes "parts") (codes "2") (pos max_parts)
@@ -126,7 +126,8 @@ serve_command = with_rules (new_app (codes "serve"))
     ∷ newest_rule
     ∷ number_rule (codes "queue") (codes "64") (pos 1024)
     ∷ number_rule (codes "every") (codes "64") (pos 65536)
-    ∷ ranged_rule (codes "epoch") (codes "0") (pos 0) (pos 1048576) ∷ tenants_rule ∷ [])
+    ∷ ranged_rule (codes "epoch") (codes "0") (pos 0) (pos 1048576)
+    ∷ ranged_rule (codes "status") (codes "0") (pos 0) (pos 65535) ∷ tenants_rule ∷ [])
 
 -- `load [--parts N] [--slots N] [--items N] [--clients N] [--keep N] [--seats N] [--rounds N] [--seed N] [--keys N]
 -- [--queue N] [--every N] [--epoch N] TENANT..`
@@ -210,6 +211,7 @@ pub record GivesOptions (rows : List Row) (options : ServerOptions) : Type 0 whe
   pub of_queue : IsOptionNumber (codes "queue") rows options.queue
   pub of_every : IsOptionNumber (codes "every") rows options.every
   pub of_epoch : IsOptionNumber (codes "epoch") rows options.epoch
+  pub of_status : IsOptionNumber (codes "status") rows options.status
 
 -- how many seats a load has, what they do, and how its store is paced
 pub record GivesMix (rows : List Row) (options : LoadOptions) : Type 0 where

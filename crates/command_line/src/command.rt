@@ -6,14 +6,14 @@ ghost use Rattle.command_line.specs.Words.{cell_command, load_command, mix_rules
 
 use crate::options::{
     CLIENTS, EPOCH, EVERY, ITEMS, KEEP, KEYS, NEWEST, NumberOption, PARTS, PORT, QUEUE, ROUNDS,
-    SEATS, SEED, SESSIONS, SLOTS, STAY, STRICT,
+    SEATS, SEED, SESSIONS, SLOTS, STATUS, STAY, STRICT,
 };
 use clap::builder::ValueParser;
 use clap::{Arg, ArgAction, Command};
 use std::alloc::{AllocError, Global};
 
 /// Which program it is, as `ramp --version` reports.
-const VERSION: &str = "0.1.0";
+pub const VERSION: &str = "0.1.0";
 
 const ABOUT: &str = "A key-value store of many tenants with read atomic transactions.";
 
@@ -84,6 +84,9 @@ With --epoch it is instead:
   checked TENANT yes                each reply was the one after the calls before it, at each partition, or
   checked TENANT no                 one was not, and the status is 1
 
+With --status N, GET http://127.0.0.1:N/metrics has numbers for each tenant and partition, in the text format
+of Prometheus. GET http://127.0.0.1:N/health answers 200, or 503 where an epoch was not right.
+
 Example, and then, in another terminal, nc 127.0.0.1 7000:
   ramp serve --port 7000 --sessions 2 t
 or, until Ctrl-D is typed:
@@ -153,7 +156,9 @@ fn serve_command<'a>(alloc: Global) -> Result<Command<'a>, AllocError>
         .arg(stay(alloc))?
         .arg(strict(alloc))?
         .arg(newest(alloc))?;
-    with_pace(alloc, serve)?.arg(tenants(alloc))
+    with_pace(alloc, serve)?
+        .arg(number(alloc, &STATUS))?
+        .arg(tenants(alloc))
 }
 
 fn load_command<'a>(alloc: Global) -> Result<Command<'a>, AllocError>

@@ -123,6 +123,15 @@ pub(crate) const EPOCH: NumberOption = NumberOption {
     help: "After how many events a journal is cut, 0 to 1048576; 0 is never",
 };
 
+/// The port that reports how a server stands.
+pub(crate) const STATUS: NumberOption = NumberOption {
+    name: "status",
+    default: "0",
+    least: 0,
+    most: 65535,
+    help: "The port of 127.0.0.1 that has metrics and health over HTTP, 0 to 65535; 0 is none",
+};
+
 /// How many seats each tenant of a load has.
 pub(crate) const SEATS: NumberOption = NumberOption {
     name: "seats",
@@ -296,6 +305,7 @@ fn read_server(serve: &ArgMatches<'_>) -> Option<ServerOptions>
     let queue = read_within(serve, &QUEUE)?;
     let every = read_within(serve, &EVERY)?;
     let epoch = read_within(serve, &EPOCH)?;
+    let status = read_within(serve, &STATUS)?;
     Some(ServerOptions {
         port,
         sessions,
@@ -305,6 +315,7 @@ fn read_server(serve: &ArgMatches<'_>) -> Option<ServerOptions>
         queue,
         every,
         epoch,
+        status,
     })
 }
 

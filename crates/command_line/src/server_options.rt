@@ -20,6 +20,8 @@ pub struct ServerOptions {
     pub every: u32,
     /// After how many events of a journal it is cut, 0 to 1048576; 0 is never.
     pub epoch: u32,
+    /// The port of 127.0.0.1 that reports over HTTP how the server stands, 0 to 65535; 0 is none.
+    pub status: u32,
     pub ghost is_port: { port < 2 ^ 16 },
     pub ghost some_sessions: { 0 < sessions },
     pub ghost few_sessions: { sessions ≤ 1024 },
@@ -28,4 +30,5 @@ pub struct ServerOptions {
     pub ghost some_calls: { 0 < every },
     pub ghost few_calls: { every ≤ 65536 },
     pub ghost few_events: { epoch ≤ 1048576 },
+    pub ghost few_ports: { status ≤ 65535 },
 }

@@ -1,23 +1,31 @@
 //! A server: sessions over TCP, and the verdicts over the store that they left.
-ghost use Rattle.std.specs.Prelude.{◌≡◌, ◌<◌, ◌⊎◌, cond, Ok, Err, IfOk, IfErr, OnOk, string_bytes};
+ghost use Rattle.std.specs.Prelude.{◌≡◌, ◌<◌, ◌≤◌, ◌⊎◌, cond, Ok, Err, IfOk, IfErr, OnOk, string_bytes};
 ghost use Rattle.std.specs.Io.KnownBytes.{Appends};
 ghost use Rattle.line_runs.specs.declared.fault.ProgramFault.TheVariants.{Device, OutOfMemory as NoMemory};
 ghost use Rattle.hub.specs.Hubs.{config_view};
 ghost use Rattle.workload.specs.Serving.{HasListened, HasServed, IsFaultBefore, TellsPortFirst, TellsPortFor, greater_fault, listening_line};
 ghost use Rattle.server_sessions.specs.Ports.{listener_of, options_of, port_of};
 
-use command_line::ServerOptions;
+use command_line::{ServerOptions, VERSION};
 use hub::{Config, Hub, HubFault, Sink};
 use line_protocol::Name;
 use line_runs::{ProgramFault, write_text};
 use server_sessions::{Left, Listener, Open, Server, SessionOptions, serve_connections};
-use server_verdicts::{Checking, endings_of, tell_checks, tell_verdicts};
+use server_status::{StatusPort, Watched, serve_and_report};
+use server_verdicts::{Checking, Known, endings_of, tell_checks, tell_verdicts};
 use std::alloc::{AllocError, Global};
 use std::io::{Read, Write};
 use std::net::{Net, TcpListener, TcpStream};
 use std::sync::Wait;
 use std::thread::Threads;
-use std::time::Clock;
+use std::time::{Clock, SystemTime, UNIX_EPOCH};
+
+/// The port that reports how a server stands, if it has one, and what is known of the journals, where epochs are checked.
+#[derive(Clone, Copy)]
+struct Reporting<'s> {
+    port: Option<&'s StatusPort>,
+    known: Option<&'s Known>,
+}
 
 /// Opens a store and listens at the port of these options. Writes `listening` and the port, serves sessions, each in a
 /// thread of its own, closes the store, and writes the lines of `tell_verdicts`. The tenants go by these names, in the
@@ -30,7 +38,9 @@ use std::time::Clock;
 /// while the store goes on; the partition's worker waits where two are left to be checked. At the end the lines are those of
 /// `tell_checks`, over these epochs and what is left.
 ///
-/// A connection's fault ends that connection alone. It is `Device` where the port can't be listened at or a line can't be
+/// Where the options have a status port, that reports meanwhile how the server stands.
+///
+/// A connection's fault ends that connection alone. It is `Device` where a port can't be listened at or a line can't be
 /// written; and also, but at the end and after these lines, where a connection could not be accepted, a thread could not be
 /// started or the input could not be read. It is `OutOfMemory` where the store, a transcript, `settle` or a check
 /// found no memory, and after these lines where a connection did; and `Settle` where a tenant is not settled, or not right.
@@ -63,10 +73,28 @@ pub fn run_server<
         return Err(ProgramFault::Device);
     };
     let server = server_of(alloc, listener, options)?;
+    let status = bind_status(rt, options.status)?;
     if config.epoch == 0 {
-        serve_and_settle(rt, alloc, config, names, server, reader, writer)
+        serve_and_settle(rt, alloc, config, names, server, status, reader, writer)
     } else {
-        serve_and_check(rt, alloc, config, names, server, reader, writer)
+        serve_and_check(rt, alloc, config, names, server, status, reader, writer)
+    }
+}
+
+// The port that reports how the server stands, where one is asked for.
+fn bind_status<H: Net<Listener = TcpListener, Stream = TcpStream>>(
+    rt: &H,
+    port: u32,
+) -> Result<Option<StatusPort>, ProgramFault>
+    requires { port ≤ 65535 }
+    ensures { IfErr result (λ fault. (fault ≡ NoMemory) ⊎ (fault ≡ Device)) }
+{
+    if port == 0 {
+        return Ok(None);
+    }
+    match Listener::bind(rt, port as u16) {
+        Ok(listener) => Ok(Some(StatusPort::new(listener))),
+        Err(_) => Err(ProgramFault::Device),
     }
 }
 
@@ -112,6 +140,7 @@ fn serve_and_settle<
     config: Config,
     names: &[Name],
     server: Server<Listener>,
+    status: Option<StatusPort>,
     reader: &mut R,
     writer: &mut W,
 ) -> Result<(), ProgramFault>
@@ -120,7 +149,11 @@ fn serve_and_settle<
     ensures port { TellsPortFirst (port_of (listener_of server)) (W.contents writer.old) (W.contents writer.new) result }
 {
     let hub = open_hub(rt, alloc, config, ())?;
-    let told = serve_all(rt, alloc, &hub, names, &server, reader, writer);
+    let reporting = Reporting {
+        port: status.as_ref(),
+        known: None,
+    };
+    let told = serve_all(rt, alloc, &hub, names, &server, reporting, reader, writer);
     let left = server.left();
     let before = fault_of(&left);
     let closed = hub.close(rt, left.transcripts);
@@ -143,6 +176,7 @@ fn serve_and_check<
     config: Config,
     names: &[Name],
     server: Server<Listener>,
+    status: Option<StatusPort>,
     reader: &mut R,
     writer: &mut W,
 ) -> Result<(), ProgramFault>
@@ -151,7 +185,11 @@ fn serve_and_check<
     ensures port { TellsPortFirst (port_of (listener_of server)) (W.contents writer.old) (W.contents writer.new) result }
 {
     let (hub, checking) = open_checked(rt, alloc, config)?;
-    let told = serve_all(rt, alloc, &hub, names, &server, reader, writer);
+    let reporting = Reporting {
+        port: status.as_ref(),
+        known: Some(checking.known()),
+    };
+    let told = serve_all(rt, alloc, &hub, names, &server, reporting, reader, writer);
     let left = server.left();
     let before = fault_of(&left);
     let closed = hub.close(rt, left.transcripts);
@@ -236,13 +274,14 @@ pub(crate) fn open_hub<
     }
 }
 
-// Reports the port, and serves the connections.
+// Reports the port, and serves the connections, and the status port beside them.
 fn serve_all<H: Threads + Wait + Clock + Sync, R: Read, W: Write>(
     rt: &H,
     alloc: Global,
     hub: &Hub<Open>,
     names: &[Name],
     server: &Server<Listener>,
+    reporting: Reporting<'_>,
     reader: &mut R,
     writer: &mut W,
 ) -> Result<(), ProgramFault>
@@ -250,8 +289,31 @@ fn serve_all<H: Threads + Wait + Clock + Sync, R: Read, W: Write>(
     ensures port { OnOk result (Appends (W.contents writer.old) (W.contents writer.new) (listening_line (port_of (listener_of server.now)))) }
 {
     tell_port(alloc, server.listener().port(), writer)?;
-    serve_connections(rt, alloc, hub, names, server, reader);
+    let Some(port) = reporting.port else {
+        serve_connections(rt, alloc, hub, names, server, reader);
+        return Ok(());
+    };
+    let watched = Watched {
+        hub,
+        names,
+        server,
+        known: reporting.known,
+        started: seconds_now(rt),
+        version: VERSION,
+    };
+    serve_and_report(rt, alloc, &watched, port, reader);
     Ok(())
+}
+
+// The seconds since 1970, or 0 where the clock can't be read.
+fn seconds_now<H: Clock>(rt: &H) -> u64 {
+    let Ok(now) = SystemTime::now(rt) else {
+        return 0;
+    };
+    match now.duration_since(UNIX_EPOCH) {
+        Ok(since) => since.as_secs(),
+        Err(_) => 0,
+    }
 }
 
 // Whoever waits for the port gets it at once.

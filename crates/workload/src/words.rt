@@ -33,7 +33,7 @@ use std::time::Clock;
 /// - `ramp sim [--parts P] [--slots N] [--items N] [--clients N] [--keep K] TENANT..` answers the steps of these 1 to 64 tenants, none
 ///   named twice, which have the same limits.
 /// - `ramp serve` takes what `ramp sim` takes, and `[--port N] [--sessions N] [--stay] [--strict] [--newest] [--queue N] [--every N]
-///   [--epoch N]`, and serves sessions of the tenants over TCP, as [`run_server`] says. With `--stay` the number of sessions is of those at
+///   [--epoch N] [--status N]`, and serves sessions of the tenants over TCP, as [`run_server`] says. With `--stay` the number of sessions is of those at
 ///   a time. With `--strict` a line that can't be read ends a connection that has no seat. With `--newest` each put reads its keys first.
 /// - `ramp load` takes what `ramp sim` takes, `--queue`, `--every` and `--epoch`, and `[--seats N] [--rounds N] [--seed N] [--keys N]`, and
 ///   runs seats of the tenants, as [`run_load`] says: no more of a tenant than it has clients.
@@ -45,6 +45,7 @@ use std::time::Clock;
 /// | `--port`, `--sessions` | 0 to 65535, 1 to 1024 | 0, 1 |
 /// | `--queue`, `--every` | 1 to 1024, 1 to 65536 | 64, 64 |
 /// | `--epoch`; 0 is never | 0 to 1048576 | 0 |
+/// | `--status`; 0 is none | 0 to 65535 | 0 |
 /// | `--seats`, `--rounds` | 1 to 16, 1 to 10000 | 4, 100 |
 /// | `--seed`, `--keys` | 0 to 4294967295, 4 to 256 | 1, 16 |
 ///

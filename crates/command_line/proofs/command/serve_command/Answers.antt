@@ -7,7 +7,7 @@ use Rattle.command_line.specs.Words.{pace_rules, serve_command, store_rules, wit
 use Rattle.command_line.proofs.KnownWords.{Knows, knows_more}
 use Rattle.command_line.proofs.command.serve_command.Goals as goal
 
-known : (c : goal.After-arg-6) (command : Command) → AddsArg c.in_ok-with_pace.field-0 c.tenants.result command → Knows command serve_command
+known : (c : goal.After-arg-7) (command : Command) → AddsArg c.in_ok-arg-5.field-0 c.tenants.result command → Knows command serve_command
 known c command adds =
     let begun = ap app_of_fields c.after_help-serve.ensures ∙ ap app_of_fields c.about.ensures ∙ c.new.ensures.app in
     let store : Knows c.in_ok-with_store.field-0 (with_rules (new_app (codes "serve")) store_rules) = record {
@@ -23,7 +23,8 @@ known c command adds =
       words = c.in_ok-with_pace.ensures.words ∙ ap (λ app. with_rules app pace_rules) newest.words;
       local = c.in_ok-with_pace.ensures.local;
     } in
-    knows_more c.in_ok-with_pace.field-0 c.tenants.result command _ _ paced c.tenants.ensures.rule c.tenants.ensures.local adds
+    let status = knows_more c.in_ok-with_pace.field-0 c.number-2.result c.in_ok-arg-5.field-0 _ _ paced c.number-2.ensures.rule c.number-2.ensures.local c.in_ok-arg-5.ensures in
+    knows_more c.in_ok-arg-5.field-0 c.tenants.result command _ _ status c.tenants.ensures.rule c.tenants.ensures.local adds
 
 pub returns-clause-words : goal.returns-clause-words
-returns-clause-words c = IfOk-weaker c.arg-6.result _ _ (λ command adds. (known c command adds).words) c.arg-6.ensures
+returns-clause-words c = IfOk-weaker c.arg-7.result _ _ (λ command adds. (known c command adds).words) c.arg-7.ensures

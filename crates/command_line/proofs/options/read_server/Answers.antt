@@ -28,3 +28,7 @@ returns-in_err-every-clause-none c = rw c.from_residual-in_err-every.ensures (λ
 pub returns-in_err-epoch-clause-none : goal.returns-in_err-epoch-clause-none
 returns-in_err-epoch-clause-none c = rw c.from_residual-in_err-epoch.ensures (λ options given. c.in_err-epoch.ensures.none options.epoch
     (record { from = omega arith; up_to = options.few_events; of_option = given.of_epoch }))
+
+pub returns-in_err-status-clause-none : goal.returns-in_err-status-clause-none
+returns-in_err-status-clause-none c = rw c.from_residual-in_err-status.ensures (λ options given. c.in_err-status.ensures.none options.status
+    (record { from = omega arith; up_to = options.few_ports; of_option = given.of_status }))

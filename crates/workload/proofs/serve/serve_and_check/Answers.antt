@@ -2,7 +2,7 @@ use Rattle.std.proofs.Common.{◌∙◌, arith, ap, inr}
 use Rattle.std.proofs.lemmas.Result.{err_from_is_err_and}
 use Rattle.hub.specs.Hubs.{ConfigView, config_view}
 use Rattle.server_sessions.specs.Ports.{listener_of, port_of}
-use Rattle.workload.proofs.Listening.{closed_on, is_closed, no_port, no_room_to_check, no_store, port_then_checked}
+use Rattle.workload.proofs.Listening.{closed_on, is_closed, no_port, no_room_to_check, no_store, nothing_told, port_then_checked}
 use Rattle.workload.proofs.serve.serve_and_check.Goals as goal
 
 pub returns-clause-served : goal.returns-clause-served
@@ -23,6 +23,11 @@ returns-in_err-endings-clause-served g c =
     let p = err_from_is_err_and c.from_residual-in_err-endings.result c.from_residual-in_err-endings.ensures.1 in
     rw (p.1, p.2) (no_room_to_check (config_view c.args.config) c.args.names.now (g.W.Write.contents c.args.writer.now) (g.W.Write.contents c.serve_all-told.new.writer)
     c.close-closed.result c.in_ok-told.ensures.listened (is_closed (config_view c.args.config) _ c.close-closed.result c.close-closed.ensures.config c.close-closed.ensures.parts c.close-closed.ensures.books c.in_ok-hub.ensures.opened) c.requires)
+
+pub returns-in_err-hub-clause-served : goal.returns-in_err-hub-clause-served
+returns-in_err-hub-clause-served g c =
+    let p = err_from_is_err_and c.from_residual.result c.from_residual.ensures.1 in
+    rw (p.1, p.2) (nothing_told (config_view c.args.config) c.args.names.now (g.W.Write.contents c.args.writer.now) c.in_err-hub.field-0.0 c.in_err-hub.ensures.refused)
 
 pub returns-clause-port : goal.returns-clause-port
 returns-clause-port g c =
