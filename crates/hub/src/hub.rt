@@ -4,7 +4,7 @@ ghost use Rattle.hub.specs.Hubs.{config_view, AllSoundBooks};
 ghost use Rattle.hub.specs.Registered.{IsDeparture, is_unopened};
 ghost use Rattle.shard.specs.Queues.{unsent};
 ghost use Rattle.shard.specs.UsedAt.{AreUsagesAt};
-ghost use Rattle.std.specs.Prelude.{◌≡◌, ◌≤◌, ◌<◌, ◌+◌, ◌↔◌, ◌⊎◌, true, false, [], length, map, slice_get, vec_len, vec_capacity, Ok, IfOk, IfErr, IfSome, OnOk, IsErrOf, IsTrue};
+ghost use Rattle.std.specs.Prelude.{◌≡◌, ◌≤◌, ◌<◌, ◌+◌, ◌^◌, ◌↔◌, ◌⊎◌, true, false, [], length, map, slice_get, vec_len, vec_capacity, Ok, IfOk, IfErr, IfSome, OnOk, IsErrOf, IsTrue};
 
 use crate::closing::take_out;
 use crate::dispatcher::Dispatcher;
@@ -185,6 +185,13 @@ impl<G: Gate> Hub<G> {
             Some(shard) => shard.put_usages(rt, self.config.parts, partition, usages),
             None => Ok(false),
         }
+    }
+
+    /// How many collections were begun: each is of one tenant at one partition. At most 2^62 are.
+    pub fn collections(&self) -> u64
+        ensures { result ≤ 2 ^ 62 }
+    {
+        self.collector.begun()
     }
 
     /// The limits of its tenants.

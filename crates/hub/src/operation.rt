@@ -53,7 +53,7 @@ fn is_under(call: &Call, own: Stamp) -> bool
     }
 }
 
-/// Whether a move sends COMMITs. It tells which box is nearer to them, and nothing rests on it.
+/// Whether a move sends COMMITs, by which a box for its calls is chosen. No promise rests on it.
 fn sends_commits(taken: &MoveKind) -> bool {
     matches!(taken, MoveKind::Decided(_))
 }

@@ -1,4 +1,4 @@
-use Rattle.std.proofs.Common.{◌≡◌, ◌≤◌, length, take, vec_len, vec_capacity}
+use Rattle.std.proofs.Common.{◌≡◌, ◌≤◌, take, vec_len, vec_capacity}
 use Rattle.std.specs.Prelude.{map}
 use Rattle.shard.specs.Queues.{unsent}
 use Rattle.hub.proofs.hub.ends_of.Given as goal
