@@ -4,7 +4,7 @@ use Rattle.server_metrics.specs.declared.families.Family.{Family}
 use Rattle.server_metrics.specs.declared.families.Family.TheVariants.{Items, ItemsLimit, Versions, VersionsLimit}
 use Rattle.server_metrics.specs.declared.families.Family.TheVariants.{Marks, MarksLimit, Calls, Cut, Checked}
 use Rattle.server_metrics.specs.declared.families.Family.TheVariants.{Waiting, Wrong, Clients, ClientsLimit}
-use Rattle.server_metrics.specs.declared.families.Family.TheVariants.{Refusals, Restarts, Connections}
+use Rattle.server_metrics.specs.declared.families.Family.TheVariants.{Refusals, Restarts, Collections, Connections}
 use Rattle.server_metrics.specs.declared.families.Family.TheVariants.{ConnectionsLimit, ConnectionsBegun}
 use Rattle.server_metrics.specs.declared.families.Family.TheVariants.{Started, Build}
 
@@ -25,6 +25,7 @@ name_text Clients = codes "ramp_clients"
 name_text ClientsLimit = codes "ramp_clients_limit"
 name_text Refusals = codes "ramp_refusals_total"
 name_text Restarts = codes "ramp_restarts_total"
+name_text Collections = codes "ramp_collections_total"
 name_text Connections = codes "ramp_connections"
 name_text ConnectionsLimit = codes "ramp_connections_limit"
 name_text ConnectionsBegun = codes "ramp_connections_total"
@@ -48,6 +49,7 @@ help_text Clients = codes "Client numbers of a tenant that were used."
 help_text ClientsLimit = codes "Client numbers that a tenant may use."
 help_text Refusals = codes "Lines of sessions that were answered by this refusal."
 help_text Restarts = codes "Lines of sessions that were answered by a restart."
+help_text Collections = codes "Collections that were begun, each of a tenant at a partition."
 help_text Connections = codes "Connections that are served now."
 help_text ConnectionsLimit = codes "Connections that are served at a time."
 help_text ConnectionsBegun = codes "Connections that were begun."
@@ -71,6 +73,7 @@ kind_text Clients = codes " gauge\n"
 kind_text ClientsLimit = codes " gauge\n"
 kind_text Refusals = codes " counter\n"
 kind_text Restarts = codes " counter\n"
+kind_text Collections = codes " counter\n"
 kind_text Connections = codes " gauge\n"
 kind_text ConnectionsLimit = codes " gauge\n"
 kind_text ConnectionsBegun = codes " counter\n"

@@ -8,7 +8,7 @@ use Rattle.server_metrics.specs.declared.families.Family.{Family}
 use Rattle.server_metrics.specs.declared.families.Family.TheVariants.{Items, ItemsLimit, Versions, VersionsLimit}
 use Rattle.server_metrics.specs.declared.families.Family.TheVariants.{Marks, MarksLimit, Calls, Cut, Checked}
 use Rattle.server_metrics.specs.declared.families.Family.TheVariants.{Waiting, Wrong, Clients, ClientsLimit}
-use Rattle.server_metrics.specs.declared.families.Family.TheVariants.{Refusals, Restarts, Connections}
+use Rattle.server_metrics.specs.declared.families.Family.TheVariants.{Refusals, Restarts, Collections, Connections}
 use Rattle.server_metrics.specs.declared.families.Family.TheVariants.{ConnectionsLimit, ConnectionsBegun}
 use Rattle.server_metrics.specs.declared.families.Family.TheVariants.{Started, Build}
 use Rattle.server_metrics.specs.declared.metrics.ClientRow.{ClientRow}
@@ -33,6 +33,7 @@ number_of Clients row = None
 number_of ClientsLimit row = None
 number_of Refusals row = None
 number_of Restarts row = None
+number_of Collections row = None
 number_of Connections row = None
 number_of ConnectionsLimit row = None
 number_of ConnectionsBegun row = None
@@ -112,7 +113,8 @@ process_text readings =
 -- the sessions and the process
 unfoldable pub server_text : Readings → List ℕ
 server_text readings =
-    plain_text Restarts readings.restarts ++ (connections_text readings ++ process_text readings)
+    plain_text Restarts readings.restarts ++ (plain_text Collections readings.collections
+    ++ (connections_text readings ++ process_text readings))
 
 -- the whole page
 abbrev pub metrics_text : Readings → List ℕ

@@ -20,6 +20,7 @@ pub enum Family {
     ClientsLimit,
     Refusals,
     Restarts,
+    Collections,
     Connections,
     ConnectionsLimit,
     ConnectionsBegun,
@@ -62,6 +63,7 @@ pub(crate) fn name_text(family: Family) -> &'static str
         Family::ClientsLimit => "ramp_clients_limit",
         Family::Refusals => "ramp_refusals_total",
         Family::Restarts => "ramp_restarts_total",
+        Family::Collections => "ramp_collections_total",
         Family::Connections => "ramp_connections",
         Family::ConnectionsLimit => "ramp_connections_limit",
         Family::ConnectionsBegun => "ramp_connections_total",
@@ -93,6 +95,7 @@ pub(crate) fn help_text(family: Family) -> &'static str
         Family::ClientsLimit => "Client numbers that a tenant may use.",
         Family::Refusals => "Lines of sessions that were answered by this refusal.",
         Family::Restarts => "Lines of sessions that were answered by a restart.",
+        Family::Collections => "Collections that were begun, each of a tenant at a partition.",
         Family::Connections => "Connections that are served now.",
         Family::ConnectionsLimit => "Connections that are served at a time.",
         Family::ConnectionsBegun => "Connections that were begun.",
@@ -111,6 +114,7 @@ pub(crate) fn kind_text(family: Family) -> &'static str
         | Family::Checked
         | Family::Refusals
         | Family::Restarts
+        | Family::Collections
         | Family::ConnectionsBegun => " counter\n",
         _ => " gauge\n",
     }

@@ -58,6 +58,8 @@ pub struct Readings<'a> {
     pub refusals: Vec<RefusalRow>,
     /// How many lines were answered by a restart.
     pub restarts: u64,
+    /// How many collections were begun, each of a tenant at a partition.
+    pub collections: u64,
     /// The connections that are open, how many are served at a time, and how many were begun in all.
     pub open: u64,
     pub most: u64,
@@ -289,6 +291,7 @@ fn put_server(text: &mut String, readings: &Readings<'_>) -> Result<(), AllocErr
     ensures { OnOk result (string_bytes text.new ≡ string_bytes text.old ++ server_text readings.now) }
 {
     put_plain(text, Family::Restarts, readings.restarts)?;
+    put_plain(text, Family::Collections, readings.collections)?;
     put_connections(text, readings)?;
     put_process(text, readings)
 }

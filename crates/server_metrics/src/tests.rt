@@ -116,6 +116,7 @@ ramp_clients{tenant=\"t\"} 10\n\
 ramp_clients_limit{tenant=\"t\"} 11\n\
 ramp_refusals_total{number=\"15\"} 12\n\
 ramp_restarts_total 13\n\
+ramp_collections_total 18\n\
 ramp_connections 14\n\
 ramp_connections_limit 15\n\
 ramp_connections_total 16\n\
@@ -156,6 +157,7 @@ fn readings(alloc: Global) -> Result<Readings<'static>, AllocError> {
         clients,
         refusals,
         restarts: 13,
+        collections: 18,
         open: 14,
         most: 15,
         begun: 16,

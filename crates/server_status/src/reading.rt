@@ -47,6 +47,7 @@ impl<'s> Watched<'s> {
             clients: self.read_clients(rt, alloc)?,
             refusals: read_refusals(alloc, self.server.answers())?,
             restarts: self.server.answers().restarts(),
+            collections: self.hub.collections(),
             open: connections.open as u64,
             most: connections.most as u64,
             begun: connections.begun,
