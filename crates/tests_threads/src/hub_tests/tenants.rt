@@ -5,8 +5,8 @@ ghost use Rattle.std.specs.Prelude.{◌<◌, ◌≤◌};
 use super::asking::{seated, two_items};
 use hub::{Closed, Config, Gate, Hub, Sink};
 use partition::{Epoch, EventList};
-use plain_store::{Answer, Call};
-use stamps::{Item, Keep, Key, Limits, home};
+use plain_store::{Answer, Call, Refusal};
+use stamps::{Client, Counter, Item, Keep, Key, Limits, home};
 use std::alloc::Global;
 use std::sync::atomic::{AtomicU64, Ordering};
 use std::sync::{Arc, Mutex, Wait};
@@ -106,7 +106,7 @@ fn items_from(alloc: Global, first: u32, parts: u32) -> Option<Vec<Item>> {
     Some(items)
 }
 
-/// Client 1 of the last tenant writes one key at each partition, twice.
+/// Client 1 of the last tenant, which has one session at a time, writes one key at each partition, twice.
 fn write_at_each<R: Wait>(
     rt: &R,
     alloc: Global,
@@ -114,7 +114,12 @@ fn write_at_each<R: Wait>(
     parts: u32,
     tenants: u32,
 ) -> Option<()> {
-    let mut seat = seated(rt, hub, tenants.saturating_sub(1), 1)?;
+    let last = tenants.saturating_sub(1);
+    let mut seat = seated(rt, hub, last, 1)?;
+    let (client, base) = (Client::new(1)?, Counter::new(0)?);
+    if !matches!(hub.seat(rt, last, client, base), Err(Refusal::Busy)) {
+        return None;
+    }
     for sixteen in 0..4u32 {
         let items = items_from(alloc, sixteen.saturating_mul(16), parts)?;
         for _ in 0..2 {
@@ -127,6 +132,32 @@ fn write_at_each<R: Wait>(
     Some(())
 }
 
+/// Whether the hub then tells of each partition, and of no other, how much each tenant uses there, of the last one at least its four
+/// calls; and that one client of the last tenant had a session, and none of another.
+fn is_told<R: Wait>(
+    rt: &R,
+    alloc: Global,
+    hub: &Hub<Watcher>,
+    parts: u32,
+    tenants: u32,
+) -> Option<bool> {
+    let last = tenants.saturating_sub(1);
+    let mut usages = Vec::new(alloc);
+    for partition in 0..parts {
+        let is_there = hub.status(rt, partition, &mut usages).ok()?;
+        let used = usages.as_slice().get(last as usize)?;
+        if !is_there || usages.len() != tenants as usize || used.served < 4 {
+            return Some(false);
+        }
+    }
+    let is_past = hub.status(rt, parts, &mut usages).ok()?;
+    let mut others = hub.clients(rt, tenants);
+    for tenant in 0..last {
+        others = others.saturating_add(hub.clients(rt, tenant));
+    }
+    Some(!is_past && others == 0 && hub.clients(rt, last) == 1)
+}
+
 /// What those writes leave.
 #[derive(Drop)]
 struct Left {
@@ -135,6 +166,8 @@ struct Left {
     closed: Closed,
     /// How many calls there were, where each passed the gate and was served in the same turn.
     calls: Option<u64>,
+    /// Whether the hub told so of its partitions and clients.
+    is_told: bool,
 }
 
 /// How many calls there were, where each passed the gate and was served in the same turn.
@@ -172,12 +205,14 @@ fn written<R: Threads + Wait + Clone + Send + Sync + Drop + 'static>(
         hub.set_keep(rt, tenant, keep_of(tenant)?).ok()?;
     }
     let is_written = write_at_each(rt, alloc, &hub, parts, tenants);
+    let is_told = is_told(rt, alloc, &hub, parts, tenants) == Some(true);
     let closed = hub.close(rt, Vec::new(alloc));
     is_written?;
     Some(Left {
         epochs: Arc::into_inner(kept)?.into_inner(),
         closed,
         calls: calls(&turns),
+        is_told,
     })
 }
 
@@ -255,7 +290,8 @@ fn first_wrong(left: &Left, partitions: u32, tenants: u32) -> Option<(u32, u32)>
     None
 }
 
-/// At the last partition as at the first, and of the last tenant as of the first. Each call passes the gate once.
+/// At the last partition as at the first, and of the last tenant as of the first. Each call passes the gate once. What each tenant
+/// uses is told of each partition.
 #[test]
 fn each_tenant_is_collected_and_cut_at_each_partition(rt: HostRuntime) {
     for (partitions, tenants) in [(1u32, 3u32), (10, 9), (64, 2), (2, 64)] {
@@ -263,7 +299,7 @@ fn each_tenant_is_collected_and_cut_at_each_partition(rt: HostRuntime) {
         let mut calls = None;
         if let Some(left) = written(&rt, rt.alloc(), partitions, tenants) {
             wrong = first_wrong(&left, partitions, tenants);
-            calls = left.calls;
+            calls = if left.is_told { left.calls } else { None };
         }
         let wanted = Some(u64::from(partitions).saturating_mul(4));
         assert!(rt;
