@@ -132,7 +132,7 @@ fn write_at_each<R: Wait>(
     Some(())
 }
 
-/// Whether the hub then tells of each partition, and of no other, how much each tenant uses there, of the last one at least its four
+/// Whether the hub then reports of each partition, and of no other, how much each tenant uses there, of the last one at least its four
 /// calls; and that one client of the last tenant had a session, and none of another.
 fn is_told<R: Wait>(
     rt: &R,
@@ -291,7 +291,7 @@ fn first_wrong(left: &Left, partitions: u32, tenants: u32) -> Option<(u32, u32)>
 }
 
 /// At the last partition as at the first, and of the last tenant as of the first. Each call passes the gate once. What each tenant
-/// uses is told of each partition.
+/// uses is reported of each partition.
 #[test]
 fn each_tenant_is_collected_and_cut_at_each_partition(rt: HostRuntime) {
     for (partitions, tenants) in [(1u32, 3u32), (10, 9), (64, 2), (2, 64)] {
