@@ -8,6 +8,7 @@ mod found_keys;
 mod late;
 mod read_progress;
 mod reader;
+mod record_place;
 mod told;
 
 pub use finder::{FindMove, Finder};

@@ -1,5 +1,5 @@
 //! The keys of a read, and the replies that counted.
-ghost use Rattle.std.specs.Prelude.{◌≡◌, ◌<◌, ◌≤◌, length, map, max, cond, nat_lt, option_copied, slice_index_or};
+ghost use Rattle.std.specs.Prelude.{◌≡◌, ◌<◌, ◌≤◌, length, map, max, cond, nat_lt, option_copied, slice_index_or, take};
 ghost use Rattle.std.specs.List.{list_any, list_all};
 ghost use Rattle.stamps.specs.Limits.{max_keys};
 ghost use Rattle.plain_store.specs.Rounds.{stamp_for, stamp_seen, reading_of, flat};
@@ -7,20 +7,22 @@ ghost use Rattle.get_all.specs.declared.read_progress.KeyProgress.{KeyProgress};
 ghost use Rattle.plain_store.specs.Words.{item_of};
 ghost use Rattle.get_all.specs.ReadProgress.{slot_for, with_first, with_second, awaits_first, has_first, first_shows, needed_by, needed_stamps, awaits_second, is_answered_by, late_by, readings_by};
 
+use crate::record_place::{FirstShown, RecordPlace};
 use crate::{Late, LateKeys};
 use lists::SmallList;
 use plain_store::{Reading, Readings};
 use stamps::{Item, Key, Record, Stamp, Tag, Value, WriteSet, limits};
+use std::array;
 use std::marker::Model;
 
 /// A key that is read.
-#[derive(Clone, Copy)]
+#[derive(Drop)]
 pub(crate) struct KeyProgress {
     pub(crate) key: Key,
     /// What round one showed: nothing yet, the initial version, or a record.
-    pub(crate) first: Option<Option<Record>>,
+    pub(crate) first: FirstShown,
     /// What round two showed, once it did.
-    pub(crate) second: Option<Record>,
+    pub(crate) second: RecordPlace,
 }
 
 impl KeyProgress {
@@ -30,9 +32,18 @@ impl KeyProgress {
     {
         KeyProgress {
             key,
-            first: None,
-            second: None,
+            first: FirstShown::nothing(),
+            second: RecordPlace::empty(),
         }
+    }
+
+    /// Makes of it a key of which nothing was shown, in place.
+    fn reset(&mut self, key: &Key)
+        ensures { self.new ≡ slot_for key.now }
+    {
+        self.key = *key;
+        self.first.clear();
+        self.second.clear();
     }
 
     /// Takes what round one showed of a key: the first counts.
@@ -40,7 +51,7 @@ impl KeyProgress {
         ensures { self.new ≡ with_first key.now (option_copied shown.entry) self.old }
     {
         if self.key == *key && self.first.is_none() {
-            self.first = Some(shown.copied());
+            self.first.put(shown);
         }
     }
 
@@ -49,7 +60,7 @@ impl KeyProgress {
         ensures { self.new ≡ with_second key.now version.now self.old }
     {
         if self.key == *key && self.second.is_none() {
-            self.second = Some(*version);
+            self.second.put(version);
         }
     }
 
@@ -57,9 +68,9 @@ impl KeyProgress {
     fn raise(&self, key: &Key, needed: Stamp) -> Stamp
         ensures { result ≡ max needed (stamp_for key.now self.now.first) }
     {
-        match &self.first {
-            Some(Some(version)) => raised(needed, key, version),
-            _ => needed,
+        match self.first.version() {
+            Some(version) => raised(needed, key, version),
+            None => needed,
         }
     }
 
@@ -67,19 +78,9 @@ impl KeyProgress {
     fn first_stamp(&self) -> Stamp
         ensures { result ≡ stamp_seen self.now.first }
     {
-        match &self.first {
-            Some(Some(version)) => version.stamp,
-            _ => Stamp::ZERO,
-        }
-    }
-
-    /// The record that round one showed.
-    fn first_version(&self) -> Option<&Record>
-        ensures { option_copied result ≡ flat self.now.first }
-    {
-        match &self.first {
-            Some(Some(version)) => Some(version),
-            Some(None) | None => None,
+        match self.first.version() {
+            Some(version) => version.stamp,
+            None => Stamp::ZERO,
         }
     }
 
@@ -95,9 +96,9 @@ impl KeyProgress {
         ensures { option_copied result ≡ cond (nat_lt (stamp_seen self.now.first) needed) self.now.second (flat self.now.first) }
     {
         if self.is_late(needed) {
-            self.second.as_ref()
+            self.second.get()
         } else {
-            self.first_version()
+            self.first.version()
         }
     }
 
@@ -116,9 +117,9 @@ impl KeyProgress {
     fn shows(&self, stamp: Stamp, writes: &WriteSet) -> bool
         ensures { result ≡ first_shows stamp writes.now self.now.first }
     {
-        match &self.first {
-            Some(Some(version)) => version.stamp == stamp && version.writes == *writes,
-            _ => false,
+        match self.first.version() {
+            Some(version) => version.stamp == stamp && version.writes == *writes,
+            None => false,
         }
     }
 }
@@ -152,10 +153,73 @@ fn reading_of(version: &Record) -> Reading
     }
 }
 
+/// The slots of a read's keys in the order given, up to 16, which stay where they lie. Contracts see the list.
+#[derive(Drop)]
+struct KeyProgressList {
+    slots: [KeyProgress; ReadProgress::MAX_LEN],
+    len: usize,
+}
+
+impl Model for KeyProgressList {
+    ghost use Rattle.std.specs.Prelude.{◌≡◌, ◌≤◌, List, length, take};
+    ghost use Rattle.stamps.specs.Limits.{max_keys};
+    ghost use Rattle.get_all.specs.declared.read_progress.KeyProgress.{KeyProgress};
+
+    ghost Value = { List KeyProgress };
+
+    ghost view = { λ l. take l.len l.slots };
+
+    ghost invariant = { λ l. (l.len ≤ max_keys) × (length l.slots ≡ max_keys) };
+}
+
+impl KeyProgressList {
+    ghost use Rattle.std.specs.Prelude.{[]};
+
+    /// No slots. The key lies in the unused places.
+    fn empty(filler: Key) -> KeyProgressList
+        ensures { result ≡ [] }
+    {
+        KeyProgressList {
+            slots: array::from_fn(|_| KeyProgress::new(filler)),
+            len: 0,
+        }
+    }
+
+    fn as_slice(&self) -> &[KeyProgress]
+        ensures value { result.now ≡ self.now }
+        ensures few { length result.now ≤ max_keys }
+    {
+        &self.slots[..self.len]
+    }
+
+    /// Puts in its place those of these keys, of which nothing was shown.
+    fn reset(&mut self, keys: &[Key])
+        requires { length keys.now ≤ max_keys }
+        ensures { self.new ≡ map slot_for keys.now }
+    {
+        reset_first(&mut self.slots, keys);
+        self.len = keys.len();
+    }
+
+    /// Has each slot take what round one showed of the key.
+    fn take_first(&mut self, key: &Key, shown: Option<&Record>)
+        ensures { self.new ≡ map (with_first key.now (option_copied shown.entry)) self.old }
+    {
+        take_first(&mut self.slots[..self.len], key, shown);
+    }
+
+    /// Has each slot take what round two showed of the key.
+    fn take_second(&mut self, key: &Key, version: &Record)
+        ensures { self.new ≡ map (with_second key.now version.now) self.old }
+    {
+        take_second(&mut self.slots[..self.len], key, version);
+    }
+}
+
 /// The keys of a read in the order given, up to 16.
 #[derive(Drop)]
 pub(crate) struct ReadProgress {
-    slots: SmallList<KeyProgress, { ReadProgress::MAX_LEN }>,
+    slots: KeyProgressList,
     /// What is needed of each key, kept as the records come.
     needed: SmallList<Stamp, { ReadProgress::MAX_LEN }>,
 }
@@ -183,7 +247,7 @@ impl ReadProgress {
         requires room { length keys.now ≤ max_keys }
         ensures { result ≡ map slot_for keys.now }
     {
-        let mut slots = SmallList::empty(KeyProgress::new(keys[0]));
+        let mut slots = KeyProgressList::empty(keys[0]);
         let mut needed = SmallList::empty(Stamp::ZERO);
         reset_each(&mut slots, &mut needed, keys);
         ReadProgress { slots, needed }
@@ -276,14 +340,14 @@ impl ReadProgress {
         ensures { self.new ≡ map (with_first key.now (option_copied shown.entry)) self.old }
     {
         raise_at_first(&mut self.needed, self.slots.as_slice(), key, shown);
-        mark_each(&mut self.slots, key, shown);
+        self.slots.take_first(key, shown);
     }
 
     /// Takes what round two showed of the key.
     pub(crate) fn mark_second(&mut self, key: &Key, version: &Record)
         ensures { self.new ≡ map (with_second key.now version.now) self.old }
     {
-        self.slots.change(|slots| take_second(slots, key, version));
+        self.slots.take_second(key, version);
     }
 
     /// The late keys, each with the stamp that is needed of it.
@@ -321,7 +385,7 @@ impl ReadProgress {
 
 /// Puts in their place the slots of these keys, of which nothing was shown, and the stamp 0.0 for each.
 fn reset_each(
-    slots: &mut SmallList<KeyProgress, { ReadProgress::MAX_LEN }>,
+    slots: &mut KeyProgressList,
     needed: &mut SmallList<Stamp, { ReadProgress::MAX_LEN }>,
     keys: &[Key],
 )
@@ -329,15 +393,21 @@ fn reset_each(
     ensures slots { slots.new ≡ map slot_for keys.now }
     ensures needed { needed.new ≡ needed_stamps (map slot_for keys.now) }
 {
-    slots.clear();
+    slots.reset(keys);
     needed.clear();
-    for key in keys {
-        slots.push(KeyProgress {
-            key: *key,
-            first: None,
-            second: None,
-        });
+    for _key in keys {
         needed.push(Stamp::ZERO);
+    }
+}
+
+/// Has the first slots be those of these keys, of which nothing was shown.
+fn reset_first(slots: &mut [KeyProgress], keys: &[Key])
+    requires { length keys.now ≤ length slots.old }
+    ensures slots { take (length keys.now) slots.new ≡ map slot_for keys.now }
+    ensures len { length slots.new ≡ length slots.old }
+{
+    for (i, key) in keys.iter().enumerate() {
+        slots[i].reset(key);
     }
 }
 
@@ -392,20 +462,6 @@ fn raised(needed: Stamp, key: &Key, version: &Record) -> Stamp
         version.stamp
     } else {
         needed
-    }
-}
-
-/// Has each slot of the list take what round one showed of the key.
-fn mark_each(
-    slots: &mut SmallList<KeyProgress, { ReadProgress::MAX_LEN }>,
-    key: &Key,
-    shown: Option<&Record>,
-)
-    ensures { slots.new ≡ map (with_first key.now (option_copied shown.entry)) slots.old }
-{
-    match shown {
-        Some(version) => slots.change(|slots| take_first(slots, key, Some(version))),
-        None => slots.change(|slots| take_first(slots, key, None)),
     }
 }
 
