@@ -288,8 +288,10 @@ impl Cell {
         if let Insert::Full = self.versions.insert(block, item.chain, version) {
             return PrepareReply::FullSlots;
         }
+        let chain = item.chain;
         self.entries.insert(place, item);
-        self.index.set(&version.key, items::no_tag());
+        self.index
+            .set_numbered(chain, &version.key, items::no_tag());
         PrepareReply::Prepared
     }
 

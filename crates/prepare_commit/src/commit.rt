@@ -101,6 +101,6 @@ fn commit_version(
     let chain = chains.mark_slot(block, kept);
     changed.note(chain);
     if let Some(latest) = chains.latest(block, chain) {
-        index.set(&latest.key, latest.tag);
+        index.set_numbered(chain, &latest.key, latest.tag);
     }
 }

@@ -145,7 +145,11 @@ pub(crate) fn index_latest(
 {
     for place in 0..items.len() {
         let item = items.get(place);
-        index.set(&item.entry.key, latest_tag(block, held, item.chain));
+        index.set_numbered(
+            item.chain,
+            &item.entry.key,
+            latest_tag(block, held, item.chain),
+        );
     }
 }
 

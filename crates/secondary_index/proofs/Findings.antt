@@ -166,6 +166,17 @@ findings-last_set tags tag settings is =
     findings_by tags (last_tag settings) (distinct (map (λ (s : Setting). s.key) settings)) tag is (distinct-AllPairs (map (λ (s : Setting). s.key) settings)) (λ key h. set_keys settings key tag h)
 
 -- a key's last tag after one more call
+-- a tag that the key has already changes nothing
+pub insert-same : (tags : Tags) (key : Key) (tag : Tag) → get tags key ≡ Some tag → fin.insert tags key tag ≡ tags
+insert-same tags key tag has =
+    fin.same_map key_cmp_total key_cmp-Equal (fin.insert tags key tag) tags (λ q.
+    let tests = is_eq-slice_cmp q key ∙ nat_list_eq_equiv.symm q key in
+    fin.get-insert key_cmp_total tags key tag q ∙ ap (λ b. cond b (Some tag) (get tags q)) tests ∙ by q (bytes_eq key q) refl)
+  where
+    by : (q : Key) (b : Bool) → bytes_eq key q ≡ b → cond b (Some tag) (get tags q) ≡ get tags q
+    by q true e = sym has ∙ ap (get tags) ((bytes_eq-Decides key q).0 e)
+    by q false e = refl
+
 pub IsIndexOf-set : (tags : Tags) (key : Key) (tag : Tag) (settings : List Setting) → IsIndexOf tags settings → IsIndexOf (fin.insert tags key tag) (record { key = key; tag = tag } ∷ settings)
 IsIndexOf-set tags key tag settings is q =
     let tests = is_eq-slice_cmp q key ∙ nat_list_eq_equiv.symm q key in

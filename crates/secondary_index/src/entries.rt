@@ -1,5 +1,5 @@
 //! The known keys of an index, in byte order.
-ghost use Rattle.std.specs.Prelude.{◌≡◌, ◌+◌, ◌<◌, ◌≤◌, ◌⊎◌, MatchResult, IsTrue, length, count_by, bytes_eq, if◌then◌else◌, option_copied, is_some, max, [], unwrap_or};
+ghost use Rattle.std.specs.Prelude.{◌≡◌, ◌+◌, ◌<◌, ◌≤◌, ◌⊎◌, MatchResult, IsTrue, length, count_by, bytes_eq, if◌then◌else◌, option_copied, is_some, max, [], unwrap_or, Some};
 ghost use Rattle.std.specs.FinMap as map;
 ghost use Rattle.stamps.specs.Key.{key_cmp};
 ghost use Rattle.secondary_index.specs.Ordered.{IsInOrder, StandsAt, BelongsAt};
@@ -22,6 +22,27 @@ pub(crate) fn search(entries: &RowList<TaggedKey>, key: &Key) -> Result<usize, u
         (BelongsAt key_cmp entry_row key.now entries.now.items) }
 {
     entries.binary_search_by(|entry| entry.key.cmp(key))
+}
+
+/// Whether a key's entry stands at a place.
+pub(crate) fn stands_at(entries: &RowList<TaggedKey>, place: usize, key: &Key) -> bool
+    ensures { IsTrue result → StandsAt key_cmp entry_row key.now entries.now.items place }
+{
+    if place >= entries.len() {
+        return false;
+    }
+    entries.get(place).key == *key
+}
+
+/// Whether a key's entry stands at a place and has this tag.
+pub(crate) fn has_at(entries: &RowList<TaggedKey>, place: usize, key: &Key, tag: Tag) -> bool
+    requires { IsInOrder key_cmp entry_row entries.now.items }
+    ensures { IsTrue result → map.get (tags_of entries.now.items) key.now ≡ Some tag }
+{
+    if !stands_at(entries, place, key) {
+        return false;
+    }
+    entries.get(place).tag == tag
 }
 
 /// Puts in an entry, and answers the tag that the key had, if it was known.

@@ -16,12 +16,14 @@ use std::marker::Model;
 ///
 /// Contracts see how many keys there is room for, and a finite map from the known keys to their last tags. `open` takes all
 /// the memory. Both lists are in order, so a look-up is a binary search, and `set` shifts four bytes for each key that
-/// stands behind.
+/// stands behind. `set_numbered` looks first where the key stood.
 #[derive(Drop)]
 pub struct TagIndex {
     room: u32,
     entries: RowList<TaggedKey>,
     pairs: RowList<Pair>,
+    /// Where the entry of the key with each number stood when it was last looked for.
+    places: Vec<u32>,
 }
 
 impl Model for TagIndex {
@@ -51,6 +53,7 @@ impl TagIndex {
             room: items,
             entries: RowList::open(alloc, items)?,
             pairs: RowList::open(alloc, items)?,
+            places: Vec::with_capacity(alloc, items as usize)?,
         })
     }
 
@@ -83,6 +86,48 @@ impl TagIndex {
         }
         pairs::take_out(&mut self.pairs, key, old);
         pairs::put_in(&mut self.pairs, key, tag);
+    }
+
+    /// Does what `set` does with a key to which its caller gave a number: numbers are given from 0, as new keys come. Where the key has
+    /// the tag already and stands where it did, it looks at that place alone.
+    pub fn set_numbered(&mut self, number: u32, key: &Key, tag: Tag)
+        requires { HasPlace self.old key.now }
+        ensures value { self.new ≡ record { room = self.old.room; tags = map.insert self.old.tags key.now tag } }
+        ensures law { (settings : List Setting) → IsIndexOf self.old.tags settings
+            → IsIndexOf self.new.tags (record { key = key.now; tag = tag } ∷ settings) }
+    {
+        let place = self.place_of(number);
+        if entries::has_at(&self.entries, place, key, tag) {
+            return;
+        }
+        let has_moved = !entries::stands_at(&self.entries, place, key);
+        self.set(key, tag);
+        if has_moved {
+            self.note_place(number, key);
+        }
+    }
+
+    /// Where the entry of the key with this number stood when it was last looked for.
+    fn place_of(&self, number: u32) -> usize {
+        match self.places.get(number as usize) {
+            Some(place) => *place as usize,
+            None => 0,
+        }
+    }
+
+    /// Notes where the entry of the key with this number stands.
+    fn note_place(&mut self, number: u32, key: &Key)
+        ensures { self.new ≡ self.old }
+    {
+        let Ok(place) = entries::search(&self.entries, key) else {
+            return;
+        };
+        let number = number as usize;
+        if number < self.places.len() {
+            self.places[number] = place as u32;
+        } else if number == self.places.len() && number < self.places.capacity() {
+            self.places.push_reserved(place as u32);
+        }
     }
 
     /// How many keys carry a tag, and the first of them in byte order: all of them, or 16. No key carries the empty tag.

@@ -36,12 +36,12 @@ latest-requires-clause-known c = in_range (goal.at.latest-requires-clause-known 
 pub note-requires : goal.note-requires
 note-requires c = omega (arith, c.mark_slot-chain.ensures.known, c.requires.long)
 
-pub set-requires : goal.set-requires
-set-requires c = inl (ap (λ (r : Record). contains_key c.args.index.now.tags r.key) c.latest-in-Some.view_is ∙ in_index (goal.at.set-requires c).After-mark_slot-chain c.in-Some.latest.now c.in-Some.ensures)
+pub set_numbered-requires : goal.set_numbered-requires
+set_numbered-requires c = inl (ap (λ (r : Record). contains_key c.args.index.now.tags r.key) c.latest-in-Some.view_is ∙ in_index (goal.at.set_numbered-requires c).After-mark_slot-chain c.in-Some.latest.now c.in-Some.ensures)
 
 pub returns-in-Some-clause-keys : goal.returns-in-Some-clause-keys
 returns-in-Some-clause-keys c =
-    subst (HasSameKeys c.args.index.now.tags) (sym (ap (λ (x : Index). x.tags) c.set.ensures.value))
+    subst (HasSameKeys c.args.index.now.tags) (sym (ap (λ (x : Index). x.tags) c.set_numbered.ensures.value))
     (same_keys_set c.args.index.now.tags c.latest-in-Some.inside.key c.latest-in-Some.inside.tag
     (ap (λ (r : Record). contains_key c.args.index.now.tags r.key) c.latest-in-Some.view_is ∙ in_index (goal.at.returns-in-Some-clause-keys c).After-mark_slot-chain c.in-Some.latest.now c.in-Some.ensures))
 
@@ -52,7 +52,7 @@ returns-in-Some-clause-moved c = rw (← c.mark_slot-chain.ensures.place) (λ ke
     let is = latest (goal.at.returns-in-Some-clause-moved c).After-mark_slot-chain key all (Some u) c.in-Some.ensures in (
       last,
       is,
-      ap (λ (x : Index). x.tags) c.set.ensures.value
+      ap (λ (x : Index). x.tags) c.set_numbered.ensures.value
           ∙ ap (λ (r : Record). insert c.args.index.now.tags r.key r.tag) c.latest-in-Some.view_is
           ∙ ap (λ k. insert c.args.index.now.tags k u.tag) (latest_key c.args.kept.stamp key _ _ c.mark_slot-chain.ensures.marked all last is),
     ))

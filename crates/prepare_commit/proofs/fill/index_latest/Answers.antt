@@ -21,8 +21,8 @@ latest_tag-requires-clause-known c =
     let given = c.requires.laid.given c.loop-place.place c.get-item.result.now (omega (arith, c.loop-place-test.true, c.len-place-end.ensures)) in
     omega (arith, given, c.requires.within, ap (λ (i : ChainedItem). i.chain) c.get-item.ensures)
 
-pub set-requires : goal.set-requires
-set-requires c =
+pub set_numbered-requires : goal.set_numbered-requires
+set_numbered-requires c =
     let known = knows_few c.args.items.now.items c.loop-place.index.tags c.loop-place.place (omega (arith, c.loop-place-test.true, c.len-place-end.ensures)) c.loop-place.invariant.1 in
     inr (omega (arith, known, c.requires.room, c.loop-place-test.true, c.len-place-end.ensures, c.loop-place.invariant.0))
 
@@ -33,7 +33,7 @@ loop-place-preserved c =
     let k = c.loop-place.place in
     let i = c.get-item.result.now in
     let tag = c.latest_tag.result in
-    rw c.set.ensures.value (
+    rw c.set_numbered.ensures.value (
       c.loop-place.invariant.0,
       knows_more items c.loop-place.index.tags k i tag (omega (arith, c.loop-place-test.true, c.len-place-end.ensures)) c.get-item.ensures c.loop-place.invariant.1,
       right_more items chains c.requires.laid k i (omega (arith, c.loop-place-test.true, c.len-place-end.ensures)) c.get-item.ensures tag c.loop-place.index.tags c.loop-place.invariant.2
