@@ -115,6 +115,6 @@ abbrev pub GivesNoLoad : List Row → Type 0
 GivesNoLoad rows = (parts : ℕ) (limits : Limits) (names : List (List ℕ)) (options : LoadOptions)
     → GivesLoading rows parts limits names options → ⊥
 
--- the words are at fault for this reason, or memory was refused
+-- the words are at fault for this reason, or an allocation failed
 abbrev pub IsWordsFault : Type 0 → ProgramFault → Type 0
 IsWordsFault reason fault = ((fault ≡ Options) × reason) ⊎ (fault ≡ OutOfMemory)

@@ -25,7 +25,7 @@ pub fn version_is_asked_for()
 {}
 
 /// What the words ask for, of which the first is the program's name: a cell, a store, a server or a load, or help or the
-/// version, whose text is made then. `Options` comes where they ask for none of these, and `OutOfMemory` where memory was refused.
+/// version, whose text is made then. `Options` comes where they ask for none of these, and `OutOfMemory` where an allocation failed.
 pub fn read_words(alloc: Global, words: &[String]) -> Result<Asked, ProgramFault>
     ensures asked { IfOk result (WordsAskFor (map string_bytes words.now)) }
     ensures error { IfErr result (IsWordsFault (AsksForNothing (map string_bytes words.now))) }

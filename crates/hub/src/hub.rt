@@ -171,7 +171,7 @@ impl<G> Hub<G> {
 impl<G: Gate> Hub<G> {
     /// Puts how much each tenant uses of a partition, in their order and at one moment, in place of what the list has. It takes
     /// the partition's lock, and time for each tenant, and visits none of what they hold. Says whether there is such a partition.
-    /// The one error is that memory was refused.
+    /// The one error is that an allocation failed.
     pub fn status<R: Wait>(
         &self,
         rt: &R,

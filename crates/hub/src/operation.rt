@@ -145,7 +145,7 @@ impl<'a, G: Gate> RunningOperation<'a, G> {
     }
 
     /// Makes room for an operation in a store of so many partitions, for every call that it can send, whatever replies come, and
-    /// enters that it began. Where memory was refused, nothing was entered.
+    /// enters that it began. Where an allocation failed, nothing was entered.
     pub(crate) fn prepare(
         &mut self,
         alloc: Global,

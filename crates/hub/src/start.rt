@@ -67,7 +67,7 @@ impl EndedCount {
     }
 }
 
-/// A value that several threads are to hold. The one fault is that memory was refused.
+/// A value that several threads are to hold. The one fault is that an allocation failed.
 pub fn share<T: Drop>(alloc: Global, value: T) -> Result<Arc<T>, HubFault>
     ensures shared { IfOk result (λ shared. arc_value shared ≡ value) }
     ensures refused { IfErr result (λ fault. fault ≡ HubFault.OutOfMemory) }
@@ -78,7 +78,7 @@ pub fn share<T: Drop>(alloc: Global, value: T) -> Result<Arc<T>, HubFault>
     }
 }
 
-/// What collects the tenants of a store that is opened with this. The one fault is that memory was refused.
+/// What collects the tenants of a store that is opened with this. The one fault is that an allocation failed.
 pub fn collector_of(alloc: Global, config: &Config) -> Result<Arc<Collector>, HubFault>
     ensures { IfErr result (λ fault. fault ≡ HubFault.OutOfMemory) }
 {
@@ -97,7 +97,7 @@ pub struct PartitionLists {
 }
 
 impl PartitionLists {
-    /// Empty lists with room for so many partitions. The one error is that memory was refused.
+    /// Empty lists with room for so many partitions. The one error is that an allocation failed.
     pub fn of(alloc: Global, parts: usize) -> Result<PartitionLists, AllocError>
         ensures shards { IfOk result (λ lists. (lists.shards.items ≡ []) × (vec_len lists.shards ≡ 0) × (parts ≤ vec_capacity lists.shards)) }
         ensures queues { IfOk result (λ lists. (lists.queues.items ≡ []) × (vec_len lists.queues ≡ 0) × (parts ≤ vec_capacity lists.queues)) }
@@ -164,7 +164,7 @@ pub fn start_all<
     Ok(())
 }
 
-/// The shard of a partition, whose book has no event yet. The one fault is that memory was refused.
+/// The shard of a partition, whose book has no event yet. The one fault is that an allocation failed.
 fn shard_of(
     alloc: Global,
     config: &Config,

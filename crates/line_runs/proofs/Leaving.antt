@@ -41,7 +41,7 @@ module _ {S : Type 0} (replies : S → List (List ℕ) → List ℕ → Type 0) 
       let begun = leaves_begun now next (held ++ piece) new now_written last after n fault leaves adds in
       begins_in_front replies first now next none held piece begun.1 reads begun.2 input left rest old new last begun.0 run eats begun.4 begun.3
 
-  -- memory was refused, and what is gathered was written
+  -- an allocation failed, and what is gathered was written
   pub stops_after_fault : (first now next : S) (held piece : List ℕ) (reads : ℕ) (input left rest old new now_written last : Option (List ℕ)) (after : List ℕ)
       → IsRunning replies first now held reads input left old new → Consumes left rest piece
       → LeavesOff replies now next (held ++ piece) new now_written [] after OutOfMemory → Appends now_written last after

@@ -42,7 +42,7 @@ pub fn run_lines<S: LineService, R: Read, W: Write>(
     // At a fault a prefix of the lines is answered: all that were read, where it was no write and no allocation failure.
     ensures failed { IfErr result (FailsSo (S.replies service.old) (R.remaining reader.old) (R.remaining reader.new)
         (W.contents writer.old) (W.contents writer.new)) }
-    // Where memory was refused, the service stands behind the lines that are answered.
+    // Where an allocation failed, the service stands behind the lines that are answered.
     ensures memory { IfErr result (λ fault. fault ≡ OutOfMemory
         → StopsAt S.replies service.old service.new (R.remaining reader.old) (W.contents writer.old) (W.contents writer.new)) }
 {

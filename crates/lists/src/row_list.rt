@@ -37,7 +37,7 @@ impl<T> Model for RowList<T> {
 }
 
 impl<T> RowList<T> {
-    /// An empty list with room for so many elements. The one error is that the memory was refused.
+    /// An empty list with room for so many elements. The one error is that the allocation failed.
     pub fn open(alloc: Global, room: u32) -> Result<RowList<T>, AllocError>
     where
         T: Drop,

@@ -122,7 +122,7 @@ impl PackedList {
         append_record(&mut self.bytes, &mut self.ends, mark, version);
     }
 
-    /// Puts entries of another list, so many from a place on, at the end. The one error is that memory was refused; some of them
+    /// Puts entries of another list, so many from a place on, at the end. The one error is that an allocation failed; some of them
     /// may be there then.
     pub fn push_part(
         &mut self,

@@ -70,7 +70,7 @@ impl Base {
         }
     }
 
-    /// A copy of it, which shares what it holds of its items. The one error is that memory was refused.
+    /// A copy of it, which shares what it holds of its items. The one error is that an allocation failed.
     pub fn copied(&self, alloc: Global) -> Result<Base, AllocError>
         ensures { IfOk result (λ base. base ≡ self.now) }
     {

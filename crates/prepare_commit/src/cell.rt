@@ -124,7 +124,7 @@ impl Cell {
     /// An empty cell of a tenant, with room for `slots` versions, for the entries of `items` items and for the marks of
     /// `clients` clients, of each 1 to 65536 in this store, in a block with no version of this tenant. The chains, the list
     /// of the versions, the entries, the index, the marks and the list of the changed chains are reserved here, so that no later call takes memory; it
-    /// takes time for each item. The one error is that this memory was refused.
+    /// takes time for each item. The one error is that this allocation failed.
     #[tactic(auto, using(crate::proofs::StandsAfter::empty_stands))]
     pub fn open(
         alloc: Global,
@@ -142,7 +142,7 @@ impl Cell {
         Ok(cell)
     }
 
-    // An empty cell with this room, of a tenant. The one error is that memory was refused.
+    // An empty cell with this room, of a tenant. The one error is that an allocation failed.
     fn with_room(
         alloc: Global,
         slots: u32,
@@ -170,7 +170,7 @@ impl Cell {
     /// A cell of a tenant that holds what a base does, with the base's room, in a block with no version of this tenant, of
     /// which as many cells are free as the base has slots. It stands for every log that the base stands for. It takes the
     /// memory that `open` takes, and for the time of the call lists of the versions and of their places; it puts the versions in the order
-    /// of their stamps, so that each takes the time of a binary search. The one error is that the memory was refused; the
+    /// of their stamps, so that each takes the time of a binary search. The one error is that the allocation failed; the
     /// block is then as it was.
     pub fn at(
         alloc: Global,
@@ -490,7 +490,7 @@ impl Cell {
 
     /// What the cell holds, as a base. It packs the versions of each item that a call may have changed since the last base was cut of
     /// the cell, or the cell began at one; the others lie in parts that the base shares. The condition is that the cell stands for
-    /// some log. The one error is that memory was refused.
+    /// some log. The one error is that an allocation failed.
     pub fn base(&self, block: &Block) -> Result<Base, AllocError>
         requires lies { LiesIn block.now self.now }
         requires log { (log : Log) × IsSound self.now.room log × StandsFor (content_in block.now self.now) log }
@@ -541,7 +541,7 @@ impl Cell {
         }
     }
 
-    // Shares the parts of what is held, which is just what the items have. The one error is that memory was refused; nothing
+    // Shares the parts of what is held, which is just what the items have. The one error is that an allocation failed; nothing
     // changes then.
     fn begin(&mut self, held: &Held) -> Result<(), AllocError>
         requires { (block : Cells) × LiesIn block self.old × (held.now ≡ holdings self.old.items (chain_lists block self.old.chains)) }
@@ -556,7 +556,7 @@ impl Cell {
         Ok(())
     }
 
-    // What the items have. The one error is that memory was refused.
+    // What the items have. The one error is that an allocation failed.
     fn held(&self, alloc: Global, block: &Block) -> Result<Held, AllocError>
         requires { LiesIn block.now self.now }
         ensures { IfOk result (λ held. held ≡ holdings self.now.items (chain_lists block.now self.now.chains)) }
@@ -566,7 +566,7 @@ impl Cell {
 
     /// Whether the cell holds just what a base does, with the base's room. Of an item that no call changed since the last base it
     /// compares where it lies, where both have the same parts, which it finds by their bytes; it visits the versions of the others.
-    /// The one error is that memory was refused, for copies of versions.
+    /// The one error is that an allocation failed, for copies of versions.
     pub fn holds(&self, block: &Block, base: &Base) -> Result<bool, AllocError>
         requires { LiesIn block.now self.now }
         ensures { IfOk result (λ yes. IsTrue yes ↔ (base_of block.now self.now ≡ base.now)) }
@@ -587,7 +587,7 @@ impl Cell {
         self.slots == base.slots && self.items == base.items && self.clients == base.clients
     }
 
-    // Whether the items have just what is held. The one error is that memory was refused.
+    // Whether the items have just what is held. The one error is that an allocation failed.
     fn has(&self, block: &Block, held: &Held) -> Result<bool, AllocError>
         requires { LiesIn block.now self.now }
         ensures { IfOk result (λ yes. IsTrue yes ↔ (holdings self.now.items (chain_lists block.now self.now.chains) ≡ held.now)) }

@@ -28,7 +28,7 @@ impl Model for ChangedChains {
 }
 
 impl ChangedChains {
-    /// So many chains, of which none is noted. The one error is that the memory was refused.
+    /// So many chains, of which none is noted. The one error is that the allocation failed.
     pub(crate) fn open(alloc: Global, chains: u32) -> Result<ChangedChains, AllocError>
         ensures { IfOk result (λ changed. changed ≡ replicate chains false) }
     {

@@ -18,7 +18,7 @@ use std::alloc::{AllocError, Global};
 use version_chain::{Block, ChainList, VersionList};
 
 /// What the items have. Of an item whose chain was noted the versions are packed, in one part more; any other lies in a part
-/// already, at the spot of its chain, and its chain is not visited. The one error is that memory was refused.
+/// already, at the spot of its chain, and its chain is not visited. The one error is that an allocation failed.
 pub(crate) fn held_items(
     alloc: Global,
     block: &Block,
@@ -56,7 +56,7 @@ pub(crate) fn held_items(
 }
 
 /// Packs an item's versions at the end of a list, and puts where they end there at the end of a list of such places. The one error
-/// is that memory was refused.
+/// is that an allocation failed.
 fn put_chain(
     found: &mut VersionList,
     ends: &mut Vec<usize>,
@@ -95,7 +95,7 @@ pub(crate) fn set_spots(
 }
 
 /// Whether the items have just what is held. An item whose chain was not noted is known by where it lies, in a part that is found to
-/// be the same, and its chain is not visited. The one error is that memory was refused.
+/// be the same, and its chain is not visited. The one error is that an allocation failed.
 pub(crate) fn has_items(
     alloc: Global,
     block: &Block,
@@ -148,7 +148,7 @@ fn is_place(one: EntryPosition, other: EntryPosition) -> bool
     one == other
 }
 
-/// Whether an item has what lies at a place. The one error is that memory was refused, for a copy of its versions.
+/// Whether an item has what lies at a place. The one error is that an allocation failed, for a copy of its versions.
 fn has_item(
     alloc: Global,
     block: &Block,

@@ -44,7 +44,7 @@ pub(crate) fn add_items(items: &mut RowList<ChainedItem>, held: &Held)
     }
 }
 
-/// The places of versions in their list, those of lesser stamps first. The one error is that memory was refused.
+/// The places of versions in their list, those of lesser stamps first. The one error is that an allocation failed.
 pub(crate) fn by_stamps(
     alloc: Global,
     versions: &VersionList,

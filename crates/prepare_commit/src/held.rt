@@ -68,7 +68,7 @@ impl Held {
         self.parts.entry(self.places[nth])
     }
 
-    /// The versions of all entries, in their order. The one error is that memory was refused.
+    /// The versions of all entries, in their order. The one error is that an allocation failed.
     pub(crate) fn versions(&self, alloc: Global) -> Result<VersionList, AllocError>
         ensures { IfOk result (λ list. list ≡ together (lists_in self.now)) }
     {
@@ -97,7 +97,7 @@ impl Held {
         true
     }
 
-    /// A copy of it, which shares its parts. The one error is that memory was refused.
+    /// A copy of it, which shares its parts. The one error is that an allocation failed.
     pub(crate) fn copied(&self, alloc: Global) -> Result<Held, AllocError>
         ensures { IfOk result (λ held. held ≡ self.now) }
     {

@@ -15,7 +15,7 @@ pub(crate) struct LastBase {
 }
 
 impl LastBase {
-    /// No base, with so many chains. The one error is that the memory was refused.
+    /// No base, with so many chains. The one error is that the allocation failed.
     pub(crate) fn none(alloc: Global, chains: u32) -> Result<LastBase, AllocError>
         ensures spots { IfOk result (λ last. length last.spots.items ≡ chains) }
         ensures since { IfOk result (λ last. length last.since ≡ chains) }

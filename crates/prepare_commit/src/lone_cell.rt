@@ -43,7 +43,7 @@ impl Model for LoneCell {
 impl LoneCell {
     /// An empty cell, with room for `slots` versions, for the entries of `items` items and for the marks of `clients`
     /// clients, and a block of `slots` cells. All memory is taken here; it takes time for each item, and touches no slot.
-    /// The one error is that the memory was refused, as it is where there are more than `Block::MOST_CELLS` slots.
+    /// The one error is that the allocation failed, as it is where there are more than `Block::MOST_CELLS` slots.
     pub fn open(alloc: Global, slots: u32, items: u32, clients: u32) -> Result<LoneCell, AllocError>
         ensures room { IfOk result (λ cell. cell.room ≡ record { slots = slots; items = items; clients = clients }) }
         ensures empty { IfOk result (λ cell. StandsFor cell []) }

@@ -58,7 +58,7 @@ impl BasePart {
         &self.entries[at]
     }
 
-    /// Puts the versions of an entry at the end of a list. The one error is that memory was refused.
+    /// Puts the versions of an entry at the end of a list. The one error is that an allocation failed.
     fn put_to(&self, at: usize, list: &mut VersionList) -> Result<(), AllocError>
         requires { at < length self.now }
         ensures { OnOk result ((h : Holding) → slice_get self.now at ≡ Some h → list.new ≡ list.old ++ h.versions) }
@@ -125,7 +125,7 @@ impl PartList {
         self.parts.len()
     }
 
-    /// The same parts once more, shared. The one error is that memory was refused.
+    /// The same parts once more, shared. The one error is that an allocation failed.
     pub(crate) fn copied(&self, alloc: Global) -> Result<PartList, AllocError>
         ensures { IfOk result (λ list. list ≡ self.now) }
     {
@@ -136,7 +136,7 @@ impl PartList {
         Ok(PartList { parts })
     }
 
-    /// Puts a part at the end. The one error is that memory was refused.
+    /// Puts a part at the end. The one error is that an allocation failed.
     pub(crate) fn push(&mut self, alloc: Global, part: BasePart) -> Result<(), AllocError>
         ensures { OnOk result (self.new ≡ self.old ++ part ∷ []) }
     {
@@ -165,7 +165,7 @@ impl PartList {
         self.part(place.part).entry(place.at)
     }
 
-    /// Puts the versions at a place at the end of a list. The one error is that memory was refused.
+    /// Puts the versions at a place at the end of a list. The one error is that an allocation failed.
     pub(crate) fn put_to(
         &self,
         place: EntryPosition,

@@ -38,7 +38,7 @@ impl Model for Replica {
 
 impl Replica {
     /// What a base holds, with its room. It takes all memory that its calls will want, and time for each item and each version.
-    /// The one error is that the memory was refused, as it also is for more than `Block::MOST_CELLS` slots.
+    /// The one error is that the allocation failed, as it also is for more than `Block::MOST_CELLS` slots.
     pub fn at(alloc: Global, base: &Base) -> Result<Replica, AllocError>
         ensures { IfOk result (λ replica. replica ≡ base.now) }
     {
@@ -59,7 +59,7 @@ impl Replica {
         self.cell.holds(&self.block, base)
     }
 
-    /// What it holds, as a base. It visits each item and each version once. The one error is that memory was refused.
+    /// What it holds, as a base. It visits each item and each version once. The one error is that an allocation failed.
     pub fn base(&self) -> Result<Base, AllocError>
         ensures { IfOk result (λ base. base ≡ self.now) }
     {
@@ -67,7 +67,7 @@ impl Replica {
     }
 
     /// Whether it holds just what a base does, as `is` reports. Where it does, it shares the base's parts then: of the items that no call
-    /// changes, the next base is found to have the same where it has the same parts. The one error is that memory was refused.
+    /// changes, the next base is found to have the same where it has the same parts. The one error is that an allocation failed.
     pub fn begins_at(&mut self, base: &Base) -> Result<bool, AllocError>
         ensures exact { IfOk result (λ yes. IsTrue yes ↔ (self.old ≡ base.now)) }
         ensures same { self.new ≡ self.old }

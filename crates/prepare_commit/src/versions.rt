@@ -33,7 +33,7 @@ pub(crate) struct Versions {
 
 impl Versions {
     /// So many empty chains of a tenant, with room for `slots` versions in all, in a block with no version of this
-    /// tenant. The one error is that the memory was refused.
+    /// tenant. The one error is that the allocation failed.
     pub(crate) fn open(
         alloc: Global,
         slots: u32,
@@ -79,7 +79,7 @@ impl Versions {
     }
 
     /// Packs a chain's versions at the end of a list, the latest first, each with its mark. It visits each of them once. The
-    /// one error is that memory was refused.
+    /// one error is that an allocation failed.
     pub(crate) fn pack_to(
         &self,
         block: &Block,

@@ -44,7 +44,7 @@ impl Model for TagIndex {
 
 impl TagIndex {
     /// An index with room for so many keys, in this store 1 to 65536, of which none is known. Both lists are reserved
-    /// here. The one error is that this memory was refused.
+    /// here. The one error is that this allocation failed.
     pub fn open(alloc: Global, items: u32) -> Result<TagIndex, AllocError>
         ensures value { IfOk result (λ index. index ≡ record { room = items; tags = map.empty }) }
         ensures law { IfOk result (λ index. IsIndexOf index.tags []) }

@@ -23,7 +23,7 @@ pub enum Status {
     NotWell,
 }
 
-/// The whole text of an answer with this body. The connection ends behind it. The one error is that memory was refused.
+/// The whole text of an answer with this body. The connection ends behind it. The one error is that an allocation failed.
 pub fn response(alloc: Global, status: Status, body: &str) -> Result<String, AllocError>
     ensures { IfOk result (λ text. string_bytes text ≡ response_text status body.now) }
 {

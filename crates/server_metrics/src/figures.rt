@@ -13,7 +13,7 @@ pub(crate) struct Label<'a> {
     pub value: &'a str,
 }
 
-/// Appends the two lines that come before the figures of a family. Where memory is refused, a part of them may be there.
+/// Appends the two lines that come before the figures of a family. Where an allocation fails, a part of them may be there.
 pub(crate) fn put_family(text: &mut String, family: Family) -> Result<(), AllocError>
     ensures { OnOk result (string_bytes text.new ≡ string_bytes text.old ++ family_text family) }
 {
@@ -40,7 +40,7 @@ fn put_kind(text: &mut String, family: Family) -> Result<(), AllocError>
     text.push_str(kind_text(family))
 }
 
-/// Appends the line of a family's figure. Where memory is refused, a part of it may be there.
+/// Appends the line of a family's figure. Where an allocation fails, a part of it may be there.
 pub(crate) fn put_figure(
     text: &mut String,
     family: Family,

@@ -88,7 +88,7 @@ fn are_right(rows: &[Row<'_>]) -> bool
     rows.iter().all(|row| !row.is_wrong)
 }
 
-/// Appends the metrics that were read. Where memory is refused, a part of them may be there.
+/// Appends the metrics that were read. Where an allocation fails, a part of them may be there.
 pub fn put_metrics(text: &mut String, readings: &Readings<'_>) -> Result<(), AllocError>
     ensures { OnOk result (string_bytes text.new ≡ string_bytes text.old ++ metrics_text readings.now) }
 {

@@ -103,7 +103,7 @@ impl StatusPort {
     }
 
     // Answers the request of a connection. One that sends nothing, or takes too long, gets no answer, and so does one for whose
-    // answer memory was refused.
+    // answer an allocation failed.
     fn answer<H: Wait>(&self, rt: &H, alloc: Global, watched: &Watched<'_>, stream: &TcpStream) {
         let patience = Some(Duration::from_secs(PATIENCE));
         if stream.set_read_timeout(patience).is_err()
@@ -177,7 +177,7 @@ impl StatusPort {
     }
 }
 
-// The text that answers a request. The one error is that memory was refused.
+// The text that answers a request. The one error is that an allocation failed.
 fn answer_to<H: Wait>(
     rt: &H,
     alloc: Global,

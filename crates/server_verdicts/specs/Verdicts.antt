@@ -67,7 +67,7 @@ pub record TellsSome (IsVerdict : ℕ → Bool → Type 0) (word : List ℕ) (te
   pub written : Appends old new (take size (lines_text (verdict_line word) verdicts names))
 
 -- What was reported of verdicts that ended so: all of them, which are all yes where it ended well, and not all where it
--- ended with Settle; a beginning where memory was refused or a device failed. It ends in no other way.
+-- ended with Settle; a beginning where an allocation failed or a device failed. It ends in no other way.
 abbrev pub TellsEach : (ℕ → Bool → Type 0) → List ℕ → ℕ → List (List ℕ) → Option (List ℕ) → Option (List ℕ)
     → Result (Unit {0}) ProgramFault → Type 0
 TellsEach IsVerdict word tenants names old new (Ok done) = TellsAll IsVerdict word tenants names true old new
@@ -83,7 +83,7 @@ abbrev pub TellsVerdicts : Closed → List (List ℕ) → Option (List ℕ) → 
     → Result (Unit {0}) ProgramFault → Type 0
 TellsVerdicts closed = TellsEach (IsVerdictOf closed) (codes "settled ") (length closed.config.limits.items)
 
--- What was written where a line could not be told: nothing where memory was refused, and where a device failed a
+-- What was written where a line could not be told: nothing where an allocation failed, and where a device failed a
 -- beginning of such a line. There is no other reason.
 abbrev pub BreaksOff : (List ℕ → Type 0) → Option (List ℕ) → Option (List ℕ) → ProgramFault → Type 0
 BreaksOff IsLine old new Settle = ⊥

@@ -38,7 +38,7 @@ impl Judge for Closed {
 /// Settles the tenants of a store that was closed, and writes a line for each, in the order of the names: `settled`, its
 /// name, and `yes` where `settle` answered a list, else `no`.
 ///
-/// It fails with `Settle` where all lines were written and one says `no`; with `OutOfMemory` where memory was refused, and
+/// It fails with `Settle` where all lines were written and one says `no`; with `OutOfMemory` where an allocation failed, and
 /// with `Device` where a write failed: no more is written then.
 pub fn tell_verdicts<W: Write>(
     alloc: Global,

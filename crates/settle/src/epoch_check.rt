@@ -39,7 +39,7 @@ fn end_of(alloc: Global, replica: &mut Replica, epoch: &Epoch) -> Result<Option<
 }
 
 /// Whether an epoch is sound that begins at the content of this replica. Where it is, the replica holds then what the epoch
-/// leads to. Where it is not, or memory was refused, it holds what some of the calls left.
+/// leads to. Where it is not, or an allocation failed, it holds what some of the calls left.
 ///
 /// It takes time for each event. Nothing is opened, compared or copied.
 pub fn play_epoch(alloc: Global, replica: &mut Replica, epoch: &Epoch) -> Result<bool, OutOfMemory>

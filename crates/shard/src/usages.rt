@@ -8,7 +8,7 @@ use std::alloc::AllocError;
 use std::sync::Wait;
 
 impl ShardState {
-    /// Puts how much each tenant uses, in their order, in place of what the list has. The one error is that memory was refused.
+    /// Puts how much each tenant uses, in their order, in place of what the list has. The one error is that an allocation failed.
     fn put_usages(&self, usages: &mut Vec<Usage>) -> Result<(), AllocError>
         ensures { OnOk result (AreUsagesOf self.now.book usages.new.items) }
     {
@@ -39,7 +39,7 @@ impl ShardState {
 impl Shard {
     /// Puts how much each tenant uses of this partition, one of so many, in their order and at one moment, in place of what the
     /// list has. It takes the lock, and time for each tenant, and visits none of what they hold. Says whether it is that
-    /// partition. The one error is that memory was refused.
+    /// partition. The one error is that an allocation failed.
     pub fn put_usages<R: Wait>(
         &self,
         rt: &R,

@@ -22,7 +22,7 @@ use std::thread;
 trait ReplyTo {
     ghost has_come: { Self → Told → Type 0 } = { λ _ _. Unit {0} };
 
-    /// Sends the reply. Hands it back where memory was refused; where the seat is gone the reply is dropped.
+    /// Sends the reply. Hands it back where an allocation failed; where the seat is gone the reply is dropped.
     fn try_reply<R: Wait>(&self, rt: &R, reply: SeatReply) -> Option<SeatReply>
         ensures sent { IfNone result (has_come self.now reply) }
         ensures back { IfSome result (λ back. back ≡ reply) };
@@ -39,7 +39,7 @@ impl ReplyTo for Sender<SeatReply> {
     }
 }
 
-// Sends the reply, again and again where memory was refused.
+// Sends the reply, again and again where an allocation failed.
 fn send_reply<T: ReplyTo, R: Wait>(rt: &R, to: &T, reply: SeatReply)
     ensures { T.has_come to.now reply }
 {

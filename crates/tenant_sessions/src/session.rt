@@ -72,7 +72,7 @@ impl ClientSession {
     ghost use Rattle.tenant_sessions.specs.Showing.{IsShown, Shows};
     ghost use Rattle.tenant_sessions.specs.declared.running.Running.{Running};
 
-    /// The session that a client's first hello opens. It fails where its memory was refused.
+    /// The session that a client's first hello opens. It fails where its allocation failed.
     pub fn hello(alloc: Global, base: Counter) -> Result<ClientSession, OutOfMemory>
         ensures { IfOk result (λ session. session ≡ record { is_open = true; counter = base; ticket = 0; running = None }) }
     {

@@ -1,4 +1,4 @@
-//! The world beside the reference interpreter, over generated lists of steps, and where memory is refused.
+//! The world beside the reference interpreter, over generated lists of steps, and where an allocation fails.
 mod generated;
 mod refused_growth;
 

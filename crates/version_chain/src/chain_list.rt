@@ -35,7 +35,7 @@ impl ChainList {
         ChainList { versions, ends }
     }
 
-    /// Puts a chain's versions at the end of a list, byte by byte. The one error is that memory was refused; some of them may be
+    /// Puts a chain's versions at the end of a list, byte by byte. The one error is that an allocation failed; some of them may be
     /// there then.
     pub fn put_to(&self, at: usize, list: &mut VersionList) -> Result<(), AllocError>
         requires { at < length self.now }

@@ -75,7 +75,7 @@ impl Chains {
     ghost use Rattle.version_chain.specs.declared.chains.Insert.TheVariants.{Added, Same, Other, Full};
 
     /// So many empty chains of a tenant, which may have `cells` cells, in a block with no version of this tenant. It
-    /// takes time for each chain, and memory for each chain and each cell. The one error is that this memory was refused.
+    /// takes time for each chain, and memory for each chain and each cell. The one error is that this allocation failed.
     pub fn open(alloc: Global, cells: u32, chains: u32, tenant: u32) -> Result<Chains, AllocError>
         ensures shape { IfOk result (λ opened. (opened.tenant ≡ tenant) × (opened.share ≡ cells) × (length opened.heads ≡ chains)) }
         ensures none_used { IfOk result (λ opened. opened.used ≡ 0) }
@@ -608,7 +608,7 @@ impl Chains {
     }
 
     /// Packs a chain's versions at the end of a list, the latest first, each with its mark. It visits each of them once. The
-    /// one error is that memory was refused; the list then has some of them more.
+    /// one error is that an allocation failed; the list then has some of them more.
     pub fn pack_to(
         &self,
         block: &Block,
@@ -861,7 +861,7 @@ impl Chains {
     }
 }
 
-// So many places with no slot. The one error is that the memory was refused.
+// So many places with no slot. The one error is that the allocation failed.
 fn no_slots(alloc: Global, count: u32) -> Result<Vec<Option<Slot>>, AllocError>
     ensures { IfOk result (λ slots. slots.items ≡ replicate count None) }
 {

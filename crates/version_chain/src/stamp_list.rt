@@ -42,7 +42,7 @@ impl Model for StampList {
 }
 
 impl StampList {
-    /// An empty list with room for so many. The one error is that the memory was refused.
+    /// An empty list with room for so many. The one error is that the allocation failed.
     pub(crate) fn open(alloc: Global, room: u32) -> Result<StampList, AllocError>
         ensures { IfOk result (λ list. list ≡ record { room = room; kept = [] }) }
     {

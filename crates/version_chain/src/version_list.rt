@@ -37,7 +37,7 @@ impl VersionList {
         }
     }
 
-    /// No versions, with room for so many small ones. The one error is that memory was refused.
+    /// No versions, with room for so many small ones. The one error is that an allocation failed.
     pub fn with_room(alloc: Global, versions: usize) -> Result<VersionList, AllocError>
         ensures { IfOk result (λ list. list ≡ []) }
     {
@@ -69,7 +69,7 @@ impl VersionList {
         unpacked(self.list.get(at))
     }
 
-    /// Packs a version at the end. The one error is that memory was refused; the versions are then as they were.
+    /// Packs a version at the end. The one error is that an allocation failed; the versions are then as they were.
     pub fn push(&mut self, version: &Version) -> Result<(), AllocError>
         ensures ok { OnOk result (self.new ≡ self.old ++ version.now ∷ []) }
         ensures err { OnErr result (self.new ≡ self.old) }

@@ -56,7 +56,7 @@ pub nothing_told : (view : ConfigView) (names : List (List ℕ)) (writer : Optio
 nothing_told view names writer fault (inl same) = subst (λ (f : ProgramFault). HasServed view names writer writer (Err f)) (sym same) (inl (Keeps-refl writer))
 nothing_told view names writer fault (inr same) = subst (λ (f : ProgramFault). HasServed view names writer writer (Err f)) (sym same) (inl (0, omega arith, (0, Appends-nil writer)))
 
--- a server whose epochs were checked told its port and nothing else, since memory was refused
+-- a server whose epochs were checked told its port and nothing else, since an allocation failed
 pub no_room_to_check : (view : ConfigView) (names : List (List ℕ)) (old new : Option (List ℕ)) (closed : Closed)
     → HasListened old new (Ok tt) → IsClosed view closed → 0 < view.epoch → HasServed view names old new (Err OutOfMemory)
 no_room_to_check view names old new closed listened opened cut =
@@ -111,7 +111,7 @@ port_then IsVerdict word tenants names port old between new told (Err Options) f
 port_then IsVerdict word tenants names port old between new told (Err OutOfMemory) first h ends = tt
 port_then IsVerdict word tenants names port old between new told (Err Device) first h ends = tt
 
--- nothing was reported behind the line of the port, since memory was refused
+-- nothing was reported behind the line of the port, since an allocation failed
 port_alone : (port : ℕ) (old new : Option (List ℕ)) (told ended : Result (Unit {0}) ProgramFault) → told ≡ Err OutOfMemory → EndsAfter told ended → TellsPortFirst port old new ended
 port_alone port old new told (Ok done) none (before, may, is) = absurd (let bad : Err OutOfMemory ≡ Ok tt = sym none ∙ told_well before told (sym is) in cc)
 port_alone port old new told (Err Settle) none (before, may, is) = absurd (let bad : Err OutOfMemory ≡ Err Settle = sym none ∙ told_wrong before told may (sym is) in cc)

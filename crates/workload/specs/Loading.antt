@@ -30,7 +30,7 @@ pub record TellsLoad (closed : Closed) (names : List (List ℕ)) (old new : Opti
   pub verdicts : TellsVerdicts closed names between new ended
 
 -- What was reported of one load that ended so: its counts and all verdicts, which are all yes where it ended well, and not
--- all where it ended with Settle. Where memory was refused or a device failed, it told some counts, or all and some
+-- all where it ended with Settle. Where an allocation failed or a device failed, it told some counts, or all and some
 -- verdicts. It ends in no other way.
 abbrev pub IsToldOfLoad : Closed → List (List ℕ) → Option (List ℕ) → Option (List ℕ)
     → Result (Unit {0}) ProgramFault → Type 0
@@ -115,7 +115,7 @@ pub record IsToldOf (epoch : ℕ) (closed : Closed) (names : List (List ℕ)) (o
   pub cut : 0 < epoch
       → (epochs : List (ℕ × ℕ × Epoch)) × AreAllThere closed epochs × IsToldOfKept closed epochs names old new ended
 
--- nothing was written, since memory was refused or a thread could not be started
+-- nothing was written, since an allocation failed or a thread could not be started
 abbrev pub TellsNothing : Option (List ℕ) → Option (List ℕ) → Result (Unit {0}) ProgramFault → Type 0
 TellsNothing old new ended = ((ended ≡ Err OutOfMemory) ⊎ (ended ≡ Err Device)) × Keeps old new
 

@@ -41,7 +41,7 @@ ended_as Whole = Ok tt
 ended_as EndsTooLong = Err LineTooLong
 ended_as EndsCut = Err Cut
 
--- What a program did that ended so. Where memory was refused, nothing was written, or the answers to a prefix of the
+-- What a program did that ended so. Where an allocation failed, nothing was written, or the answers to a prefix of the
 -- lines; where a device failed, a part of the text or a beginning of the answers to a prefix of the lines.
 abbrev pub Runs : List (List ℕ) → Option (List ℕ) → Option (List ℕ) → Option (List ℕ)
     → Result (Unit {0}) ProgramFault → Type 0

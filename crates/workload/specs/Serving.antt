@@ -21,7 +21,7 @@ use Rattle.server_sessions.specs.Ports.{IsPortFor}
 abbrev pub listening_line : ℕ → List ℕ
 listening_line port = terminated (codes "listening " ++ decimal port)
 
--- What a server wrote of its port that went so: the line of a port; where memory was refused, nothing; where a device
+-- What a server wrote of its port that went so: the line of a port; where an allocation failed, nothing; where a device
 -- failed, a beginning of that line, which may be none or all of it. It goes in no other way.
 abbrev pub HasListened : Option (List ℕ) → Option (List ℕ) → Result (Unit {0}) ProgramFault → Type 0
 HasListened old new (Ok done) = (port : ℕ) × (port < 2 ^ 16) × Appends old new (listening_line port)
@@ -54,7 +54,7 @@ pub record IsClosed (view : ConfigView) (closed : Closed) : Type 0 where
   pub parts : length closed.journals.items ≡ view.parts
   pub books : AllSoundBooks view 0 closed.journals.items closed.counts.items
 
--- What a server whose epochs were checked told of its tenants: nothing, where memory was refused; or, of what was left
+-- What a server whose epochs were checked told of its tenants: nothing, where an allocation failed; or, of what was left
 -- of their journals in the store that it closed, that it is right with some epochs before it, or that an epoch is not.
 abbrev pub HasChecked : ConfigView → Closed → List (List ℕ) → Option (List ℕ) → Option (List ℕ)
     → Result (Unit {0}) ProgramFault → Type 0
@@ -87,7 +87,7 @@ EndsAfter told ended =
     (before : Result (Unit {0}) ProgramFault) × IsFaultBefore before × (ended ≡ greater_fault before told)
 
 -- What a server wrote that closed its store: the line of a port, and then the verdicts over what the close answered,
--- or, where its journals were cut, those over what was left of them. It told them also where memory was refused to a
+-- or, where its journals were cut, those over what was left of them. It told them also where an allocation failed to a
 -- connection or a device failed before.
 pub record HasClosed (view : ConfigView) (names : List (List ℕ)) (old new : Option (List ℕ))
     (ended : Result (Unit {0}) ProgramFault) : Type 0 where
@@ -102,7 +102,7 @@ pub record HasClosed (view : ConfigView) (names : List (List ℕ)) (old new : Op
 
 -- What a server of such a store wrote that ended so, whether it served so many connections or stayed until its input
 -- ended: its port and all verdicts, which are all yes where it ended well, and not all where it ended with Settle.
--- Where memory was refused, it told its port at most, or its port and some verdicts: all, where it was refused to a
+-- Where an allocation failed, it told its port at most, or its port and some verdicts: all, where it was refused to a
 -- connection alone. Where a device failed, it told a beginning of the line of its port, or its port and the verdicts:
 -- all, unless that device was the one that takes them. It ends in no other way.
 abbrev pub HasServed : ConfigView → List (List ℕ) → Option (List ℕ) → Option (List ℕ)

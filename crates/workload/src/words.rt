@@ -69,7 +69,7 @@ pub fn run_words<
         × (Runs (map string_bytes words.now) (R.remaining reader.old) (W.contents writer.old) (W.contents writer.new) ended
         ⊎ (RunsServer (map string_bytes words.now) (W.contents writer.old) (W.contents writer.new) ended
         ⊎ RunsLoad (map string_bytes words.now) (W.contents writer.old) (W.contents writer.new) ended)) }
-    // Words that ask for help end the program with 0, unless memory was refused or a write failed.
+    // Words that ask for help end the program with 0, unless an allocation failed or a write failed.
     ensures help { AsksForHelp (map string_bytes words.now) → IsHelpStatus result }
     // And so do words that ask for the version.
     ensures version { AsksForVersion (map string_bytes words.now) → IsHelpStatus result }

@@ -163,7 +163,7 @@ module _ (shelves shelves' : List Shelf) (tenants : List Tenant) (number : ℕ) 
       (λ error still. tt)
       (serves setup h refl is (stands.tenants number old at) (stands.cells number old at)))
 
-  -- memory is refused only to a step that may take some
+  -- an allocation fails only to a step that may take some
   pub steps_ask : (step : Step) (result : Result Answer OutOfMemory) → step.tenant ≡ number → AsksLast old step.act result → StepAsksLast world step result
   unfolding store_answer
   steps_ask step result names asks = on_err_map result _ _

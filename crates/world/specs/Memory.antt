@@ -36,7 +36,7 @@ MayTakeMemory history (Stop client) answer = ⊥
 MayTakeMemory history (CollectAt partition) answer = ⊥
 MayTakeMemory history (SetKeep keep) answer = ⊥
 
--- memory was refused to an act of the tenant only where it may take some
+-- an allocation failed to an act of the tenant only where it may take some
 abbrev pub AsksLast : Tenant → Act → Result Answer OutOfMemory → Type 0
 AsksLast tenant act result =
     OnErr result ((setup : Setup) (history : History) → IsRun setup history → TenantStandsFor setup history tenant

@@ -29,7 +29,7 @@ impl Tenant {
     ghost use Rattle.world.specs.Standing.{TenantStandsFor, ServesOrStays, OthersStay, answered_in_place};
     ghost use Rattle.world.specs.Memory.{AsksLast};
 
-    /// A tenant of `parts` partitions that has taken no step. The one error is that memory was refused.
+    /// A tenant of `parts` partitions that has taken no step. The one error is that an allocation failed.
     pub fn open(alloc: Global, parts: u32, limits: &Limits) -> Result<Tenant, OutOfMemory>
         requires { IsParts parts }
         ensures limits { IfOk result (λ tenant. tenant.limits ≡ limits.now) }
@@ -47,7 +47,7 @@ impl Tenant {
         })
     }
 
-    /// Takes one step of the tenant with this number, and writes its answer into the caller's buffer. The one error is that memory was refused.
+    /// Takes one step of the tenant with this number, and writes its answer into the caller's buffer. The one error is that an allocation failed.
     pub fn step(
         &mut self,
         number: u32,

@@ -164,7 +164,7 @@ impl Tenant {
     }
 }
 
-/// The answer that reports a refusal, where the cause is not that memory was refused.
+/// The answer that reports a refusal, where the cause is not an allocation that failed.
 fn refused(refusal: Refusal, answer: &mut Answer) -> Result<(), OutOfMemory>
     ensures { MatchResult (answered_in_place result answer.new) (λ told. (told ≡ Answer.Refused refusal) × (refusal ≢ Refusal.OutOfMemory)) (λ _. refusal ≡ Refusal.OutOfMemory) }
 {

@@ -57,7 +57,7 @@ impl Model for World {
 
 impl World {
     /// A world of `parts` partitions, 1 to 64, with a tenant for each of the limits: the tenant's number is its place
-    /// among them. The one error is that memory was refused.
+    /// among them. The one error is that an allocation failed.
     pub fn open(alloc: Global, parts: u32, limits: &[Limits]) -> Result<World, OutOfMemory>
         requires { IsParts parts }
         ensures parts { IfOk result (λ world. parts_of world ≡ parts) }
@@ -71,7 +71,7 @@ impl World {
 
     /// Takes one step, and answers it. A step that is refused changes nothing.
     ///
-    /// The one error is that memory was refused; then nothing has changed but the room that is reserved for messages. A
+    /// The one error is that an allocation failed; then nothing has changed but the room that is reserved for messages. A
     /// step asks for memory after all its tests, so a step that would be refused asks for none; nor does the loss of a
     /// message, a stop, a collection or a step that sets what collections keep.
     pub fn step(&mut self, step: &Step) -> Result<Answer, OutOfMemory>
@@ -95,7 +95,7 @@ impl World {
         }
     }
 
-    /// Does what `step` does, and writes the answer into the caller's buffer. Where memory was refused, what is left there
+    /// Does what `step` does, and writes the answer into the caller's buffer. Where an allocation failed, what is left there
     /// reports nothing.
     pub fn step_into(&mut self, step: &Step, answer: &mut Answer) -> Result<(), OutOfMemory>
         ensures answer { IfOk (answered_in_place result answer.new) (λ told. (before : List Stepped) → StandsFor self.old before
@@ -138,7 +138,7 @@ impl World {
         Some(self.tenants.get(tenant as usize)?.keep)
     }
 
-    /// Takes the steps in order, and adds the answer of each. Where memory is refused it stops before the step that met
+    /// Takes the steps in order, and adds the answer of each. Where an allocation fails it stops before the step that met
     /// this, and the answers are those to the steps before it.
     pub fn run(&mut self, steps: &[Step], answers: &mut Vec<Answer>) -> Result<(), OutOfMemory>
         ensures ran { (before : List Stepped) → StandsFor self.old before

@@ -17,7 +17,7 @@ type TranscriptIndex = IndexMap<u64, usize>;
 ///
 /// It goes once over the lists, whose seats it looks up in a table, and once over the transcripts, so its time grows with the
 /// number of lists, transcripts and entries that are moved. A transcript before which nothing is put stays where it lies. The
-/// one error is that memory was refused.
+/// one error is that an allocation failed.
 pub(crate) fn put_before(
     alloc: Global,
     transcripts: Vec<Transcript>,

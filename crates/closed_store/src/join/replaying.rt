@@ -70,7 +70,7 @@ fn is_base(one: &Base, other: &Base) -> bool
 }
 
 /// Whether these are the epochs of one journal from its first on, as a book of these limits gives them. The one error is
-/// that memory was refused.
+/// that an allocation failed.
 pub(crate) fn replay(alloc: Global, limits: &Limits, epochs: &[&Epoch]) -> Result<bool, OutOfMemory>
     ensures { IfOk result (λ b. IsTrue b ↔ AreInTurn (room_for limits.now) (map (λ e. e.now) epochs.now)) }
 {

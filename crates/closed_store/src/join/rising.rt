@@ -18,7 +18,7 @@ fn is_late(lasts: &IndexMap<u64, u64>, seat: u64, number: u64) -> bool
     }
 }
 
-/// Whether the numbers of each seat rise. The one error is that memory was refused.
+/// Whether the numbers of each seat rise. The one error is that an allocation failed.
 pub(crate) fn do_rise(alloc: Global, events: &EventList) -> Result<bool, AllocError>
     ensures { IfOk result (λ b. IsTrue b ↔ DoRise events.now.items) }
 {
@@ -50,7 +50,7 @@ fn row_rises(alloc: Global, row: &[Journal]) -> Result<bool, AllocError>
     Ok(true)
 }
 
-/// Whether the numbers of each seat rise in each journal of all partitions. The one error is that memory was refused.
+/// Whether the numbers of each seat rise in each journal of all partitions. The one error is that an allocation failed.
 pub(crate) fn all_rise(alloc: Global, rows: &[Vec<Journal>]) -> Result<bool, AllocError>
     ensures { IfOk result (λ b. IsTrue b ↔ AllRise rows.now) }
 {

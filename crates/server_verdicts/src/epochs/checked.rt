@@ -133,7 +133,7 @@ impl Checked {
     }
 
     /// Takes the epoch that comes next. Where it follows the last one, its number and what it leads to are kept in place
-    /// of those before; else the journal is wrong from then on, and this epoch is kept. Where memory was refused, nothing is
+    /// of those before; else the journal is wrong from then on, and this epoch is kept. Where an allocation failed, nothing is
     /// known of it any more.
     ///
     /// Its calls are played on what the epochs before led to, so it takes time for each of them, and to compare its base.
@@ -177,7 +177,7 @@ fn nothing_yet(alloc: Global, limits: &Limits) -> Reached
 }
 
 /// Whether an epoch follows the one of this number that led to this end, which is then what the epoch leads to; where it does
-/// not follow, the end stays. The one fault is that memory was refused.
+/// not follow, the end stays. The one fault is that an allocation failed.
 fn go_on(alloc: Global, number: u64, end: &mut Reached, epoch: &Epoch) -> Result<bool, OutOfMemory>
     ensures exact { IfOk result (λ yes. IsTrue yes ↔ IsNextEpoch number end.old epoch.now) }
     ensures led { IfOk result (λ yes. IsTrue yes → IsEnd epoch.now.base epoch.now.events.items end.new) }

@@ -42,7 +42,7 @@ impl Reached {
         }
     }
 
-    /// Whether it is what a base holds. The one fault is that memory was refused.
+    /// Whether it is what a base holds. The one fault is that an allocation failed.
     pub(crate) fn is(&self, base: &Base) -> Result<bool, OutOfMemory>
         ensures { IfOk result (λ yes. IsTrue yes ↔ (self.now ≡ base.now)) }
     {
@@ -64,7 +64,7 @@ impl Reached {
     }
 
     /// Whether an epoch is sound that begins there. Where it is, what it leads to is reached then; where it is not, the same
-    /// as before is. The one fault is that memory was refused.
+    /// as before is. The one fault is that an allocation failed.
     pub(crate) fn play(&mut self, alloc: Global, epoch: &Epoch) -> Result<bool, OutOfMemory>
         requires { epoch.now.base ≡ self.old }
         ensures exact { IfOk result (λ yes. IsTrue yes ↔ IsSoundFrom epoch.now.base epoch.now.events.items) }
@@ -80,7 +80,7 @@ impl Reached {
 }
 
 /// Whether an epoch is sound that begins at what is held in a place, which leads on then, in a replica that is opened where
-/// there was none. Where it is not, the place holds what some of its calls left. The one fault is that memory was refused.
+/// there was none. Where it is not, the place holds what some of its calls left. The one fault is that an allocation failed.
 fn play_at(alloc: Global, place: &mut ReachedContent, epoch: &Epoch) -> Result<bool, OutOfMemory>
     requires { epoch.now.base ≡ content_at place.old }
     ensures exact { IfOk result (λ yes. IsTrue yes ↔ IsSoundFrom epoch.now.base epoch.now.events.items) }

@@ -29,7 +29,7 @@ impl Judge for LastEpochs {
 /// names: `checked`, its name, and `yes` where at each partition its journal is there, its epochs were right and the last
 /// one follows them, else `no`.
 ///
-/// It fails with `Settle` where all lines were written and one says `no`; with `OutOfMemory` where memory was refused, now or
+/// It fails with `Settle` where all lines were written and one says `no`; with `OutOfMemory` where an allocation failed, now or
 /// when an epoch of the tenant was checked before, or where its epochs did not come to be checked, and with `Device` where a
 /// write failed: no more is written then.
 pub fn tell_checks<W: Write>(

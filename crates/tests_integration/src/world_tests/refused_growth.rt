@@ -95,7 +95,7 @@ fn steps_of(alloc: Global, lines: &str) -> Option<Vec<Step>> {
     Some(steps)
 }
 
-/// The world of one tenant over two partitions. Where memory is refused once, the second attempt has it.
+/// The world of one tenant over two partitions. Where an allocation fails once, the second attempt has it.
 fn opened(rt: &impl Print, alloc: Global, its: &[Limits]) -> Result<World, Fail> {
     if let Ok(world) = World::open(alloc, 2, its) {
         return Ok(world);
@@ -104,7 +104,7 @@ fn opened(rt: &impl Print, alloc: Global, its: &[Limits]) -> Result<World, Fail>
     Ok(World::open(alloc, 2, its)?)
 }
 
-/// What a world answers. Where memory is refused once, the step that was refused and the rest follow once it is there.
+/// What a world answers. Where an allocation fails once, the step that was refused and the rest follow once it is there.
 fn answers_of(
     rt: &impl Print,
     alloc: Global,

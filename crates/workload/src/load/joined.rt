@@ -40,7 +40,7 @@ pub(crate) fn tell_kept<W: Write>(
 }
 
 /// Joins a store that was closed with its epochs, and writes the verdicts over what they join to. Where they do not join,
-/// each line says `no`; where memory was refused, nothing is written.
+/// each line says `no`; where an allocation failed, nothing is written.
 fn tell_joined<W: Write>(
     alloc: Global,
     closed: Closed,
