@@ -1,1 +1,2 @@
 pub mod PackedEntries
+pub mod Sizes

@@ -1,12 +1,19 @@
 //! Entries, packed at the end of bytes.
 ghost use Rattle.std.specs.Prelude.{◌≡◌, ◌+◌, ◌≤◌, ◌++◌, OnOk, length};
 ghost use Rattle.entry_list.specs.PackedEntries.{packed_entry, IsStoreEntry};
+ghost use Rattle.entry_list.specs.Sizes.{max_took_bytes, max_answered_bytes};
 
 use crate::kinds::Entry;
-use packed::{Buffer, put_number};
-use packed_steps::{put_act, put_answer, put_reply};
+use packed::{Buffer, MAX_NUMBER_BYTES, put_number};
+use packed_steps::{MAX_ANSWER_BYTES, MAX_REPLY_BYTES, put_act, put_answer, put_reply};
 use plain_store::{Act, Answer, Reply};
 use std::alloc::AllocError;
+
+/// The most bytes of a reply's entry: one for its form, a number, a partition, a place and the reply.
+pub const MAX_TOOK_BYTES: usize = 1 + 3 * MAX_NUMBER_BYTES + MAX_REPLY_BYTES;
+
+/// The most bytes of an answer's entry: one for its form, and the answer.
+pub const MAX_ANSWERED_BYTES: usize = 1 + MAX_ANSWER_BYTES;
 
 /// The entry that an operation began. At `Err` some of its bytes may stand there.
 pub fn put_began(out: &mut Buffer, act: &Act) -> Result<(), AllocError>
@@ -18,12 +25,12 @@ pub fn put_began(out: &mut Buffer, act: &Act) -> Result<(), AllocError>
     put_act(out, act)
 }
 
-/// The entry of a reply. It takes up to 745 bytes.
+/// The entry of a reply. It takes up to `MAX_TOOK_BYTES`.
 pub fn put_took(out: &mut Buffer, number: u64, partition: u32, place: u64, reply: &Reply)
-    requires { length out.old.items + 745 ≤ out.old.capacity }
+    requires { length out.old.items + max_took_bytes ≤ out.old.capacity }
     ensures packed { out.new.items ≡ out.old.items ++ packed_entry (Entry.Took number partition place reply.now) }
     ensures stored { IsStoreEntry (Entry.Took number partition place reply.now) }
-    ensures few { length out.new.items ≤ length out.old.items + 745 }
+    ensures few { length out.new.items ≤ length out.old.items + max_took_bytes }
     ensures room { out.old.capacity ≤ out.new.capacity }
 {
     out.push_reserved(1);
@@ -33,12 +40,12 @@ pub fn put_took(out: &mut Buffer, number: u64, partition: u32, place: u64, reply
     put_reply(out, reply);
 }
 
-/// The entry of an answer. It takes up to 3003 bytes.
+/// The entry of an answer. It takes up to `MAX_ANSWERED_BYTES`.
 pub fn put_answered(out: &mut Buffer, answer: &Answer)
-    requires { length out.old.items + 3003 ≤ out.old.capacity }
+    requires { length out.old.items + max_answered_bytes ≤ out.old.capacity }
     ensures packed { out.new.items ≡ out.old.items ++ packed_entry (Entry.Answered answer.now) }
     ensures stored { IsStoreEntry (Entry.Answered answer.now) }
-    ensures few { length out.new.items ≤ length out.old.items + 3003 }
+    ensures few { length out.new.items ≤ length out.old.items + max_answered_bytes }
     ensures room { out.old.capacity ≤ out.new.capacity }
 {
     out.push_reserved(2);

@@ -3,18 +3,14 @@ ghost use Rattle.std.specs.Prelude.{◌≡◌, ◌+◌, ◌<◌, ◌≤◌, ◌^
 ghost use Rattle.entry_list.specs.PackedEntries.{taken_of, answer_of, operation_of, entry_in, IsPackedEntry};
 
 use crate::entry_decoding::{answer_in, operation_in, taken_in, unpacked};
-use crate::entry_encoding::{put_answered, put_began, put_took};
+use crate::entry_encoding::{
+    MAX_ANSWERED_BYTES, MAX_TOOK_BYTES, put_answered, put_began, put_took,
+};
 use crate::kinds::{Entry, Operation, Taken};
 use packed::{Buffer, PackedList};
 use plain_store::{Act, Answer, Reply};
 use std::alloc::{AllocError, Global};
 use std::marker::Model;
-
-/// The most bytes of a reply's entry.
-const MOST_OF_REPLY: usize = 745;
-
-/// The most bytes of an answer's entry.
-const MOST_OF_ANSWER: usize = 3003;
 
 /// Entries, packed one behind the other. Contracts see them in order, and for how many replies there is room: an answer
 /// takes the room of 5.
@@ -39,13 +35,14 @@ impl Drop for EntryList {
 impl Model for EntryList {
     ghost use Rattle.std.specs.Prelude.{◌*◌, ◌<◌, ◌≤◌};
     ghost use Rattle.entry_list.specs.PackedEntries.{ArePackedEntries, EntriesView, entries_in};
+    ghost use Rattle.entry_list.specs.Sizes.{max_took_bytes, max_answered_bytes};
 
     ghost Value = { EntriesView };
 
     ghost view = { λ l. record { items = entries_in l.list.items; room = l.room } };
 
-    ghost invariant = { λ l. ArePackedEntries l.list.items × (l.room ≤ l.list.places) × (745 * l.room ≤ l.list.bytes)
-        × (0 < l.room → 3003 ≤ l.scratch.capacity) };
+    ghost invariant = { λ l. ArePackedEntries l.list.items × (l.room ≤ l.list.places) × (max_took_bytes * l.room ≤ l.list.bytes)
+        × (0 < l.room → max_answered_bytes ≤ l.scratch.capacity) };
 }
 
 impl EntryList {
@@ -151,8 +148,8 @@ impl EntryList {
     {
         self.room = 0;
         self.scratch.clear();
-        self.scratch.reserve(MOST_OF_ANSWER)?;
-        self.list.reserve(room, MOST_OF_REPLY * room)?;
+        self.scratch.reserve(MAX_ANSWERED_BYTES)?;
+        self.list.reserve(room, MAX_TOOK_BYTES * room)?;
         self.room = room;
         Ok(())
     }
@@ -168,10 +165,10 @@ impl EntryList {
         self.room = 0;
         self.scratch.clear();
         put_began(&mut self.scratch, act)?;
-        self.scratch.reserve(MOST_OF_ANSWER)?;
+        self.scratch.reserve(MAX_ANSWERED_BYTES)?;
         let entry = self.scratch.as_slice();
         self.list
-            .reserve(room + 1, MOST_OF_REPLY * room + entry.len())?;
+            .reserve(room + 1, MAX_TOOK_BYTES * room + entry.len())?;
         self.list.push_reserved(entry);
         self.room = room;
         Ok(())

@@ -1,4 +1,5 @@
 pub mod Packing
 pub mod Reading
+pub mod Sizes
 pub mod Cuts
 pub mod Laying

@@ -5,10 +5,13 @@
 ghost use Rattle.std.specs.Prelude.{◌≡◌, ℕ, ◌+◌, ◌*◌, ◌<◌, ◌≤◌, ◌++◌, ◌∷◌, length, take};
 ghost use Rattle.std.specs.Int.{w64, to_le_bytes};
 ghost use Rattle.std.specs.List.{AllByRecursion};
+ghost use Rattle.stamps.specs.Limits.{max_keys};
 ghost use Rattle.stamps.specs.Stamp.{IsStamp};
 ghost use Rattle.stamps.specs.Key.{IsKey};
 ghost use Rattle.packed.specs.Packing.{packed_text, packed_keys, packed_record, IsStoreRecord};
+ghost use Rattle.packed.specs.Sizes.{stamp_bytes, max_key_bytes, max_keys_bytes, max_record_bytes};
 
+use crate::sizes::STAMP_BYTES;
 use stamps::{Key, Record, Stamp};
 
 /// These bytes. Of what is written, any first part may count.
@@ -39,36 +42,36 @@ pub(crate) fn lay_text<const N: usize>(
     at + 1 + len
 }
 
-/// A key behind its length. It takes up to 33 bytes.
+/// A key behind its length. It takes up to `MAX_KEY_BYTES`.
 #[inline(always)]
 fn lay_key(bytes: &mut [u8], at: usize, key: &Key) -> usize
-    requires { at + 33 ≤ length bytes.old }
+    requires { at + max_key_bytes ≤ length bytes.old }
     ensures laid { take result bytes.new ≡ take at bytes.old ++ packed_text key.now }
     ensures stored { IsKey key.now }
-    ensures few { result ≤ at + 33 }
+    ensures few { result ≤ at + max_key_bytes }
 {
     lay_text(bytes, at, key.padded(), key.len())
 }
 
-/// A stamp. It takes 8 bytes.
+/// A stamp. It takes `STAMP_BYTES`.
 #[inline(always)]
 fn lay_stamp(bytes: &mut [u8], at: usize, stamp: Stamp) -> usize
-    requires { at + 8 ≤ length bytes.old }
+    requires { at + stamp_bytes ≤ length bytes.old }
     ensures laid { take result bytes.new ≡ take at bytes.old ++ to_le_bytes w64 stamp }
     ensures stored { IsStamp stamp }
-    ensures few { result ≤ at + 8 }
+    ensures few { result ≤ at + stamp_bytes }
 {
     lay(bytes, at, &stamp.number().to_le_bytes());
-    at + 8
+    at + STAMP_BYTES
 }
 
-/// Up to 16 keys behind their count. They take up to 529 bytes.
+/// A transaction's keys behind their count. They take up to `MAX_KEYS_BYTES`.
 pub(crate) fn lay_keys(bytes: &mut [u8], at: usize, keys: &[Key]) -> usize
-    requires many { length keys.now ≤ 16 }
-    requires room { at + 529 ≤ length bytes.old }
+    requires many { length keys.now ≤ max_keys }
+    requires room { at + max_keys_bytes ≤ length bytes.old }
     ensures laid { take result bytes.new ≡ take at bytes.old ++ packed_keys keys.now }
     ensures stored { AllByRecursion IsKey keys.now }
-    ensures few { result ≤ at + 529 }
+    ensures few { result ≤ at + max_keys_bytes }
 {
     lay(bytes, at, &[keys.len() as u8]);
     let mut end = at + 1;
@@ -78,12 +81,12 @@ pub(crate) fn lay_keys(bytes: &mut [u8], at: usize, keys: &[Key]) -> usize
     end
 }
 
-/// A record, part by part. It takes up to 716 bytes.
+/// A record, part by part. It takes up to `MAX_RECORD_BYTES`.
 pub(crate) fn lay_record(bytes: &mut [u8], at: usize, version: &Record) -> usize
-    requires { at + 716 ≤ length bytes.old }
+    requires { at + max_record_bytes ≤ length bytes.old }
     ensures laid { take result bytes.new ≡ take at bytes.old ++ packed_record version.now }
     ensures stored { IsStoreRecord version.now }
-    ensures few { result ≤ at + 716 }
+    ensures few { result ≤ at + max_record_bytes }
 {
     let tag = lay_key(bytes, at, &version.key);
     let value = lay_text(bytes, tag, version.tag.padded(), version.tag.len());

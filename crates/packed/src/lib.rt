@@ -5,11 +5,15 @@
 mod buffer;
 mod laying;
 mod packed_list;
+mod sizes;
 mod value_decoding;
 mod value_encoding;
 
 pub use buffer::Buffer;
 pub use packed_list::PackedList;
+pub use sizes::{
+    MAX_ITEM_BYTES, MAX_KEY_BYTES, MAX_KEYS_BYTES, MAX_NUMBER_BYTES, MAX_RECORD_BYTES, STAMP_BYTES,
+};
 pub use value_decoding::{
     read_byte, read_count, read_key, read_number, read_record, read_stamp, read_tag, read_value,
     read_writes,

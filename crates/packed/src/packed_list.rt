@@ -2,8 +2,10 @@
 ghost use Rattle.std.specs.Prelude.{◌≡◌, ℕ, ◌+◌, ◌<◌, ◌≤◌, ◌^◌, ◌++◌, ◌∷◌, ◌↔◌, [], length, Some, IsTrue, slice_get, take, drop, IfOk, OnOk, OnErr, vec_len, vec_capacity};
 ghost use Rattle.packed.specs.Cuts.{IsCut, pieces, start_of};
 ghost use Rattle.packed.specs.Packing.{packed_record, IsStoreRecord};
+ghost use Rattle.packed.specs.Sizes.{max_record_bytes};
 
 use crate::Buffer;
+use crate::sizes::MAX_RECORD_BYTES;
 use crate::value_encoding::put_record;
 use stamps::Record;
 use std::alloc::{AllocError, Global};
@@ -11,7 +13,7 @@ use std::marker::Model;
 use std::mem;
 
 /// The most bytes that a byte and a packed record take.
-const MOST_RECORD_BYTES: usize = 717;
+const MAX_MARKED_BYTES: usize = 1 + MAX_RECORD_BYTES;
 
 /// Entries of bytes, packed one behind the other. Contracts see the list of them, and how many more entries and bytes it
 /// has room for: memory is asked for only where that is not enough.
@@ -100,14 +102,14 @@ impl PackedList {
         Ok(())
     }
 
-    /// Puts an entry at the end that is a byte and then a packed record, without a copy of either. It takes up to 717 bytes. At
-    /// `Err` the entries are as they were.
+    /// Puts an entry at the end that is a byte and then a packed record, without a copy of either. It takes up to
+    /// `1 + MAX_RECORD_BYTES`. At `Err` the entries are as they were.
     pub fn push_record(&mut self, mark: u8, version: &Record) -> Result<(), AllocError>
         ensures ok { OnOk result (self.new.items ≡ self.old.items ++ (mark ∷ packed_record version.now) ∷ []) }
         ensures stored { OnOk result (IsStoreRecord version.now) }
         ensures err { OnErr result (self.new.items ≡ self.old.items) }
     {
-        self.reserve(1, MOST_RECORD_BYTES)?;
+        self.reserve(1, MAX_MARKED_BYTES)?;
         self.push_record_reserved(mark, version);
         Ok(())
     }
@@ -115,7 +117,7 @@ impl PackedList {
     // Puts such an entry at the end, for which there is room.
     fn push_record_reserved(&mut self, mark: u8, version: &Record)
         requires place { 0 < self.old.places }
-        requires bytes { 717 ≤ self.old.bytes }
+        requires bytes { 1 + max_record_bytes ≤ self.old.bytes }
         ensures items { self.new.items ≡ self.old.items ++ (mark ∷ packed_record version.now) ∷ [] }
         ensures stored { IsStoreRecord version.now }
     {
@@ -213,7 +215,7 @@ fn append(bytes: &mut Buffer, ends: &mut Vec<usize>, piece: &[u8])
 fn append_record(bytes: &mut Buffer, ends: &mut Vec<usize>, mark: u8, version: &Record)
     requires cut { IsCut 0 ends.old.items (length bytes.old.items) }
     requires place { vec_len ends.old < vec_capacity ends.old }
-    requires room { length bytes.old.items + 717 ≤ bytes.old.capacity }
+    requires room { length bytes.old.items + (1 + max_record_bytes) ≤ bytes.old.capacity }
     ensures cut { IsCut 0 ends.new.items (length bytes.new.items) }
     ensures items { pieces bytes.new.items 0 ends.new.items ≡ pieces bytes.old.items 0 ends.old.items ++ (mark ∷ packed_record version.now) ∷ [] }
     ensures stored { IsStoreRecord version.now }

@@ -5,6 +5,7 @@ mod reading_acts;
 mod reading_answers;
 mod reading_calls;
 mod reading_replies;
+mod step_sizes;
 mod writing_acts;
 mod writing_answers;
 mod writing_calls;
@@ -14,6 +15,7 @@ pub use reading_acts::{read_act, read_client, read_counter, read_item, read_keep
 pub use reading_answers::{read_answer, read_reading, read_readings, read_refusal, read_rows};
 pub use reading_calls::read_call;
 pub use reading_replies::{read_found, read_reply};
+pub use step_sizes::{MAX_ANSWER_BYTES, MAX_CALL_BYTES, MAX_REPLY_BYTES};
 pub use writing_acts::{put_act, put_all_keys, put_item, put_items};
 pub use writing_answers::{put_answer, put_reading, put_readings, put_rows};
 pub use writing_calls::put_call;

@@ -1,20 +1,24 @@
 //! Acts, packed at the end of bytes.
 ghost use Rattle.std.specs.Prelude.{◌≡◌, ◌+◌, ◌≤◌, ◌++◌, OnOk, length};
 ghost use Rattle.packed.specs.Packing.{packed_text};
+ghost use Rattle.packed.specs.Sizes.{max_item_bytes};
 ghost use Rattle.packed_steps.specs.Lists.{packed_list};
 ghost use Rattle.packed_steps.specs.PackedActs.{packed_item, IsStoreItem, AreStoreItems, AreStoreKeys, packed_act, IsStoreAct};
 
-use packed::{Buffer, put_key, put_number, put_tag, put_value};
+use packed::{
+    Buffer, MAX_ITEM_BYTES, MAX_KEY_BYTES, MAX_NUMBER_BYTES, put_key, put_number, put_tag,
+    put_value,
+};
 use plain_store::Act;
 use stamps::{Item, Key};
 use std::alloc::AllocError;
 
-/// An item, part by part. It takes up to 179 bytes.
+/// An item, part by part. It takes up to `MAX_ITEM_BYTES`.
 pub fn put_item(out: &mut Buffer, item: &Item)
-    requires { length out.old.items + 179 ≤ out.old.capacity }
+    requires { length out.old.items + max_item_bytes ≤ out.old.capacity }
     ensures packed { out.new.items ≡ out.old.items ++ packed_item item.now }
     ensures stored { IsStoreItem item.now }
-    ensures few { length out.new.items ≤ length out.old.items + 179 }
+    ensures few { length out.new.items ≤ length out.old.items + max_item_bytes }
     ensures room { out.old.capacity ≤ out.new.capacity }
 {
     put_key(out, &item.key);
@@ -27,10 +31,10 @@ pub fn put_items(out: &mut Buffer, items: &[Item]) -> Result<(), AllocError>
     ensures packed { OnOk result (out.new.items ≡ out.old.items ++ packed_list packed_item items.now) }
     ensures stored { OnOk result (AreStoreItems items.now) }
 {
-    out.reserve(9)?;
+    out.reserve(MAX_NUMBER_BYTES)?;
     put_number(out, items.len() as u64);
     for item in items {
-        out.reserve(179)?;
+        out.reserve(MAX_ITEM_BYTES)?;
         put_item(out, item);
     }
     Ok(())
@@ -41,10 +45,10 @@ pub fn put_all_keys(out: &mut Buffer, keys: &[Key]) -> Result<(), AllocError>
     ensures packed { OnOk result (out.new.items ≡ out.old.items ++ packed_list packed_text keys.now) }
     ensures stored { OnOk result (AreStoreKeys keys.now) }
 {
-    out.reserve(9)?;
+    out.reserve(MAX_NUMBER_BYTES)?;
     put_number(out, keys.len() as u64);
     for key in keys {
-        out.reserve(33)?;
+        out.reserve(MAX_KEY_BYTES)?;
         put_key(out, key);
     }
     Ok(())
@@ -55,7 +59,7 @@ pub fn put_act(out: &mut Buffer, act: &Act) -> Result<(), AllocError>
     ensures packed { OnOk result (out.new.items ≡ out.old.items ++ packed_act act.now) }
     ensures stored { OnOk result (IsStoreAct act.now) }
 {
-    out.reserve(28)?;
+    out.reserve(1 + 3 * MAX_NUMBER_BYTES)?;
     match act {
         Act::Hello(client, base) => {
             out.push_reserved(0);

@@ -3,6 +3,7 @@ ghost use Rattle.std.specs.Prelude.{◌≡◌, ◌+◌, ◌*◌, ◌<◌, ◌≤
 ghost use Rattle.stamps.specs.Limits.{max_keys};
 ghost use Rattle.plain_store.specs.Numbers.{number_of};
 ghost use Rattle.packed_steps.specs.Lists.{packed_list};
+ghost use Rattle.packed_steps.specs.Sizes.{max_rows_bytes, max_reading_bytes, max_readings_bytes, max_answer_bytes};
 ghost use Rattle.packed_steps.specs.PackedAnswers.{packed_rows, AreStoreRows, packed_reading, IsStoreReading, AreStoreReadings, packed_answer, IsStoreAnswer};
 
 use crate::writing_acts::put_item;
@@ -10,37 +11,37 @@ use crate::writing_replies::put_reply;
 use packed::{Buffer, put_key, put_number, put_stamp};
 use plain_store::{Answer, Reading, Rows};
 
-/// Rows. They take up to 18 bytes.
+/// Rows. They take up to two numbers of `MAX_NUMBER_BYTES`.
 pub fn put_rows(out: &mut Buffer, rows: &Rows)
-    requires { length out.old.items + 18 ≤ out.old.capacity }
+    requires { length out.old.items + max_rows_bytes ≤ out.old.capacity }
     ensures packed { out.new.items ≡ out.old.items ++ packed_rows rows.now }
     ensures stored { AreStoreRows rows.now }
-    ensures few { length out.new.items ≤ length out.old.items + 18 }
+    ensures few { length out.new.items ≤ length out.old.items + max_rows_bytes }
     ensures room { out.old.capacity ≤ out.new.capacity }
 {
     put_number(out, rows.first);
     put_number(out, rows.last);
 }
 
-/// A reading. It takes up to 187 bytes.
+/// A reading. It takes up to `MAX_ITEM_BYTES + STAMP_BYTES`.
 pub fn put_reading(out: &mut Buffer, reading: &Reading)
-    requires { length out.old.items + 187 ≤ out.old.capacity }
+    requires { length out.old.items + max_reading_bytes ≤ out.old.capacity }
     ensures packed { out.new.items ≡ out.old.items ++ packed_reading reading.now }
     ensures stored { IsStoreReading reading.now }
-    ensures few { length out.new.items ≤ length out.old.items + 187 }
+    ensures few { length out.new.items ≤ length out.old.items + max_reading_bytes }
     ensures room { out.old.capacity ≤ out.new.capacity }
 {
     put_item(out, &reading.item);
     put_stamp(out, reading.stamp);
 }
 
-/// Up to 16 readings behind their count. They take up to 3001 bytes.
+/// As many readings as a transaction has keys, or fewer, behind their count. They take up to `MAX_ANSWER_BYTES - 1`.
 pub fn put_readings(out: &mut Buffer, readings: &[Reading])
     requires many { length readings.now ≤ max_keys }
-    requires room { length out.old.items + 3001 ≤ out.old.capacity }
+    requires room { length out.old.items + max_readings_bytes ≤ out.old.capacity }
     ensures packed { out.new.items ≡ out.old.items ++ packed_list packed_reading readings.now }
     ensures stored { AreStoreReadings readings.now }
-    ensures few { length out.new.items ≤ length out.old.items + 3001 }
+    ensures few { length out.new.items ≤ length out.old.items + max_readings_bytes }
     ensures room { out.old.capacity ≤ out.new.capacity }
 {
     put_number(out, readings.len() as u64);
@@ -49,12 +50,12 @@ pub fn put_readings(out: &mut Buffer, readings: &[Reading])
     }
 }
 
-/// A byte for the form of the answer, and its parts. It takes up to 3002 bytes.
+/// A byte for the form of the answer, and its parts. It takes up to `MAX_ANSWER_BYTES`.
 pub fn put_answer(out: &mut Buffer, answer: &Answer)
-    requires { length out.old.items + 3002 ≤ out.old.capacity }
+    requires { length out.old.items + max_answer_bytes ≤ out.old.capacity }
     ensures packed { out.new.items ≡ out.old.items ++ packed_answer answer.now }
     ensures stored { IsStoreAnswer answer.now }
-    ensures few { length out.new.items ≤ length out.old.items + 3002 }
+    ensures few { length out.new.items ≤ length out.old.items + max_answer_bytes }
     ensures room { out.old.capacity ≤ out.new.capacity }
 {
     match answer {

@@ -2,16 +2,17 @@
 ghost use Rattle.std.specs.Prelude.{◌≡◌, ◌+◌, ◌≤◌, ◌++◌, length};
 ghost use Rattle.plain_store.specs.declared.calls.Reply.TheVariants.{Prepare as ToPrepare, Get as ToGet, Discard as ToDiscard};
 ghost use Rattle.packed_steps.specs.PackedCalls.{packed_found, IsStoreFound, packed_reply, IsStoreReply};
+ghost use Rattle.packed_steps.specs.Sizes.{max_found_bytes, max_reply_bytes};
 
 use packed::{Buffer, put_keys, put_number, put_record, put_stamp};
 use plain_store::{DiscardReply, Found, PrepareReply, ReadReply, Reply};
 
-/// What stands under a tag. It takes up to 538 bytes.
+/// What stands under a tag. It takes up to a number and `MAX_KEYS_BYTES`.
 pub fn put_found(out: &mut Buffer, found: &Found)
-    requires { length out.old.items + 538 ≤ out.old.capacity }
+    requires { length out.old.items + max_found_bytes ≤ out.old.capacity }
     ensures packed { out.new.items ≡ out.old.items ++ packed_found found.now }
     ensures stored { IsStoreFound found.now }
-    ensures few { length out.new.items ≤ length out.old.items + 538 }
+    ensures few { length out.new.items ≤ length out.old.items + max_found_bytes }
     ensures room { out.old.capacity ≤ out.new.capacity }
 {
     let count = found.count();
@@ -22,12 +23,12 @@ pub fn put_found(out: &mut Buffer, found: &Found)
     }
 }
 
-/// A byte for the form of the reply, and its parts. It takes up to 717 bytes.
+/// A byte for the form of the reply, and its parts. It takes up to `MAX_REPLY_BYTES`.
 pub fn put_reply(out: &mut Buffer, reply: &Reply)
-    requires { length out.old.items + 717 ≤ out.old.capacity }
+    requires { length out.old.items + max_reply_bytes ≤ out.old.capacity }
     ensures packed { out.new.items ≡ out.old.items ++ packed_reply reply.now }
     ensures stored { IsStoreReply reply.now }
-    ensures few { length out.new.items ≤ length out.old.items + 717 }
+    ensures few { length out.new.items ≤ length out.old.items + max_reply_bytes }
     ensures room { out.old.capacity ≤ out.new.capacity }
 {
     match reply {
@@ -66,10 +67,10 @@ fn put_prepare_reply(out: &mut Buffer, reply: &PrepareReply)
 }
 
 fn put_read_reply(out: &mut Buffer, reply: &ReadReply)
-    requires { length out.old.items + 717 ≤ out.old.capacity }
+    requires { length out.old.items + max_reply_bytes ≤ out.old.capacity }
     ensures packed { out.new.items ≡ out.old.items ++ packed_reply (ToGet reply.now) }
     ensures stored { IsStoreReply (ToGet reply.now) }
-    ensures few { length out.new.items ≤ length out.old.items + 717 }
+    ensures few { length out.new.items ≤ length out.old.items + max_reply_bytes }
     ensures room { out.old.capacity ≤ out.new.capacity }
 {
     match reply {

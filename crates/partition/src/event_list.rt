@@ -5,16 +5,17 @@ ghost use Rattle.packed.specs.Reading.{number_at};
 ghost use Rattle.partition.specs.Events.{event, is_reply_to};
 ghost use Rattle.partition.specs.Accounts.{is_of_seat, is_of_collector};
 ghost use Rattle.partition.specs.PackedEvents.{packed_event, event_from, event_at, event_in, caller_at, caller_of, IsStoreEvent, IsPackedEvent};
+ghost use Rattle.partition.specs.Sizes.{max_event_bytes};
 
 use crate::Event;
-use packed::{Buffer, PackedList, put_number, read_number};
-use packed_steps::{put_call, put_reply, read_call, read_reply};
+use packed::{Buffer, MAX_NUMBER_BYTES, PackedList, put_number, read_number};
+use packed_steps::{MAX_CALL_BYTES, MAX_REPLY_BYTES, put_call, put_reply, read_call, read_reply};
 use plain_store::{Call, Reply};
 use std::alloc::{AllocError, Global};
 use std::marker::Model;
 
-/// The most bytes that an event takes.
-const MOST_BYTES: usize = 1452;
+/// The most bytes that an event takes: a seat, a number, a call and its reply.
+const MAX_EVENT_BYTES: usize = 2 * MAX_NUMBER_BYTES + MAX_CALL_BYTES + MAX_REPLY_BYTES;
 
 /// Events, packed one behind the other, some 50 bytes each. Contracts see them in order, and whether one more can be put
 /// without an allocation.
@@ -37,10 +38,11 @@ impl Drop for EventList {
 impl Model for EventList {
     ghost use Rattle.std.specs.Prelude.{◌&&◌, nat_le, nat_lt};
     ghost use Rattle.partition.specs.PackedEvents.{ArePackedEvents, Happenings, events_in};
+    ghost use Rattle.partition.specs.Sizes.{max_event_bytes};
 
     ghost Value = { Happenings };
 
-    ghost view = { λ l. record { items = events_in l.list.items; has_room = nat_lt 0 l.list.places && (nat_le 1452 l.list.bytes && nat_le 1452 l.scratch.capacity) } };
+    ghost view = { λ l. record { items = events_in l.list.items; has_room = nat_lt 0 l.list.places && (nat_le max_event_bytes l.list.bytes && nat_le max_event_bytes l.scratch.capacity) } };
 
     ghost invariant = { λ l. ArePackedEvents l.list.items };
 }
@@ -157,8 +159,8 @@ impl EventList {
         ensures room { OnOk result (IsTrue self.new.has_room) }
     {
         self.scratch.clear();
-        self.scratch.reserve(MOST_BYTES)?;
-        self.list.reserve(1, MOST_BYTES)?;
+        self.scratch.reserve(MAX_EVENT_BYTES)?;
+        self.list.reserve(1, MAX_EVENT_BYTES)?;
         Ok(())
     }
 
@@ -211,11 +213,11 @@ impl EventList {
 
 /// Packs an event at the end of bytes that have room for it.
 fn put_event(out: &mut Buffer, seat: u64, number: u64, call: &Call, reply: &Reply)
-    requires room { length out.old.items + 1452 ≤ out.old.capacity }
+    requires room { length out.old.items + max_event_bytes ≤ out.old.capacity }
     requires fits { IsTrue (is_reply_to call.now reply.now) }
     ensures packed { out.new.items ≡ out.old.items ++ packed_event (event seat number call.now reply.now) }
     ensures stored { IsStoreEvent (event seat number call.now reply.now) }
-    ensures few { length out.new.items ≤ length out.old.items + 1452 }
+    ensures few { length out.new.items ≤ length out.old.items + max_event_bytes }
     ensures room { out.old.capacity ≤ out.new.capacity }
 {
     put_number(out, seat);

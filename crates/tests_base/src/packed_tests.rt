@@ -1,6 +1,7 @@
 use packed::{Buffer, PackedList};
 use packed_steps::{
-    put_act, put_answer, put_call, put_reply, read_act, read_answer, read_call, read_reply,
+    MAX_ANSWER_BYTES, MAX_CALL_BYTES, MAX_REPLY_BYTES, put_act, put_answer, put_call, put_reply,
+    read_act, read_answer, read_call, read_reply,
 };
 use plain_store::{
     Act, Answer, Call, DiscardReply, Found, Items, Keys, PrepareReply, ReadReply, Reading,
@@ -70,7 +71,7 @@ fn packed_calls(alloc: Global, calls: &[Call]) -> Option<PackedList> {
     let mut list = PackedList::new(alloc);
     for call in calls {
         let mut bytes = Buffer::new(alloc);
-        bytes.reserve(717).ok()?;
+        bytes.reserve(MAX_CALL_BYTES).ok()?;
         put_call(&mut bytes, call);
         list.push(bytes.as_slice()).ok()?;
     }
@@ -81,7 +82,7 @@ fn packed_replies(alloc: Global, replies: &[Reply]) -> Option<PackedList> {
     let mut list = PackedList::new(alloc);
     for reply in replies {
         let mut bytes = Buffer::new(alloc);
-        bytes.reserve(717).ok()?;
+        bytes.reserve(MAX_REPLY_BYTES).ok()?;
         put_reply(&mut bytes, reply);
         list.push(bytes.as_slice()).ok()?;
     }
@@ -219,7 +220,7 @@ fn answers() -> Option<[Answer; 24]> {
 
 fn answer_comes_back(alloc: Global, answer: &Answer) -> Option<bool> {
     let mut bytes = Buffer::new(alloc);
-    bytes.reserve(3002).ok()?;
+    bytes.reserve(MAX_ANSWER_BYTES).ok()?;
     put_answer(&mut bytes, answer);
     let Some((again, rest)) = read_answer(bytes.as_slice()) else {
         return None;

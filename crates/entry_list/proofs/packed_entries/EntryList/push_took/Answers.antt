@@ -2,6 +2,7 @@ use Rattle.std.proofs.Common.{◌≡◌, ◌+◌, ◌*◌, ◌-◌, ◌<◌, ◌
 use Rattle.entry_list.specs.declared.kinds.Entry.{Entry}
 use Rattle.entry_list.specs.declared.kinds.Entry.TheVariants.{Took}
 use Rattle.entry_list.specs.PackedEntries.{packed_entry, ArePackedEntries, entries_in, EntriesView}
+use Rattle.entry_list.specs.Sizes.{max_took_bytes}
 use Rattle.entry_list.proofs.Unpacked.{still_packed, grown}
 use Rattle.entry_list.proofs.packed_entries.EntryList.push_took.Goals as goal
 
@@ -14,7 +15,7 @@ invariant_of-self c =
     let room : c.self.inside.room ≡ c.args.self.now.room = ap (λ (v : EntriesView). v.room) c.self.view_is in
     let some = c.requires in
     let places : c.self.inside.room ≤ c.self.inside.list.places = inv.1 in
-    let left : 745 * c.self.inside.room ≤ c.self.inside.list.bytes = inv.2 in
+    let left : max_took_bytes * c.self.inside.room ≤ c.self.inside.list.bytes = inv.2 in
     let scratch = inv.3 (omega (arith, room, some)) in (
       still_packed c.self.inside.list.items c.push_reserved.new.self.items e bytes inv.0 c.put_took.ensures.stored is c.push_reserved.ensures.items,
       omega (arith, places, c.push_reserved.ensures.places),
