@@ -1,5 +1,5 @@
 -- What the program's words ask for, as `clap` reads them.
-use Rattle.std.specs.Prelude.{◌≡◌, ◌≢◌, ◌⊎◌, ◌<◌, ◌≤◌, ◌^◌, ℕ, ℤ, List, [], ◌∷◌, length, All, AllPairs, Bool, true}
+use Rattle.std.specs.Prelude.{◌≡◌, ◌≢◌, ◌⊎◌, ◌<◌, ◌≤◌, ◌^◌, ℕ, ℤ, List, [], ◌∷◌, ◌++◌, length, All, AllPairs, Bool, true}
 use Rattle.std.specs.Prelude.{false, Option, Some, codes, pos}
 use Rattle.std.specs.Str.Parse.{IsNumeral, digits_value, without_leading_plus}
 use Rattle.clap.specs.Words.{App, Row, Rule, IsAmong, all_of, fault_of, new_app, new_rule, one_of, subcommand_of}
@@ -41,62 +41,29 @@ rules_of [] = []
 rules_of (option ∷ options) =
     ranged_rule option.name.now option.default.now (pos option.least) (pos option.most) ∷ rules_of options
 
--- the options of a cell: its room
-abbrev pub cell_rules : List Rule
-cell_rules =
-    number_rule (codes "slots") (codes "1024") (pos max_room)
-    ∷ number_rule (codes "items") (codes "256") (pos max_room)
-    ∷ number_rule (codes "clients") (codes "16") (pos max_clients) ∷ []
+-- ---- each option once: its name, its default and its range
 
--- `cell [--slots N] [--items N] [--clients N]`
-abbrev pub cell_command : App
-cell_command = with_rules (new_app (codes "cell")) cell_rules
+abbrev pub parts_rule : Rule
+parts_rule = number_rule (codes "parts") (codes "2") (pos max_parts)
 
--- the options of a store: its partitions, and the room of each tenant
-abbrev pub store_rules : List Rule
-store_rules =
-    number_rule (codes "parts") (codes "2") (pos max_parts)
-    ∷ number_rule (codes "slots") (codes "1024") (pos max_room)
-    ∷ number_rule (codes "items") (codes "256") (pos max_room)
-    ∷ number_rule (codes "clients") (codes "16") (pos max_clients)
-    ∷ number_rule (codes "keep") (codes "2") (pos max_keep) ∷ []
+abbrev pub slots_rule : Rule
+slots_rule = number_rule (codes "slots") (codes "1024") (pos max_room)
 
--- the options of what the seats of a load do
-abbrev pub mix_rules : List Rule
-mix_rules =
-    number_rule (codes "seats") (codes "4") (pos 16)
-    ∷ number_rule (codes "rounds") (codes "100") (pos 10000)
-    ∷ ranged_rule (codes "seed") (codes "1") (pos 0) (pos 4294967295)
-    ∷ ranged_rule (codes "keys") (codes "16") (pos 4) (pos 256) ∷ []
+abbrev pub items_rule : Rule
+items_rule = number_rule (codes "items") (codes "256") (pos max_room)
 
--- the options of how a running store is paced
-abbrev pub pace_rules : List Rule
-pace_rules =
-    number_rule (codes "queue") (codes "64") (pos 1024)
-    ∷ number_rule (codes "every") (codes "64") (pos 65536)
-    ∷ ranged_rule (codes "epoch") (codes "0") (pos 0) (pos 1048576) ∷ []
+abbrev pub clients_rule : Rule
+clients_rule = number_rule (codes "clients") (codes "16") (pos max_clients)
 
--- one name or more
-abbrev pub tenants_rule : Rule
-tenants_rule = record (new_rule (codes "tenant")) { value_names = 1; action = Some Append; required = true }
+abbrev pub keep_rule : Rule
+keep_rule = number_rule (codes "keep") (codes "2") (pos max_keep)
 
--- `sim [--parts N] [--slots N] [--items N] [--clients N] [--keep N] TENANT..`
-abbrev pub sim_command : App
-sim_command = with_rules (new_app (codes "sim"))
-    (number_rule (codes "parts") (codes "2") (pos max_parts)
-    ∷ number_rule (codes "slots") (codes "1024") (pos max_room)
-    ∷ number_rule (codes "items") (codes "256") (pos max_room)
-    ∷ number_rule (codes "clients") (codes "16") (pos max_clients)
-    ∷ number_rule (codes "keep") (codes "2") (pos max_keep) ∷ tenants_rule ∷ [])
-
--- the port, a number up to 65535
+-- a number up to 65535
 abbrev pub port_rule : Rule
-port_rule = record (new_rule (codes "port")) {
-  long = Some (codes "port");
-  value_names = 1;
-  parser = Some (Signed (pos 0) (pos 65535));
-  defaults = codes "0" ∷ [];
-}
+port_rule = ranged_rule (codes "port") (codes "0") (pos 0) (pos 65535)
+
+abbrev pub sessions_rule : Rule
+sessions_rule = number_rule (codes "sessions") (codes "1") (pos 1024)
 
 -- an option without a value, which says that the server stays
 abbrev pub stay_rule : Rule
@@ -110,41 +77,71 @@ strict_rule = record (new_rule (codes "strict")) { long = Some (codes "strict");
 abbrev pub newest_rule : Rule
 newest_rule = record (new_rule (codes "newest")) { long = Some (codes "newest"); action = Some SetTrue }
 
+abbrev pub queue_rule : Rule
+queue_rule = number_rule (codes "queue") (codes "64") (pos 1024)
+
+abbrev pub every_rule : Rule
+every_rule = number_rule (codes "every") (codes "64") (pos 65536)
+
+abbrev pub epoch_rule : Rule
+epoch_rule = ranged_rule (codes "epoch") (codes "0") (pos 0) (pos 1048576)
+
+abbrev pub status_rule : Rule
+status_rule = ranged_rule (codes "status") (codes "0") (pos 0) (pos 65535)
+
+abbrev pub seats_rule : Rule
+seats_rule = number_rule (codes "seats") (codes "4") (pos 16)
+
+abbrev pub rounds_rule : Rule
+rounds_rule = number_rule (codes "rounds") (codes "100") (pos 10000)
+
+abbrev pub seed_rule : Rule
+seed_rule = ranged_rule (codes "seed") (codes "1") (pos 0) (pos 4294967295)
+
+abbrev pub keys_rule : Rule
+keys_rule = ranged_rule (codes "keys") (codes "16") (pos 4) (pos 256)
+
+-- one name or more
+abbrev pub tenants_rule : Rule
+tenants_rule = record (new_rule (codes "tenant")) { value_names = 1; action = Some Append; required = true }
+
+-- ---- the commands, each of the options that it has
+
+-- the options of a cell: its room
+abbrev pub cell_rules : List Rule
+cell_rules = slots_rule ∷ items_rule ∷ clients_rule ∷ []
+
+-- the options of a store: its partitions, and the room of each tenant
+abbrev pub store_rules : List Rule
+store_rules = parts_rule ∷ slots_rule ∷ items_rule ∷ clients_rule ∷ keep_rule ∷ []
+
+-- the options of what the seats of a load do
+abbrev pub mix_rules : List Rule
+mix_rules = seats_rule ∷ rounds_rule ∷ seed_rule ∷ keys_rule ∷ []
+
+-- the options of how a running store is paced
+abbrev pub pace_rules : List Rule
+pace_rules = queue_rule ∷ every_rule ∷ epoch_rule ∷ []
+
+-- `cell [--slots N] [--items N] [--clients N]`
+abbrev pub cell_command : App
+cell_command = with_rules (new_app (codes "cell")) cell_rules
+
+-- `sim [--parts N] [--slots N] [--items N] [--clients N] [--keep N] TENANT..`
+abbrev pub sim_command : App
+sim_command = with_rules (new_app (codes "sim")) (store_rules ++ tenants_rule ∷ [])
+
 -- `serve [--parts N] [--slots N] [--items N] [--clients N] [--keep N] [--port N] [--sessions N] [--stay] [--strict]
 -- [--newest] [--queue N] [--every N] [--epoch N] [--status N] TENANT..`
 abbrev pub serve_command : App
 serve_command = with_rules (new_app (codes "serve"))
-    (number_rule (codes "parts") (codes "2") (pos max_parts)
-    ∷ number_rule (codes "slots") (codes "1024") (pos max_room)
-    ∷ number_rule (codes "items") (codes "256") (pos max_room)
-    ∷ number_rule (codes "clients") (codes "16") (pos max_clients)
-    ∷ number_rule (codes "keep") (codes "2") (pos max_keep)
-    ∷ port_rule
-    ∷ number_rule (codes "sessions") (codes "1") (pos 1024)
-    ∷ stay_rule
-    ∷ strict_rule
-    ∷ newest_rule
-    ∷ number_rule (codes "queue") (codes "64") (pos 1024)
-    ∷ number_rule (codes "every") (codes "64") (pos 65536)
-    ∷ ranged_rule (codes "epoch") (codes "0") (pos 0) (pos 1048576)
-    ∷ ranged_rule (codes "status") (codes "0") (pos 0) (pos 65535) ∷ tenants_rule ∷ [])
+    (store_rules ++ port_rule ∷ sessions_rule ∷ stay_rule ∷ strict_rule ∷ newest_rule
+    ∷ pace_rules ++ status_rule ∷ tenants_rule ∷ [])
 
 -- `load [--parts N] [--slots N] [--items N] [--clients N] [--keep N] [--seats N] [--rounds N] [--seed N] [--keys N]
 -- [--queue N] [--every N] [--epoch N] TENANT..`
 abbrev pub load_command : App
-load_command = with_rules (new_app (codes "load"))
-    (number_rule (codes "parts") (codes "2") (pos max_parts)
-    ∷ number_rule (codes "slots") (codes "1024") (pos max_room)
-    ∷ number_rule (codes "items") (codes "256") (pos max_room)
-    ∷ number_rule (codes "clients") (codes "16") (pos max_clients)
-    ∷ number_rule (codes "keep") (codes "2") (pos max_keep)
-    ∷ number_rule (codes "seats") (codes "4") (pos 16)
-    ∷ number_rule (codes "rounds") (codes "100") (pos 10000)
-    ∷ ranged_rule (codes "seed") (codes "1") (pos 0) (pos 4294967295)
-    ∷ ranged_rule (codes "keys") (codes "16") (pos 4) (pos 256)
-    ∷ number_rule (codes "queue") (codes "64") (pos 1024)
-    ∷ number_rule (codes "every") (codes "64") (pos 65536)
-    ∷ ranged_rule (codes "epoch") (codes "0") (pos 0) (pos 1048576) ∷ tenants_rule ∷ [])
+load_command = with_rules (new_app (codes "load")) (store_rules ++ mix_rules ++ pace_rules ++ tenants_rule ∷ [])
 
 -- which requires a command
 abbrev pub with_required : App → App
