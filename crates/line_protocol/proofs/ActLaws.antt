@@ -12,14 +12,14 @@ use Rattle.stamps.specs.Text.{is_name_byte}
 use Rattle.stamps.specs.Key.{IsKey}
 use Rattle.plain_store.specs.declared.step.Act.{Act}
 use Rattle.plain_store.specs.declared.step.Act.TheVariants.{Hello, Put, Get, Find, Deliver, Lose, Retry, Stop, Collect, Keep}
-use Rattle.cell_lines.specs.Reading.{◌>>=◌, split_first, number_at, key_at, tag_at, part_by, part_at, parts_in, each_at}
-use Rattle.cell_lines.specs.Spelling.{same_text}
+use Rattle.line_protocol.specs.Reading.{◌>>=◌, split_first, number_at, key_at, tag_at, part_by, part_at, parts_in, each_at}
+use Rattle.line_protocol.specs.Spelling.{same_text}
 use Rattle.line_protocol.specs.StepSpelling.{item_text, words_text, IsItem, HasText, act_text, Spells}
 use Rattle.line_protocol.specs.StepReading.{client_at, keep_at, item_at, hello_by, hello_at, put_at, get_at, find_at, deliver_at, lose_at, retry_at, stop_at, collect_at, keep_act_at, act_by, act_at}
-use Rattle.cell_lines.proofs.Splits.{Lacks, bind_some, split_first-joined, split_first-parts, split_first-lacks}
-use Rattle.cell_lines.proofs.Numbers.{number_found, number_again}
-use Rattle.cell_lines.proofs.Laws.{IsReader, Lacks-allowed, text_reader, each_found, each_again, written_tag, tag_again, either_command}
-use Rattle.cell_lines.proofs.RecordLaws.{key_is, split_some}
+use Rattle.line_protocol.proofs.Splits.{Lacks, bind_some, split_first-joined, split_first-parts, split_first-lacks}
+use Rattle.line_protocol.proofs.Numbers.{number_found, number_again}
+use Rattle.line_protocol.proofs.Laws.{IsReader, Lacks-allowed, text_reader, each_found, each_again, written_tag, tag_again, either_command}
+use Rattle.line_protocol.proofs.RecordLaws.{key_is, split_some}
 use Rattle.line_protocol.proofs.StepLaws.{client_reader, client_lacks_space, keep_reader, item_reader, item_lacks_space}
 
 -- ---- words, each after a space

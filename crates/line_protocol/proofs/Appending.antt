@@ -4,7 +4,7 @@ use Rattle.std.proofs.lemmas.List.{take_more, length-take-le, flat_map_more}
 use Rattle.bytes.specs.Filled.{Filled}
 use Rattle.line_protocol.specs.Room.{Appends, key_room, reading_room, spaced_reading_room}
 use Rattle.plain_store.specs.declared.reading.Reading.{Reading}
-use Rattle.cell_lines.specs.Spelling.{keys_text, found_keys_text}
+use Rattle.line_protocol.specs.Spelling.{keys_text, found_keys_text}
 use Rattle.line_protocol.specs.AnswerSpelling.{reading_text, readings_text}
 
 keys_text-push : (keys : List (List ℕ)) (key : List ℕ) → 0 < length keys → keys_text (keys ++ key ∷ []) ≡ keys_text keys ++ 44 ∷ key

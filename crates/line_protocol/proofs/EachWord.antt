@@ -3,8 +3,8 @@ use Rattle.std.proofs.Common.{◌≡◌, ℕ, ◌+◌, ◌≤◌, List, [], ◌�
 use Rattle.std.specs.Prelude.{OnOk, IsOk}
 use Rattle.std.proofs.lemmas.Option.{same_Some}
 use Rattle.std.proofs.lemmas.List.{append-nil}
-use Rattle.cell_lines.specs.Reading.{◌>>=◌, split_first, part_by, part_at, parts_in, each_at}
-use Rattle.cell_lines.proofs.Splits.{bind_some, split_first-parts, parts-next}
+use Rattle.line_protocol.specs.Reading.{◌>>=◌, split_first, part_by, part_at, parts_in, each_at}
+use Rattle.line_protocol.proofs.Splits.{bind_some, split_first-parts, parts-next}
 
 -- how much is left to be read
 abbrev pub size_of : Option (List ℕ) → ℕ

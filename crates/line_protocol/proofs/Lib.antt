@@ -1,3 +1,9 @@
+pub mod Splits
+pub mod Numbers
+pub mod Laws
+pub mod CallLaws
+pub mod RecordLaws
+pub mod KeyLists
 pub mod LineFeeds
 pub mod Appending
 pub mod TransferLaws

@@ -3,7 +3,7 @@ use Rattle.std.proofs.Common.{◌≡◌, ℕ, zero, suc, ◌+◌, ◌<◌, ◌�
 use Rattle.std.specs.List.{list_any}
 use Rattle.std.specs.Io.BufRead.{take_through}
 use Rattle.std.proofs.lemmas.List.{take-append-drop, take_all, length-append, length-take, length-take-le, append_assoc, take-take, take_at, append-nil}
-use Rattle.cell_lines.specs.Stream.{line_limit, terminated, HasNoLineFeed, IsLine, IsTooLong}
+use Rattle.line_protocol.specs.Stream.{line_limit, terminated, HasNoLineFeed, IsLine, IsTooLong}
 use Rattle.line_protocol.specs.Held.{IsLineEnd, at_stage, AreHeld, GoesOnWith, bytes_fed}
 use Rattle.line_protocol.specs.declared.lines.LineState.{LineState}
 use Rattle.line_protocol.specs.declared.lines.LineState.TheVariants.{Partial, Whole, Spent, TooLong}

@@ -11,16 +11,16 @@ use Rattle.plain_store.specs.declared.refusal.Refusal.{Refusal}
 use Rattle.plain_store.specs.declared.refusal.Refusal.TheVariants.{BadLine, OutOfMemory}
 use Rattle.line_protocol.specs.declared.request.Request.{Request}
 use Rattle.line_protocol.specs.declared.request.Request.TheVariants.{Hello, Put, Get, Find, Keep, Bye}
-use Rattle.cell_lines.specs.Spelling.{same_text}
-use Rattle.cell_lines.specs.Reading.{◌>>=◌, split_first, number_at, key_at, tag_at, part_at, parts_in, each_at}
+use Rattle.line_protocol.specs.Spelling.{same_text}
+use Rattle.line_protocol.specs.Reading.{◌>>=◌, split_first, number_at, key_at, tag_at, part_at, parts_in, each_at}
 use Rattle.line_protocol.specs.StepSpelling.{is_tenant_byte, IsName, IsItem, item_text, words_text}
 use Rattle.line_protocol.specs.StepReading.{name_at, client_at, keep_at, item_at}
 use Rattle.line_protocol.specs.ServeSpelling.{CanBeAsked, request_text, LeavesBaseOut, IsServeLine, IsNoServeLine, CarriesList, RefusesLine}
 use Rattle.line_protocol.specs.ServeReading.{hello_by, hello_at, put_at, get_at, find_at, keep_request_at, plain_request_by, request_by, request_at}
-use Rattle.cell_lines.proofs.Splits.{Lacks, bind_some, split_first-joined, split_first-parts, split_first-lacks}
-use Rattle.cell_lines.proofs.Numbers.{number_found, number_again}
-use Rattle.cell_lines.proofs.Laws.{Lacks-allowed, text_reader, each_found, written_tag, tag_again, either_command}
-use Rattle.cell_lines.proofs.RecordLaws.{key_is}
+use Rattle.line_protocol.proofs.Splits.{Lacks, bind_some, split_first-joined, split_first-parts, split_first-lacks}
+use Rattle.line_protocol.proofs.Numbers.{number_found, number_again}
+use Rattle.line_protocol.proofs.Laws.{Lacks-allowed, text_reader, each_found, written_tag, tag_again, either_command}
+use Rattle.line_protocol.proofs.RecordLaws.{key_is}
 use Rattle.line_protocol.proofs.StepLaws.{client_reader, client_lacks_space, keep_reader, item_reader, item_lacks_space}
 use Rattle.line_protocol.proofs.ActLaws.{spaced, spaced_map, spaced_split, parted, after_first, part-spaced, list_words, key_lacks_space}
 

@@ -9,14 +9,14 @@ use Rattle.stamps.specs.Bounds.{IsClient, IsKeep}
 use Rattle.stamps.specs.Text.{is_name_byte, is_visible_byte}
 use Rattle.stamps.specs.Tag.{IsTag}
 use Rattle.stamps.specs.declared.record.Item.{Item}
-use Rattle.cell_lines.specs.Spelling.{tag_text}
-use Rattle.cell_lines.specs.Reading.{◌>>=◌, split_first, number_at, key_at, value_at, tagged_at}
+use Rattle.line_protocol.specs.Spelling.{tag_text}
+use Rattle.line_protocol.specs.Reading.{◌>>=◌, split_first, number_at, key_at, value_at, tagged_at}
 use Rattle.line_protocol.specs.StepSpelling.{is_tenant_byte, IsName, item_text, IsItem}
 use Rattle.line_protocol.specs.StepReading.{client_at, keep_at, item_at}
-use Rattle.cell_lines.proofs.Splits.{Lacks, Lacks-append, bind_some, split_first-joined, split_first-parts}
-use Rattle.cell_lines.proofs.Numbers.{number_found, number_again}
-use Rattle.cell_lines.proofs.Laws.{IsReader, Lacks-allowed, Lacks-decimal, text_reader, not_chosen}
-use Rattle.cell_lines.proofs.RecordLaws.{key_is, tag_lacks, tagged_found, tagged_again}
+use Rattle.line_protocol.proofs.Splits.{Lacks, Lacks-append, bind_some, split_first-joined, split_first-parts}
+use Rattle.line_protocol.proofs.Numbers.{number_found, number_again}
+use Rattle.line_protocol.proofs.Laws.{IsReader, Lacks-allowed, Lacks-decimal, text_reader, not_chosen}
+use Rattle.line_protocol.proofs.RecordLaws.{key_is, tag_lacks, tagged_found, tagged_again}
 
 -- ---- names
 

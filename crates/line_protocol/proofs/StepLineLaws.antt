@@ -10,11 +10,11 @@ use Rattle.plain_store.specs.declared.refusal.Refusal.TheVariants.{NoTenant, Bad
 use Rattle.plain_store.specs.declared.step.Act.{Act}
 use Rattle.plain_store.specs.declared.step.Act.TheVariants.{Put, Get}
 use Rattle.plain_store.specs.declared.step.Step.{Step}
-use Rattle.cell_lines.specs.Reading.{◌>>=◌, split_first, key_at, part_at, parts_in, each_at}
+use Rattle.line_protocol.specs.Reading.{◌>>=◌, split_first, key_at, part_at, parts_in, each_at}
 use Rattle.line_protocol.specs.StepSpelling.{is_tenant_byte, IsNumberOf, IsNobody, IsStepLine, AsksFor, AsksStranger, AsksNothing, HasList, Refuses}
 use Rattle.line_protocol.specs.StepReading.{client_at, item_at, put_at, get_at, act_at, name_at, step_at, FindsAct}
-use Rattle.cell_lines.proofs.Splits.{bind_some, split_first-joined, split_first-parts}
-use Rattle.cell_lines.proofs.Laws.{Lacks-allowed, text_reader}
+use Rattle.line_protocol.proofs.Splits.{bind_some, split_first-joined, split_first-parts}
+use Rattle.line_protocol.proofs.Laws.{Lacks-allowed, text_reader}
 use Rattle.line_protocol.proofs.ActLaws.{act_found, act_again}
 
 abbrev IsAsked : List ℕ → List ℕ × Act → Type 0

@@ -5,7 +5,7 @@ use Rattle.std.proofs.lemmas.Bool.{lt-ltb}
 use Rattle.std.proofs.lemmas.List.{append-nil}
 use Rattle.std.proofs.lemmas.List.Elements.{All-from_recursion}
 use Rattle.std.proofs.lemmas.List.Splits.{slice_split_none, slice_split_at}
-use Rattle.cell_lines.specs.Stream.{line_limit, terminated, HasNoLineFeed, IsLine, between_feeds, lines_among, lines_of}
+use Rattle.line_protocol.specs.Stream.{line_limit, terminated, HasNoLineFeed, IsLine, between_feeds, lines_among, lines_of}
 use Rattle.line_protocol.specs.Transfers.{Transfer, Took, Gave, AreTransfers, stream_of, given_of, AreInOrder}
 
 -- a stream has a part at least

@@ -8,8 +8,8 @@ use Rattle.plain_store.specs.declared.answer.Answer.TheVariants.{Refused, Ready,
 use Rattle.plain_store.specs.declared.answer.Answer.TheVariants.{Replied, Ignored, Wait, Decided, Done, Ask}
 use Rattle.plain_store.specs.declared.answer.Answer.TheVariants.{BeginsRead, Read, Listed, Restart, Ended, Lost}
 use Rattle.plain_store.specs.declared.answer.Answer.TheVariants.{Stopped, Sent, Freed, Keeps}
-use Rattle.cell_lines.specs.Stream.{terminated}
-use Rattle.cell_lines.specs.Spelling.{space, equals, at_sign, stamp_text, tag_text, refused_text, reply_text}
+use Rattle.line_protocol.specs.Stream.{terminated}
+use Rattle.line_protocol.specs.Spelling.{space, equals, at_sign, stamp_text, tag_text, refused_text, reply_text}
 use Rattle.line_protocol.specs.StepSpelling.{words_text}
 
 -- rows A-B

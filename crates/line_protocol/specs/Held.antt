@@ -9,7 +9,7 @@ use Rattle.plain_store.specs.declared.refusal.Refusal.TheVariants.{LineTooLong, 
 use Rattle.line_protocol.specs.declared.lines.LineState.{LineState}
 use Rattle.line_protocol.specs.declared.lines.LineState.TheVariants.{Partial, Whole, Spent, TooLong}
 use Rattle.line_protocol.specs.declared.lines.Lines.TheInside.{Inside}
-use Rattle.cell_lines.specs.Stream.{line_feed, line_limit, terminated, HasNoLineFeed, IsLine, IsTooLong}
+use Rattle.line_protocol.specs.Stream.{line_feed, line_limit, terminated, HasNoLineFeed, IsLine, IsTooLong}
 
 -- ---- what the calls do with the bytes held
 

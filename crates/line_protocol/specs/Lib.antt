@@ -1,3 +1,6 @@
+pub mod Stream
+pub mod Spelling
+pub mod Reading
 pub mod Held
 pub mod Transfers
 pub mod Room

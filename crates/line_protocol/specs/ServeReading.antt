@@ -5,8 +5,8 @@ use Rattle.std.specs.Prelude.{codes, bytes_eq}
 use Rattle.stamps.specs.Limits.{max_counter}
 use Rattle.line_protocol.specs.declared.request.Request.{Request}
 use Rattle.line_protocol.specs.declared.request.Request.TheVariants.{Hello, Put, Get, Find, Keep, Bye}
-use Rattle.cell_lines.specs.Spelling.{space}
-use Rattle.cell_lines.specs.Reading.{◌>>=◌, split_first, number_at, key_at, tag_at, part_at, parts_in, each_at}
+use Rattle.line_protocol.specs.Spelling.{space}
+use Rattle.line_protocol.specs.Reading.{◌>>=◌, split_first, number_at, key_at, tag_at, part_at, parts_in, each_at}
 use Rattle.line_protocol.specs.StepReading.{name_at, client_at, keep_at, item_at}
 use Rattle.line_protocol.specs.ServeSpelling.{CarriesList}
 

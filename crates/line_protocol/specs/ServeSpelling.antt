@@ -8,8 +8,8 @@ use Rattle.plain_store.specs.declared.refusal.Refusal.{Refusal}
 use Rattle.plain_store.specs.declared.refusal.Refusal.TheVariants.{BadLine, OutOfMemory}
 use Rattle.line_protocol.specs.declared.request.Request.{Request}
 use Rattle.line_protocol.specs.declared.request.Request.TheVariants.{Hello, Put, Get, Find, Keep, Bye}
-use Rattle.cell_lines.specs.Stream.{terminated}
-use Rattle.cell_lines.specs.Spelling.{space, same_text}
+use Rattle.line_protocol.specs.Stream.{terminated}
+use Rattle.line_protocol.specs.Spelling.{space, same_text}
 use Rattle.line_protocol.specs.StepSpelling.{IsName, IsItem, item_text, words_text}
 
 -- what a line can ask for: no line names the empty tag

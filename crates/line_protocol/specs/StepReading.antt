@@ -7,9 +7,9 @@ use Rattle.stamps.specs.declared.record.Item.{Item}
 use Rattle.plain_store.specs.declared.step.Act.{Act}
 use Rattle.plain_store.specs.declared.step.Act.TheVariants.{Hello, Put, Get, Find, Deliver, Lose, Retry, Stop, Collect}
 use Rattle.plain_store.specs.declared.step.Act.TheVariants.{Keep}
-use Rattle.cell_lines.specs.Spelling.{space, equals}
-use Rattle.cell_lines.specs.Reading.{◌>>=◌, split_first, number_at, text_from, key_at, tag_at, value_at, part_at}
-use Rattle.cell_lines.specs.Reading.{tagged_at, parts_in, each_at}
+use Rattle.line_protocol.specs.Spelling.{space, equals}
+use Rattle.line_protocol.specs.Reading.{◌>>=◌, split_first, number_at, text_from, key_at, tag_at, value_at, part_at}
+use Rattle.line_protocol.specs.Reading.{tagged_at, parts_in, each_at}
 use Rattle.line_protocol.specs.StepSpelling.{is_tenant_byte, HasList}
 
 -- 1 to 16 bytes

@@ -14,7 +14,7 @@ use Rattle.plain_store.specs.declared.refusal.Refusal.TheVariants.{NoTenant, Bad
 use Rattle.plain_store.specs.declared.step.Act.{Act}
 use Rattle.plain_store.specs.declared.step.Act.TheVariants.{Hello, Put, Get, Find, Deliver, Lose, Retry, Stop, Collect}
 use Rattle.plain_store.specs.declared.step.Act.TheVariants.{Keep}
-use Rattle.cell_lines.specs.Spelling.{space, equals, same_text, tag_text}
+use Rattle.line_protocol.specs.Spelling.{space, equals, same_text, tag_text}
 
 -- ---- tenants
 

@@ -1,6 +1,6 @@
 -- A stream that comes in pieces, and the lines that are returned as it comes.
 use Rattle.std.specs.Prelude.{◌≡◌, ℕ, List, [], ◌∷◌, ◌++◌}
-use Rattle.cell_lines.specs.Stream.{HasNoLineFeed, lines_of}
+use Rattle.line_protocol.specs.Stream.{HasNoLineFeed, lines_of}
 use Rattle.line_protocol.specs.Held.{JoinsHeld, Waits}
 
 -- a call that did something: `feed` took these bytes, or `next_line` handed this line out

@@ -2,7 +2,7 @@
 ghost use Rattle.std.specs.Prelude.{◌≡◌, ◌+◌, ◌*◌, ◌≤◌, ◌++◌, ◌∷◌, ◌↔◌, length, IsOk, OnOk, OnErr};
 ghost use Rattle.plain_store.specs.declared.answer.Answer.TheVariants.{Replied, Restart, Sent};
 ghost use Rattle.line_protocol.specs.AnswerSpelling.{rows_text, written_text, reading_text, readings_text, parted_readings_text, sent_text, ending_text, answer_text, answer_line};
-ghost use Rattle.cell_lines.specs.Spelling.{space, stamp_text};
+ghost use Rattle.line_protocol.specs.Spelling.{space, stamp_text};
 ghost use Rattle.line_protocol.specs.Room.{Appends, rows_room, ending_room, stamped_rows_room, reading_room, spaced_reading_room, readings_room, answer_room, written_room};
 
 use crate::LINE_LIMIT;

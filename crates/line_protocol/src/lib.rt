@@ -1,16 +1,18 @@
-//! The text of the store's lines: what comes in is cut and read, what goes out is spelled.
+//! The text of lines, of a cell's and of the store's: what comes in is cut and read, what goes out is spelled.
 #![tactic(auto)]
 
 mod answer;
+mod cell_line;
 mod lines;
 mod name;
 mod request;
 mod serve_line;
 mod step_line;
+mod token;
 mod write;
 
 pub use answer::write_answer;
-pub use cell_lines::read_cell_line;
+pub use cell_line::read_cell_line;
 pub use lines::{LINE_LIMIT, Lines, lines_come_in_order};
 pub use name::Name;
 pub use request::Request;

@@ -4,7 +4,7 @@ ghost use Rattle.std.specs.Borrow.{sem};
 ghost use Rattle.std.specs.Io.BufRead.{Rests};
 ghost use Rattle.plain_store.specs.declared.refusal.Refusal.TheVariants.{LineTooLong};
 ghost use Rattle.line_protocol.specs.declared.lines.LineState.TheVariants.{Partial};
-ghost use Rattle.cell_lines.specs.Stream.{HasNoLineFeed, IsTooLong};
+ghost use Rattle.line_protocol.specs.Stream.{HasNoLineFeed, IsTooLong};
 ghost use Rattle.line_protocol.specs.Held.{bytes_fed, JoinsHeld, Waits, HandsOut, EndsAs, AreHeld, GoesOnWith, IsLineEnd};
 ghost use Rattle.line_protocol.specs.Transfers.{Transfer, AreTransfers, AreInOrder};
 

@@ -8,7 +8,7 @@ ghost use Rattle.line_protocol.specs.ServeReading.{get_at, hello_at, plain_reque
 
 use crate::Request;
 use crate::step_line::{read_base, read_client, read_each, read_keep, read_name};
-use cell_lines::{next_part, read_tag, split_first};
+use crate::token::{next_part, read_tag, split_first};
 use plain_store::{Items, Keys, Refusal};
 use stamps::Counter;
 use std::alloc::{AllocError, Global};

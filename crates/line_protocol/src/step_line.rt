@@ -4,13 +4,13 @@ ghost use Rattle.std.specs.Option.{option_map};
 ghost use Rattle.stamps.specs.Limits.{max_counter};
 ghost use Rattle.plain_store.specs.declared.step.Act.{Act};
 ghost use Rattle.plain_store.specs.declared.refusal.Refusal.TheVariants.{NoTenant, BadLine, OutOfMemory};
-ghost use Rattle.cell_lines.specs.Spelling.{space};
-ghost use Rattle.cell_lines.specs.Reading.{number_at, parts_in, each_at};
+ghost use Rattle.line_protocol.specs.Spelling.{space};
+ghost use Rattle.line_protocol.specs.Reading.{number_at, parts_in, each_at};
 ghost use Rattle.line_protocol.specs.StepSpelling.{IsNumberOf, IsNobody, IsStepLine, AsksFor, AsksStranger, AsksNothing, HasList, Refuses};
 ghost use Rattle.line_protocol.specs.StepReading.{client_at, item_at, hello_at, put_at, get_at, find_at, deliver_at, lose_at, retry_at, stop_at, collect_at, keep_at, plain_by, act_at, name_at, FindsList, FindsAct};
 
 use crate::Name;
-use cell_lines::{
+use crate::token::{
     next_part, read_key, read_number, read_tag, read_tagged, read_value, split_first,
 };
 use plain_store::{Act, Items, Keys, Refusal, Step};
@@ -126,7 +126,7 @@ impl Word for Item {
 }
 
 impl Word for Key {
-    ghost use Rattle.cell_lines.specs.Reading.{key_at};
+    ghost use Rattle.line_protocol.specs.Reading.{key_at};
 
     ghost at = { key_at };
 

@@ -1,9 +1,9 @@
 //! Lines that go out. A `put_` function is called where there is room for the longest text that it appends.
 ghost use Rattle.std.specs.Prelude.{◌≡◌, ◌+◌, ◌≤◌, ◌++◌, ◌↔◌, length, decimal, IsOk, OnOk, OnErr, IsTrue, ◌<◌};
 ghost use Rattle.plain_store.specs.Numbers.{number_of};
-ghost use Rattle.cell_lines.specs.Stream.{terminated};
+ghost use Rattle.line_protocol.specs.Stream.{terminated};
 ghost use Rattle.line_protocol.specs.ServeSpelling.{bye_line};
-ghost use Rattle.cell_lines.specs.Spelling.{stamp_text, tag_text, record_text, keys_text, found_keys_text, prepare_text, discard_text, read_text, reply_text, reply_line, refused_text};
+ghost use Rattle.line_protocol.specs.Spelling.{stamp_text, tag_text, record_text, keys_text, found_keys_text, prepare_text, discard_text, read_text, reply_text, reply_line, refused_text};
 ghost use Rattle.line_protocol.specs.Room.{Appends, number_room, stamp_room, tag_room, key_room, keys_room, record_room, refusal_room, reply_room, count_room};
 
 use crate::LINE_LIMIT;

@@ -3,7 +3,7 @@ use Rattle.std.proofs.Common.{◌≡◌, ℕ, List, [], ◌∷◌, Result, Ok, E
 use Rattle.std.specs.Prelude.{IfOk}
 use Rattle.plain_store.specs.declared.refusal.Refusal.{Refusal}
 use Rattle.plain_store.specs.declared.refusal.Refusal.TheVariants.{LineTooLong, Cut as CutOff}
-use Rattle.cell_lines.specs.Stream.{terminated, HasNoLineFeed, IsTooLong}
+use Rattle.line_protocol.specs.Stream.{terminated, HasNoLineFeed, IsTooLong}
 use Rattle.line_protocol.specs.Held.{EndsAs}
 use Rattle.line_runs.specs.declared.fault.End.{End}
 use Rattle.line_runs.specs.declared.fault.End.TheVariants.{Whole, TooLong, Cut}

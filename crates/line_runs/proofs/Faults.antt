@@ -4,7 +4,7 @@ use Rattle.std.specs.Prelude.{◌⊎◌, IfErr, IsErrAnd}
 use Rattle.std.proofs.Math.Seq.{take-length}
 use Rattle.std.proofs.KnownBytes.{Appends-nil}
 use Rattle.std.specs.Io.KnownBytes.{Appends}
-use Rattle.cell_lines.specs.Stream.{lines_of}
+use Rattle.line_protocol.specs.Stream.{lines_of}
 use Rattle.line_runs.specs.declared.fault.RunFault.{RunFault}
 use Rattle.line_runs.specs.declared.fault.RunFault.TheVariants.{Read, Write, ReadsUsed, OutOfMemory}
 use Rattle.line_runs.specs.RunAnswers.{AnsweredFront, AnsweredPart, AnsweredSoFar, AnswersAll, AnswersSome, FailsSo, StopsAt}

@@ -3,7 +3,7 @@ use Rattle.std.proofs.Common.{◌≡◌, ℕ, ◌+◌, List, [], ◌∷◌, ◌+
 use Rattle.std.proofs.Math.Seq.{take-append-add}
 use Rattle.std.proofs.KnownBytes.{Appends-trans}
 use Rattle.std.proofs.lemmas.List.{append-nil}
-use Rattle.cell_lines.specs.Stream.{terminated, IsLine, lines_of}
+use Rattle.line_protocol.specs.Stream.{terminated, IsLine, lines_of}
 use Rattle.std.specs.Io.KnownBytes.{Appends}
 use Rattle.line_runs.specs.declared.fault.RunFault.{RunFault}
 use Rattle.line_runs.specs.declared.fault.RunFault.TheVariants.{Read, Write, ReadsUsed, OutOfMemory}

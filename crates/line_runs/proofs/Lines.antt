@@ -4,7 +4,7 @@ use Rattle.std.specs.List.{onto_first}
 use Rattle.std.proofs.lemmas.Bool.{lt-ltb, le-ltb, ne_eqb}
 use Rattle.std.proofs.lemmas.List.Elements.{All-from_recursion}
 use Rattle.std.proofs.lemmas.List.Splits.{slice_split_none, slice_split_at}
-use Rattle.cell_lines.specs.Stream.{line_limit, terminated, HasNoLineFeed, IsLine, IsTooLong, between_feeds, lines_among, lines_of}
+use Rattle.line_protocol.specs.Stream.{line_limit, terminated, HasNoLineFeed, IsLine, IsTooLong, between_feeds, lines_among, lines_of}
 use Rattle.line_runs.specs.declared.fault.End.TheVariants.{Whole, TooLong, Cut}
 use Rattle.line_runs.specs.RunAnswers.{end_among, end_of}
 

@@ -3,7 +3,7 @@ use Rattle.std.proofs.Common.{◌≡◌, ℕ, ◌+◌, ◌<◌, ◌≤◌, ◌^�
 use Rattle.std.specs.Prelude.{⊤, IfSome}
 use Rattle.std.proofs.KnownBytes.{Appends-nil, Appends-trans}
 use Rattle.std.proofs.lemmas.List.{append-nil, length-append}
-use Rattle.cell_lines.specs.Stream.{HasNoLineFeed}
+use Rattle.line_protocol.specs.Stream.{HasNoLineFeed}
 use Rattle.line_runs.specs.declared.fault.End.{End}
 use Rattle.std.specs.Io.KnownBytes.{Appends, Consumes, Keeps, IsAtEnd}
 use Rattle.line_runs.specs.RunAnswers.{AnsweredPart, AnsweredSoFar, Answers, AnswersFront, Continues, StopsAt, end_of, text_at_end}

@@ -5,8 +5,8 @@ use Rattle.plain_store.specs.declared.refusal.Refusal.{Refusal}
 use Rattle.plain_store.specs.declared.refusal.Refusal.TheVariants.{NoTenant, BadLine, OutOfMemory}
 use Rattle.plain_store.specs.declared.step.Step.{Step}
 use Rattle.plain_store.specs.Numbers.{number_of}
-use Rattle.cell_lines.specs.Stream.{terminated}
-use Rattle.cell_lines.specs.Spelling.{refused_text}
+use Rattle.line_protocol.specs.Stream.{terminated}
+use Rattle.line_protocol.specs.Spelling.{refused_text}
 use Rattle.line_protocol.specs.StepSpelling.{AsksFor, Refuses}
 use Rattle.line_protocol.specs.AnswerSpelling.{answer_line}
 use Rattle.stamps.specs.declared.bounds.Limits.{Limits}

@@ -1,7 +1,7 @@
 -- How a run goes on, and how it ends: for `run_lines`, `answer_piece` and `answer_waiting`.
 use Rattle.std.proofs.Common.{◌≡◌, ℕ, List, [], ◌∷◌, ◌++◌, take, drop, refl, sym, ap, subst, ◌∙◌, append_assoc, arith}
 use Rattle.std.proofs.lemmas.List.{append-nil, take-append-le, take-take, length-append, length-take, take-append-drop}
-use Rattle.cell_lines.specs.Stream.{line_limit, terminated, HasNoLineFeed, IsLine, IsTooLong, lines_of}
+use Rattle.line_protocol.specs.Stream.{line_limit, terminated, HasNoLineFeed, IsLine, IsTooLong, lines_of}
 use Rattle.line_runs.specs.declared.fault.End.{End}
 use Rattle.line_runs.specs.RunAnswers.{end_of, Continues, Answers}
 use Rattle.line_runs.proofs.Lines.{lines_of-line, lines_of-none, lines_of-too_long}

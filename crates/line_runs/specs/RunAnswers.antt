@@ -2,8 +2,8 @@
 use Rattle.std.specs.Prelude.{◌≡◌, ◌⊎◌, ⊤, ℕ, ◌^◌, ◌≤◌, List, [], ◌∷◌, ◌++◌, length, take, nat_lt, ◌==◌}
 use Rattle.std.specs.Prelude.{if◌then◌else◌, Option, Some, None, IfSome}
 use Rattle.std.specs.Io.KnownBytes.{Appends}
-use Rattle.cell_lines.specs.Stream.{line_limit, terminated, between_feeds, lines_of}
-use Rattle.cell_lines.specs.Spelling.{refused_text}
+use Rattle.line_protocol.specs.Stream.{line_limit, terminated, between_feeds, lines_of}
+use Rattle.line_protocol.specs.Spelling.{refused_text}
 use Rattle.line_runs.specs.declared.fault.End.{End}
 use Rattle.line_runs.specs.declared.fault.End.TheVariants.{Whole, TooLong, Cut}
 use Rattle.line_runs.specs.declared.fault.RunFault.{RunFault}

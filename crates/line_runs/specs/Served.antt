@@ -2,7 +2,7 @@
 use Rattle.std.specs.Prelude.{◌≡◌, ℕ, List, [], ◌++◌, Option, IfSome}
 use Rattle.std.specs.Io.KnownBytes.{Appends}
 use Rattle.stamps.specs.declared.bounds.Limits.{Limits}
-use Rattle.cell_lines.specs.Stream.{lines_of}
+use Rattle.line_protocol.specs.Stream.{lines_of}
 use Rattle.line_runs.specs.declared.fault.End.{End}
 use Rattle.line_runs.specs.RunAnswers.{end_of, text_at_end}
 use Rattle.line_runs.specs.CellAnswers.{AnswersLines}

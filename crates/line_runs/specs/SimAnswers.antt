@@ -4,8 +4,8 @@ use Rattle.stamps.specs.declared.bounds.Limits.{Limits}
 use Rattle.plain_store.specs.declared.answer.Answer.{Answer}
 use Rattle.plain_store.specs.declared.step.Step.{Step}
 use Rattle.plain_store.specs.Tenants.{store_answer}
-use Rattle.cell_lines.specs.Stream.{terminated}
-use Rattle.cell_lines.specs.Spelling.{refused_text}
+use Rattle.line_protocol.specs.Stream.{terminated}
+use Rattle.line_protocol.specs.Spelling.{refused_text}
 use Rattle.line_protocol.specs.StepSpelling.{AsksFor, AsksStranger, AsksNothing}
 use Rattle.line_protocol.specs.AnswerSpelling.{answer_line}
 use Rattle.world.specs.Content.{WorldContent, parts_of, limits_of}

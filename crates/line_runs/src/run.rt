@@ -1,7 +1,7 @@
 //! A run: the lines of a stream are answered one by one.
 ghost use Rattle.std.specs.Prelude.{◌≡◌, ◌+◌, ◌≤◌, ◌<◌, vec_len, ℕ, List, [], ◌++◌, length, take, MatchBool, OnOk, IfOk, IfErr, IfSome};
 ghost use Rattle.std.specs.Io.KnownBytes.{Appends};
-ghost use Rattle.cell_lines.specs.Stream.{HasNoLineFeed};
+ghost use Rattle.line_protocol.specs.Stream.{HasNoLineFeed};
 ghost use Rattle.line_runs.specs.declared.fault.RunFault.TheVariants.{Write as WriteFault, OutOfMemory};
 ghost use Rattle.line_runs.specs.RunAnswers.{Answers, AnswersFront, Continues, FailsSo, Gathers, LeavesOff, StopsAt, end_of, text_at_end};
 

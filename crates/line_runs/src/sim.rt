@@ -3,8 +3,8 @@ ghost use Rattle.std.specs.Prelude.{◌≡◌, ◌≢◌, ◌+◌, ◌<◌, ◌�
 ghost use Rattle.stamps.specs.Bounds.{IsParts};
 ghost use Rattle.plain_store.specs.declared.refusal.Refusal.TheVariants.{OutOfMemory as NoMemory};
 ghost use Rattle.plain_store.specs.Numbers.{number_of};
-ghost use Rattle.cell_lines.specs.Stream.{terminated};
-ghost use Rattle.cell_lines.specs.Spelling.{refused_text};
+ghost use Rattle.line_protocol.specs.Stream.{terminated};
+ghost use Rattle.line_protocol.specs.Spelling.{refused_text};
 ghost use Rattle.line_protocol.specs.AnswerSpelling.{answer_line};
 ghost use Rattle.line_runs.specs.Served.{ServesSim, answers_of_store};
 ghost use Rattle.line_runs.specs.RunAnswers.{FailsSo};

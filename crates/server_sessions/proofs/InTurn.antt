@@ -14,7 +14,7 @@ use Rattle.hub.specs.Seats.{IsNamed, SeatView}
 use Rattle.line_protocol.specs.AnswerSpelling.{answer_line}
 use Rattle.line_protocol.specs.Held.{EndsAs}
 use Rattle.line_protocol.specs.declared.request.Request.{Request}
-use Rattle.cell_lines.specs.Stream.{HasNoLineFeed, IsLine, IsTooLong, lines_of, terminated}
+use Rattle.line_protocol.specs.Stream.{HasNoLineFeed, IsLine, IsTooLong, lines_of, terminated}
 use Rattle.line_runs.specs.RunAnswers.{Gathers}
 use Rattle.line_runs.proofs.Fronts.{begins_behind_gathered, AnswersFront-line, AnswersFront-refl, AnswersFront-trans}
 use Rattle.line_runs.proofs.Gathering.{Gathers-end, Gathers-none, Gathers-text, Gathers-trans}

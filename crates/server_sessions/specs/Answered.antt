@@ -10,7 +10,7 @@ use Rattle.hub.specs.Seats.{IsNamed, SeatView}
 use Rattle.line_protocol.specs.AnswerSpelling.{answer_line}
 use Rattle.line_protocol.specs.Held.{EndsAs}
 use Rattle.line_protocol.specs.ServeSpelling.{IsNoServeLine, IsServeLine}
-use Rattle.cell_lines.specs.Stream.{lines_of, terminated}
+use Rattle.line_protocol.specs.Stream.{lines_of, terminated}
 use Rattle.line_protocol.specs.declared.request.Request.TheVariants.{Bye}
 use Rattle.line_runs.specs.RunAnswers.{AnswersFront, Gathers}
 use Rattle.server_sessions.specs.declared.session_options.SessionOptions.{SessionOptions}

@@ -8,7 +8,7 @@ ghost use Rattle.plain_store.specs.declared.refusal.Refusal.TheVariants.{BadLine
 ghost use Rattle.line_protocol.specs.declared.request.Request.TheVariants.{Bye};
 ghost use Rattle.line_protocol.specs.AnswerSpelling.{answer_line};
 ghost use Rattle.line_protocol.specs.ServeSpelling.{IsServeLine};
-ghost use Rattle.cell_lines.specs.Stream.{HasNoLineFeed, IsLine, terminated};
+ghost use Rattle.line_protocol.specs.Stream.{HasNoLineFeed, IsLine, terminated};
 ghost use Rattle.line_runs.specs.RunAnswers.{Gathers};
 ghost use Rattle.server_sessions.specs.Answered.{BreaksOffIn, EndsBefore, HasAnswered, HasAnsweredSome, IsOfSeat, StaysBehind, TakesBytes, TakesInput};
 ghost use Rattle.server_sessions.specs.declared.line_session.SessionEnd.TheVariants.{Unread};

@@ -7,7 +7,7 @@ use Rattle.std.proofs.lemmas.Fmt.{digits_decimal, length-decimal-le}
 use Rattle.stamps.specs.Key.{IsKey}
 use Rattle.stamps.specs.Text.{is_between, is_name_byte, is_visible_byte}
 use Rattle.stamps.specs.Value.{IsValue}
-use Rattle.cell_lines.proofs.Numbers.{own}
+use Rattle.line_protocol.proofs.Numbers.{own}
 use Rattle.workload.specs.Rounds.{key_of}
 
 digits_pass : (allowed : ℕ → Bool) → ((byte : ℕ) → is_between 48 57 byte ≡ true → allowed byte ≡ true) → (bytes : List ℕ) → list_all (is_between 48 57) bytes ≡ true → list_all allowed bytes ≡ true

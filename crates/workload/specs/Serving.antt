@@ -5,7 +5,7 @@ use Rattle.std.specs.Io.KnownBytes.{Appends, Keeps}
 use Rattle.stamps.specs.declared.bounds.Limits.{Limits}
 use Rattle.hub.specs.Hubs.{AllSoundBooks, ConfigView, config_view}
 use Rattle.closed_store.specs.declared.closed.Closed.{Closed}
-use Rattle.cell_lines.specs.Stream.{terminated}
+use Rattle.line_protocol.specs.Stream.{terminated}
 use Rattle.line_runs.specs.Statuses.{status_of}
 use Rattle.line_runs.specs.declared.fault.ProgramFault.{ProgramFault}
 use Rattle.line_runs.specs.declared.fault.ProgramFault.TheVariants.{LineTooLong, Cut, Settle, Options}

@@ -1,5 +1,5 @@
 use Rattle.std.proofs.Common.{◌+◌, ◌*◌, ◌∷◌, ◌++◌, take, arith}
-use Rattle.cell_lines.specs.Spelling.{found_keys_text}
+use Rattle.line_protocol.specs.Spelling.{found_keys_text}
 use Rattle.line_protocol.proofs.Appending.{Appends-trans, Appends-parted, parted_key_room, Appends-at_most, found_keys_text-push}
 use Rattle.line_protocol.proofs.write.put_found_keys.Goals as goal
 

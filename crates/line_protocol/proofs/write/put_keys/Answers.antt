@@ -1,7 +1,7 @@
 use Rattle.std.proofs.Common.{◌+◌, ◌*◌, [], ◌∷◌, ◌++◌, take, arith, sym, subst}
 use Rattle.bytes.specs.Filled.{Filled}
 use Rattle.line_protocol.specs.Room.{Appends, key_room}
-use Rattle.cell_lines.specs.Spelling.{keys_text}
+use Rattle.line_protocol.specs.Spelling.{keys_text}
 use Rattle.line_protocol.proofs.Appending.{first_key_text, later_key_text, Appends-trans, Appends-parted, parted_key_room, Appends-at_most}
 use Rattle.line_protocol.proofs.write.put_keys.Goals as goal
 use Rattle.line_protocol.proofs.write.put_keys.Goals.{then-i-gt0, else-i-gt0}

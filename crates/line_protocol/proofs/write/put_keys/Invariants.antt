@@ -1,7 +1,7 @@
 use Rattle.std.proofs.Common.{◌≤◌, ◌*◌, length, take}
 use Rattle.stamps.specs.Limits.{max_keys}
 use Rattle.line_protocol.specs.Room.{Appends}
-use Rattle.cell_lines.specs.Spelling.{keys_text}
+use Rattle.line_protocol.specs.Spelling.{keys_text}
 use Rattle.line_protocol.proofs.Appending.{parted_key_room}
 use Rattle.line_protocol.proofs.write.put_keys.Given as goal
 

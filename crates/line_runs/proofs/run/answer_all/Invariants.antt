@@ -1,5 +1,5 @@
 use Rattle.std.proofs.Common.{◌≡◌, ◌≤◌, ◌<◌, [], length}
-use Rattle.cell_lines.specs.Stream.{HasNoLineFeed, line_limit}
+use Rattle.line_protocol.specs.Stream.{HasNoLineFeed, line_limit}
 use Rattle.line_runs.proofs.Running.{IsRunning}
 use Rattle.line_runs.proofs.run.answer_all.Given as goal
 

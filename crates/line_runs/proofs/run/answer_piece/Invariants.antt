@@ -1,5 +1,5 @@
 use Rattle.std.proofs.Common.{◌≤◌, ◌++◌, List, ℕ, length}
-use Rattle.cell_lines.specs.Stream.{HasNoLineFeed, line_limit}
+use Rattle.line_protocol.specs.Stream.{HasNoLineFeed, line_limit}
 use Rattle.line_runs.specs.RunAnswers.{AnswersFront, Gathers}
 use Rattle.line_runs.proofs.run.answer_piece.Given as goal
 

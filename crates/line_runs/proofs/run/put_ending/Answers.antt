@@ -1,8 +1,8 @@
 use Rattle.std.proofs.Common.{rules, ◌≡◌, ◌++◌, ap, ◌∙◌}
 use Rattle.plain_store.specs.declared.refusal.Refusal.{Refusal}
 use Rattle.plain_store.specs.Numbers.{number_of}
-use Rattle.cell_lines.specs.Stream.{terminated}
-use Rattle.cell_lines.specs.Spelling.{refused_text}
+use Rattle.line_protocol.specs.Stream.{terminated}
+use Rattle.line_protocol.specs.Spelling.{refused_text}
 use Rattle.line_runs.proofs.run.put_ending.Goals as goal
 use Rattle.line_runs.proofs.run.put_ending.Goals.{in-TooLong, in-Cut}
 

@@ -1,5 +1,5 @@
 use Rattle.std.proofs.Common.{◌≡◌, ◌≤◌, ◌<◌, List, ℕ, length}
-use Rattle.cell_lines.specs.Stream.{HasNoLineFeed}
+use Rattle.line_protocol.specs.Stream.{HasNoLineFeed}
 use Rattle.line_runs.specs.RunAnswers.{Gathers}
 use Rattle.server_sessions.specs.Telling.{IsSeated, Tells}
 use Rattle.server_sessions.proofs.InTurn.{RunsSo}

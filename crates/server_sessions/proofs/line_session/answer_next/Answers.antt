@@ -4,7 +4,7 @@ use Rattle.line_runs.proofs.Gathering.{Gathers-none}
 use Rattle.line_protocol.specs.AnswerSpelling.{answer_line}
 use Rattle.server_sessions.specs.Telling.{BreaksTelling}
 use Rattle.line_runs.proofs.Faults.{at_any}
-use Rattle.cell_lines.specs.Stream.{IsLine, terminated}
+use Rattle.line_protocol.specs.Stream.{IsLine, terminated}
 use Rattle.server_sessions.specs.Answered.{BreaksOffIn}
 use Rattle.server_sessions.proofs.ToldOf.{breaks_line, told_line}
 use Rattle.server_sessions.proofs.InTurn.{breaks_at_line, ends_before, ends_without_memory, gathers_line, goes_on}

@@ -1,6 +1,6 @@
 use Rattle.std.proofs.Common.{◌≡◌, ◌∙◌, ◌++◌, ap, sym, take, length, List, ℕ}
 use Rattle.std.proofs.lemmas.Bool.{false≢true}
-use Rattle.cell_lines.specs.Stream.{HasNoLineFeed}
+use Rattle.line_protocol.specs.Stream.{HasNoLineFeed}
 use Rattle.line_protocol.specs.Held.{at_stage, bytes_fed}
 use Rattle.line_protocol.specs.declared.lines.Lines.TheInside.{Inside}
 use Rattle.line_protocol.proofs.LineFeeds.{partial-is, spent-is, takes, overflows, stays_too_long, taken-front, taken-some, waits, any-none, waits_not_too_long, takes_not_too_long}

@@ -2,8 +2,8 @@ use Rattle.std.proofs.Common.{◌≡◌, ◌++◌, ◌∙◌, ap, sym, subst, Ok
 use Rattle.bytes.specs.Filled.{Filled}
 use Rattle.plain_store.specs.declared.refusal.Refusal.{Refusal}
 use Rattle.plain_store.specs.Numbers.{number_of}
-use Rattle.cell_lines.specs.Stream.{terminated}
-use Rattle.cell_lines.specs.Spelling.{reply_line, refused_text}
+use Rattle.line_protocol.specs.Stream.{terminated}
+use Rattle.line_protocol.specs.Spelling.{reply_line, refused_text}
 use Rattle.prepare_commit.specs.Content.{Content}
 use Rattle.line_runs.specs.declared.cell_run.CellService.{CellService}
 use Rattle.line_runs.specs.CellAnswers.{told_by_cell}

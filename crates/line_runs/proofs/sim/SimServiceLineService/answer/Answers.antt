@@ -1,7 +1,7 @@
 use Rattle.std.proofs.lemmas.Result.{on_err_weaker, on_ok_weaker}
 use Rattle.plain_store.specs.Numbers.{number_of}
-use Rattle.cell_lines.specs.Stream.{terminated}
-use Rattle.cell_lines.specs.Spelling.{refused_text}
+use Rattle.line_protocol.specs.Stream.{terminated}
+use Rattle.line_protocol.specs.Spelling.{refused_text}
 use Rattle.line_protocol.specs.AnswerSpelling.{answer_line}
 use Rattle.line_runs.proofs.SimSteps.{both_on_ok, keeps_answering, takes_step, refuses}
 use Rattle.line_runs.proofs.sim.SimServiceLineService.answer.Goals as goal

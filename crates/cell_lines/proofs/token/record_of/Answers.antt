@@ -1,5 +1,0 @@
-use Rattle.stamps.proofs.MakingLemmas.{record_from-read}
-use Rattle.cell_lines.proofs.token.record_of.Goals as goal
-
-pub returns : goal.returns
-returns c = record_from-read c.args.key c.args.tag c.args.value c.args.stamp c.args.writes c.new.result c.new.ensures.exact c.new.ensures.value
