@@ -89,19 +89,20 @@ impl Current {
     }
 
     /// Hands it a reply to one of its calls. Ignored where a reply in its place was taken before, and where none runs. What was
-    /// read is put into the caller's buffer.
-    pub(crate) fn take(&mut self, message: &Message, readings: &mut Readings) -> MoveKind
-        ensures idle { self.old ≡ None → (result ≡ MoveKind.Ignored) × (self.new ≡ self.old) }
+    /// read, and what it does, is put into the caller's buffers.
+    pub(crate) fn take(&mut self, message: &Message, readings: &mut Readings, kind: &mut MoveKind)
+        ensures idle { self.old ≡ None → (kind.new ≡ MoveKind.Ignored) × (self.new ≡ self.old) }
         ensures shown { (setup : Setup) (request : Intent) (taken : List Sent) → IsShown setup request taken self.old
-            → Shows setup request taken message.now (moved result readings.new) (λ replies. IsShown setup request replies self.new) }
+            → Shows setup request taken message.now (moved kind.new readings.new) (λ replies. IsShown setup request replies self.new) }
         ensures taken { (setup : Setup) (request : Intent) (taken : List Sent) (running : Running) → self.old ≡ Some running
             → RunningStands setup request taken running → IsReplyTo setup request taken message.now
-            → TakesMessage setup request taken message.now (moved result readings.new) (λ replies. GoesOn setup request replies self.new) }
-        ensures calls { calls_sent (moved result readings.new) (calls_waiting self.new) + calls_left self.new ≤ calls_left self.old }
+            → TakesMessage setup request taken message.now (moved kind.new readings.new) (λ replies. GoesOn setup request replies self.new) }
+        ensures calls { calls_sent (moved kind.new readings.new) (calls_waiting self.new) + calls_left self.new ≤ calls_left self.old }
     {
         if !self.is_running {
-            return MoveKind::Ignored;
+            *kind = MoveKind::Ignored;
+            return;
         }
-        self.running.take(message, readings)
+        self.running.take(message, readings, kind);
     }
 }

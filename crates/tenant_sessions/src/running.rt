@@ -132,13 +132,13 @@ impl Running {
     }
 
     /// Takes a reply to one of its calls. Ignored where a reply in its place was taken before. Of a transaction
-    /// that ended nothing is said. What was read is put into the caller's buffer.
-    pub(crate) fn take(&mut self, message: &Message, readings: &mut Readings) -> MoveKind
+    /// that ended nothing is said. What was read, and what it does, is put into the caller's buffers.
+    pub(crate) fn take(&mut self, message: &Message, readings: &mut Readings, kind: &mut MoveKind)
         ensures shown { (setup : Setup) (request : Intent) (taken : List Sent) → HasTaken setup request taken self.old.machine
-            → Shows setup request taken message.now (moved result readings.new) (λ replies. HasTaken setup request replies self.new.machine) }
+            → Shows setup request taken message.now (moved kind.new readings.new) (λ replies. HasTaken setup request replies self.new.machine) }
         ensures takes { (setup : Setup) (request : Intent) (taken : List Sent) → RunningStands setup request taken self.old → IsReplyTo setup request taken message.now
-            → TakesMessage setup request taken message.now (moved result readings.new) (λ replies. RunningStands setup request replies self.new) }
-        ensures calls { calls_sent (moved result readings.new) (length self.new.waiting) + machine_left self.new.machine ≤ machine_left self.old.machine }
+            → TakesMessage setup request taken message.now (moved kind.new readings.new) (λ replies. RunningStands setup request replies self.new) }
+        ensures calls { calls_sent (moved kind.new readings.new) (length self.new.waiting) + machine_left self.new.machine ≤ machine_left self.old.machine }
     {
         match self.kind {
             TransactionKind::Put => take_written(
@@ -147,6 +147,7 @@ impl Running {
                 &mut self.waiting,
                 self.parts,
                 message,
+                kind,
             ),
             TransactionKind::Get => take_read(
                 &mut self.finder,
@@ -154,6 +155,7 @@ impl Running {
                 self.parts,
                 message,
                 readings,
+                kind,
             ),
             TransactionKind::Find => take_found(
                 &mut self.finder,
@@ -161,6 +163,7 @@ impl Running {
                 self.parts,
                 message,
                 readings,
+                kind,
             ),
         }
     }

@@ -64,37 +64,38 @@ fn await_late(finder: &Finder, waiting: &mut Waiting, parts: u32)
 }
 
 /// Takes a reply to one of the calls of the read to which the finder lends its reader, and puts what it
-/// gave into the caller's buffer.
+/// gave, and what it does, into the caller's buffers.
 pub(crate) fn take_read(
     finder: &mut Finder,
     waiting: &mut Waiting,
     parts: u32,
     message: &Message,
     readings: &mut Readings,
-) -> MoveKind
+    kind: &mut MoveKind,
+)
     requires { IsParts parts }
     ensures shown { (setup : Setup) (keys : List Key) (taken : List Message) → StandsFor keys finder.old.reader taken
-        → Shows setup (Gets keys) taken message.now (moved result readings.new) (StandsFor keys finder.new.reader) }
+        → Shows setup (Gets keys) taken message.now (moved kind.new readings.new) (StandsFor keys finder.new.reader) }
     ensures takes { (setup : Setup) (keys : List Key) (taken : List Message) → setup.partitions ≡ parts → IsReading setup keys taken finder.old.reader waiting.old
         → IsReplyTo setup (Gets keys) taken message.now
-        → TakesMessage setup (Gets keys) taken message.now (moved result readings.new) (λ replies. IsReading setup keys replies finder.new.reader waiting.new) }
-    ensures calls { calls_sent (moved result readings.new) (length waiting.new) + calls_left finder.new.reader ≤ calls_left finder.old.reader }
+        → TakesMessage setup (Gets keys) taken message.now (moved kind.new readings.new) (λ replies. IsReading setup keys replies finder.new.reader waiting.new) }
+    ensures calls { calls_sent (moved kind.new readings.new) (length waiting.new) + calls_left finder.new.reader ≤ calls_left finder.old.reader }
 {
     match offer(finder, message) {
         ReadMoveKind::Wait => {
             waiting.forget(message);
-            MoveKind::Wait
+            *kind = MoveKind::Wait;
         }
         ReadMoveKind::Ask => {
             await_late(finder, waiting, parts);
-            MoveKind::Ask
+            *kind = MoveKind::Ask;
         }
         ReadMoveKind::Read => {
             finder.readings_alone_into(readings);
-            MoveKind::Read
+            *kind = MoveKind::Read;
         }
-        ReadMoveKind::Restart(key, floor) => MoveKind::Restart(key, floor),
-        ReadMoveKind::Torn => MoveKind::Ended(Refusal::Torn, Discards::none()),
-        ReadMoveKind::Ignored => MoveKind::Ignored,
+        ReadMoveKind::Restart(key, floor) => *kind = MoveKind::Restart(key, floor),
+        ReadMoveKind::Torn => *kind = MoveKind::Ended(Refusal::Torn, Discards::none()),
+        ReadMoveKind::Ignored => *kind = MoveKind::Ignored,
     }
 }

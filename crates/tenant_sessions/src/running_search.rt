@@ -57,7 +57,7 @@ fn offer_reply(finder: &mut Finder, message: &Message, reply: &Reply) -> FindMov
     }
 }
 
-/// Takes a reply to one of the calls of the search, and puts what it gave into the caller's buffer.
+/// Takes a reply to one of the calls of the search, and puts what it gave, and what it does, into the caller's buffers.
 #[cold]
 #[inline(never)]
 pub(crate) fn take_found(
@@ -66,35 +66,36 @@ pub(crate) fn take_found(
     parts: u32,
     message: &Message,
     readings: &mut Readings,
-) -> MoveKind
+    kind: &mut MoveKind,
+)
     requires { IsParts parts }
     ensures shown { (setup : Setup) (tag : Tag) (taken : List Message) → StandsFor setup tag finder.old taken
-        → Shows setup (Finds tag) taken message.now (moved result readings.new) (StandsFor setup tag finder.new) }
+        → Shows setup (Finds tag) taken message.now (moved kind.new readings.new) (StandsFor setup tag finder.new) }
     ensures takes { (setup : Setup) (tag : Tag) (taken : List Message) → setup.partitions ≡ parts → IsFinding setup tag taken finder.old waiting.old
         → IsReplyTo setup (Finds tag) taken message.now
-        → TakesMessage setup (Finds tag) taken message.now (moved result readings.new) (λ replies. IsFinding setup tag replies finder.new waiting.new) }
-    ensures calls { calls_sent (moved result readings.new) (length waiting.new) + calls_left finder.new ≤ calls_left finder.old }
+        → TakesMessage setup (Finds tag) taken message.now (moved kind.new readings.new) (λ replies. IsFinding setup tag replies finder.new waiting.new) }
+    ensures calls { calls_sent (moved kind.new readings.new) (length waiting.new) + calls_left finder.new ≤ calls_left finder.old }
 {
     match offer(finder, message) {
         FindMove::Wait => {
             waiting.forget(message);
-            MoveKind::Wait
+            *kind = MoveKind::Wait;
         }
         FindMove::Begin(keys) => {
             waiting.read(keys.as_slice(), parts);
-            MoveKind::Begins
+            *kind = MoveKind::Begins;
         }
         FindMove::Ask(late) => {
             waiting.read_late(late, parts);
-            MoveKind::Ask
+            *kind = MoveKind::Ask;
         }
         FindMove::List(found) => {
             *readings = found;
-            MoveKind::Listed
+            *kind = MoveKind::Listed;
         }
-        FindMove::Restart(key, floor) => MoveKind::Restart(key, floor),
-        FindMove::TooMany => MoveKind::Ended(Refusal::TooMany, Discards::none()),
-        FindMove::Torn => MoveKind::Ended(Refusal::Torn, Discards::none()),
-        FindMove::Ignored => MoveKind::Ignored,
+        FindMove::Restart(key, floor) => *kind = MoveKind::Restart(key, floor),
+        FindMove::TooMany => *kind = MoveKind::Ended(Refusal::TooMany, Discards::none()),
+        FindMove::Torn => *kind = MoveKind::Ended(Refusal::Torn, Discards::none()),
+        FindMove::Ignored => *kind = MoveKind::Ignored,
     }
 }

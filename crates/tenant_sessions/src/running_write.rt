@@ -73,37 +73,37 @@ fn await_commits(stamp: Stamp, partitions: Partitions, waiting: &mut Waiting, pa
     waiting.commit(stamp, partitions, parts);
 }
 
-/// Takes a reply to one of the calls of the write of this stamp.
+/// Takes a reply to one of the calls of the write of this stamp, and writes what it does into the caller's buffer.
 pub(crate) fn take_written(
     stamp: Stamp,
     writer: &mut Writer,
     waiting: &mut Waiting,
     parts: u32,
     message: &Message,
-) -> MoveKind
+    kind: &mut MoveKind,
+)
     requires { IsParts parts }
     ensures takes { (setup : Setup) (items : List Item) (taken : List Message) (readings : List Reading) → setup.partitions ≡ parts → IsWriting setup stamp items taken writer.old waiting.old
         → IsReplyTo setup (Writes stamp items) taken message.now
-        → TakesMessage setup (Writes stamp items) taken message.now (moved result readings) (λ replies. IsWriting setup stamp items replies writer.new waiting.new) }
-    ensures calls { (readings : List Reading) → calls_sent (moved result readings) (length waiting.new) + calls_left writer.new ≤ calls_left writer.old }
+        → TakesMessage setup (Writes stamp items) taken message.now (moved kind.new readings) (λ replies. IsWriting setup stamp items replies writer.new waiting.new) }
+    ensures calls { (readings : List Reading) → calls_sent (moved kind.new readings) (length waiting.new) + calls_left writer.new ≤ calls_left writer.old }
     // Whatever the message is.
     ensures shown { (setup : Setup) (items : List Item) (taken : List Message) (readings : List Reading) → StandsFor setup stamp items writer.old taken
-        → Shows setup (Writes stamp items) taken message.now (moved result readings) (StandsFor setup stamp items writer.new) }
+        → Shows setup (Writes stamp items) taken message.now (moved kind.new readings) (StandsFor setup stamp items writer.new) }
 {
     match offer(writer, message) {
         WriteMove::Wait => {
             waiting.forget(message);
-            MoveKind::Wait
+            *kind = MoveKind::Wait;
         }
         WriteMove::Decide => {
             await_commits(stamp, writer.partitions(), waiting, parts);
-            MoveKind::Decided(stamp)
+            *kind = MoveKind::Decided(stamp);
         }
-        WriteMove::Done(_) => MoveKind::Done(stamp),
-        WriteMove::Refused(refusal) => MoveKind::Ended(
-            refusal,
-            discards_of(refusal, stamp, writer),
-        ),
-        WriteMove::Ignored => MoveKind::Ignored,
+        WriteMove::Done(_) => *kind = MoveKind::Done(stamp),
+        WriteMove::Refused(refusal) => {
+            *kind = MoveKind::Ended(refusal, discards_of(refusal, stamp, writer));
+        }
+        WriteMove::Ignored => *kind = MoveKind::Ignored,
     }
 }

@@ -209,21 +209,38 @@ impl ClientSession {
         ensures counter { self.old.counter ≤ self.new.counter }
         ensures still_open { self.new.is_open ≡ self.old.is_open }
     {
-        if message.ticket != self.ticket {
-            return MoveKind::Ignored;
+        let mut kind = MoveKind::Ignored;
+        self.move_into(message, readings, &mut kind);
+        kind
+    }
+
+    /// Does what `take_into` does, and writes the move into the caller's buffer.
+    pub fn move_into(&mut self, message: &Message, readings: &mut Readings, kind: &mut MoveKind)
+        ensures idle { self.old.running ≡ None → (kind.new ≡ MoveKind.Ignored) × (self.new ≡ self.old) }
+        ensures late { message.now.ticket ≢ self.old.ticket → (kind.new ≡ MoveKind.Ignored) × (self.new ≡ self.old) }
+        ensures taken { (setup : Setup) (request : Intent) (taken : List Sent) (running : Running) → message.now.ticket ≡ self.old.ticket
+            → self.old.running ≡ Some running → RunningStands setup request taken running → IsReplyTo setup request taken message.now
+            → TakesReply setup request taken message.now self.old (moved kind.new readings.new) self.new }
+        // Whatever the message is.
+        ensures shown { (setup : Setup) (request : Intent) (taken : List Sent) → IsShown setup request taken self.old.running
+            → Shows setup request taken message.now (moved kind.new readings.new) (λ replies. IsShown setup request replies self.new.running) }
+        // Whatever the message is: what a move sends and what may be asked for after it is no more than what might be before.
+        ensures calls { calls_sent (moved kind.new readings.new) (calls_waiting self.new.running) + calls_left self.new.running ≤ calls_left self.old.running }
+        ensures counter { self.old.counter ≤ self.new.counter }
+        ensures still_open { self.new.is_open ≡ self.old.is_open }
+    {
+        if message.ticket != self.ticket || !self.running.is_some() {
+            *kind = MoveKind::Ignored;
+            return;
         }
-        if !self.running.is_some() {
-            return MoveKind::Ignored;
-        }
-        let kind = self.running.take(message, readings);
+        self.running.take(message, readings, kind);
         if kind.is_ignored() {
-            return kind;
+            return;
         }
         if kind.is_last() {
             self.running.forget();
         }
         self.raise(counter_told(&message.reply));
-        kind
     }
 
     /// How many calls of its transaction are sent again, up to 64: those that no reply was taken to. 0 where none is running.

@@ -4,16 +4,16 @@ use Rattle.tenant_sessions.specs.declared.session.ClientSession.{ClientSession}
 use Rattle.tenant_sessions.specs.Moves.{moved}
 use Rattle.tenant_sessions.specs.Showing.{IsShown, Shows}
 use Rattle.tenant_sessions.proofs.Shown.{shows_so}
-use Rattle.tenant_sessions.proofs.session.ClientSession.take_into.Goals.{then-is_last, else-is_last}
-use Rattle.tenant_sessions.proofs.session.ClientSession.take_into.Goals as goal
+use Rattle.tenant_sessions.proofs.session.ClientSession.move_into.Goals.{then-is_last, else-is_last}
+use Rattle.tenant_sessions.proofs.session.ClientSession.move_into.Goals as goal
 
 pub returns-clause-shown : goal.returns-clause-shown
 returns-clause-shown c = λ setup request taken has.
     let message = c.args.message.now in
-    let move = moved c.take-kind.result c.take-kind.new.readings in
+    let move = moved c.take.new.kind c.take.new.readings in
     let P : Option Running → Type 0 = λ o. Shows setup request taken message move (λ replies. IsShown setup request replies o) in
-    let after : Option Running = c.take-kind.new.self in
-    let shown : P after = c.take-kind.ensures.shown setup request taken has in
+    let after : Option Running = c.take.new.self in
+    let shown : P after = c.take.ensures.shown setup request taken has in
     let raised = ap (λ (s : ClientSession). s.running) c.raise.ensures in
     elim c.if-is_last.branch [
       | then-is_last w ↦ subst P (sym (raised ∙ ap (λ (s : ClientSession). s.running) w.self-is ∙ w.forget.ensures))
