@@ -1,6 +1,7 @@
 -- What each tenant can rely on, whatever the others do.
 use Rattle.std.specs.Prelude.{◌≡◌, ◌⊎◌, ℕ, ◌≤◌, List, length, ◌++◌, take, slice_get, Some, IsSome, Result, IfOk}
 use Rattle.std.specs.FinMap.{get}
+use Rattle.stamps.specs.Limits.{max_parts}
 use Rattle.plain_store.specs.Words.{◌∈◌, Stamp, Record, Setup, setup_of}
 use Rattle.plain_store.specs.declared.calls.Call.TheVariants.{Discard}
 use Rattle.plain_store.specs.declared.step.Act.{Act}
@@ -59,8 +60,8 @@ pub record IsPromised (setup : Setup) (history : History) (act : Act) (answer : 
   pub taken_back : IsTakenBack setup history act answer
   -- and no transaction is waiting for the replies to these
   pub discard_ignored : IsDiscardIgnored history act answer
-  -- no more than 64 messages are sent
-  pub rows : length (sent_by setup history act) ≤ 64
+  -- no more messages are sent than there may be partitions
+  pub rows : length (sent_by setup history act) ≤ max_parts
 
 -- so is the answer to a step that follows these, in the light of its own tenant's
 abbrev pub IsPromisedAfter : ℕ → List Limits → List Step → Step → Answer → Type 0

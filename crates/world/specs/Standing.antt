@@ -5,6 +5,7 @@ use Rattle.plain_store.specs.declared.step.Act.{Act}
 use Rattle.plain_store.specs.declared.answer.Answer.{Answer}
 use Rattle.plain_store.specs.declared.step.Act.TheVariants.{Hello, Put, Get as GetAll, Find, Deliver, Lose, Retry, Stop}
 use Rattle.plain_store.specs.declared.step.Act.TheVariants.{Collect as CollectAt, Keep as SetKeep}
+use Rattle.stamps.specs.Limits.{max_parts}
 use Rattle.plain_store.specs.Words.{Setup, setup_of, IsAct}
 use Rattle.plain_store.specs.declared.step.Step.{Step}
 use Rattle.plain_store.specs.History.{History, messages, lost_rows, keep_in, log_at}
@@ -54,11 +55,11 @@ pub record IsWorld (shelves : List Shelf) (tenants : List Tenant) : Type 0 where
 -- ---- one tenant's step
 
 -- the answer is the plain store's, the tenant stands for its history with this moment,
--- and no more than 64 messages are sent
+-- and no more messages are sent than there may be partitions
 pub record TenantSteps (setup : Setup) (history : History) (act : Act) (answer : Answer) (new : Tenant) : Type 0 where
   pub told : answer ≡ answer_to setup history act
   pub stands : TenantStandsFor setup (moment_of setup history act ∷ history) new
-  pub few : length (sent_by setup history act) ≤ 64
+  pub few : length (sent_by setup history act) ≤ max_parts
 
 -- what a call answers that writes its answer into the caller's buffer
 abbrev pub answered_in_place : Result (Unit {0}) OutOfMemory → Answer → Result Answer OutOfMemory

@@ -1,5 +1,6 @@
 //! Messages that are delivered, and messages that are lost.
 ghost use Rattle.std.specs.Prelude.{◌++◌, [], List, map, take, cond, ◌≡◌, ◌+◌, ◌<◌, ◌≤◌, ◌∷◌, ◌^◌, ℕ, length, false, All, Some, None, IsSome, MatchResult, OnErr};
+ghost use Rattle.stamps.specs.Limits.{max_keys, max_parts, max_rows};
 ghost use Rattle.plain_store.specs.Words.{Setup, setup_of};
 ghost use Rattle.plain_store.specs.declared.step.Act.TheVariants.{Deliver, Lose};
 ghost use Rattle.plain_store.specs.History.{History, message_at};
@@ -19,11 +20,11 @@ use crate::tenant::Tenant;
 use message_table::Table;
 use partition::Shelf;
 use plain_store::{Answer, Message, OutOfMemory, Refusal, Reply, Rows};
-use stamps::Client;
+use stamps::{Client, limits};
 use tenant_sessions::{MoveKind, Sessions};
 
 /// The most calls that a reply has its client send.
-const MOST_ANSWERED: u32 = 16;
+const MOST_ANSWERED: u32 = limits::MAX_KEYS as u32;
 
 impl Tenant {
     /// Delivers the message of a row: a call to its partition, and a reply to its client.
@@ -66,7 +67,7 @@ impl Tenant {
     ) -> Result<(), OutOfMemory>
         requires parts { 0 < length shelves.old }
         requires seats { All (λ (shelf : Shelved). number < seats shelf) shelves.old }
-        requires rows { self.old.table.sent + 64 ≤ 2 ^ 62 }
+        requires rows { self.old.table.sent + max_parts ≤ max_rows }
         ensures serves { (setup : Setup) (history : History) (message : Sent) → setup ≡ setup_of (length shelves.old) self.old.limits → IsRun setup history
             → TenantStandsFor setup history self.old → CellsStandFor setup history shelves.old number
             → rows_are_used history ≡ false → message_at history row ≡ Some message → message.reply ≡ None
@@ -98,7 +99,7 @@ impl Tenant {
     /// Hands the row's reply to its client, and sends the calls that follow on it. Room for the most of these is reserved
     /// first.
     fn deliver_reply(&mut self, row: u64, answer: &mut Answer) -> Result<(), OutOfMemory>
-        requires { self.old.table.sent + 64 ≤ 2 ^ 62 }
+        requires { self.old.table.sent + max_parts ≤ max_rows }
         ensures takes { (setup : Setup) (history : History) (message : Sent) → IsRun setup history → TenantStandsFor setup history self.old
             → rows_are_used history ≡ false → message_at history row ≡ Some message → IsSome message.reply
             → MatchResult (answered_in_place result answer.new) (λ told. TenantSteps setup history (Deliver row) told self.new) (λ _. TenantStandsFor setup history self.new) }
@@ -147,13 +148,13 @@ fn with_reply(message: &Message, reply: &Reply) -> Message
     answered
 }
 
-/// Sends the calls that follow on a reply that was taken, if any do. There are 16 at most, and room for so many.
+/// Sends the calls that follow on a reply that was taken, if any do. There are at most as many as a transaction has keys, and room for so many.
 fn send_next(sessions: &Sessions, table: &mut Table, client: Client, ticket: u64, taken: &MoveKind)
-    requires rows { table.old.sent + 16 ≤ 2 ^ 62 }
-    requires room { 16 ≤ table.old.reserved }
+    requires rows { table.old.sent + max_keys ≤ max_rows }
+    requires room { max_keys ≤ table.old.reserved }
     ensures { (setup : Setup) (history : History) (messages : List Sent) (lost : List ℕ) (readings : List Told) → IsRun setup history
         → SessionsStandFor setup history sessions.now → TableStandsFor table.old messages lost
-        → TableStandsFor table.new (messages ++ take 16 (cond (sends_calls (moved taken.now readings)) (waiting setup history client)
+        → TableStandsFor table.new (messages ++ take max_keys (cond (sends_calls (moved taken.now readings)) (waiting setup history client)
         (map (call_message client ticket) (ending (moved taken.now readings))))) lost }
 {
     if taken.sends() {

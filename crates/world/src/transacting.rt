@@ -1,5 +1,6 @@
 //! Steps of a client's session: it opens and closes, begins transactions, and sends its calls again.
 ghost use Rattle.std.specs.Prelude.{◌≡◌, ◌≢◌, ◌+◌, ◌≤◌, ◌∷◌, ◌^◌, false, MatchResult, OnErr};
+ghost use Rattle.stamps.specs.Limits.{max_parts, max_rows};
 ghost use Rattle.plain_store.specs.Words.{Setup, IsAct};
 ghost use Rattle.plain_store.specs.declared.step.Act.{Act as Told};
 ghost use Rattle.plain_store.specs.declared.step.Act.TheVariants.{Hello, Put, Get as GetAll, Find as Search, Retry, Stop};
@@ -106,7 +107,7 @@ impl Tenant {
 
     /// Begins a transaction that passed its tests: reserves room for its calls, starts it, and sends them.
     fn begin(&mut self, begin: &Begin<'_>, answer: &mut Answer) -> Result<(), OutOfMemory>
-        requires { self.old.table.sent + 64 ≤ 2 ^ 62 }
+        requires { self.old.table.sent + max_parts ≤ max_rows }
         ensures takes { (setup : Setup) (history : History) (act : Told) → IsRun setup history → TenantStandsFor setup history self.old
             → rows_are_used history ≡ false → IsAct act → IsBeginning act → IsBegin setup history act begin.now
             → MatchResult (answered_in_place result answer.new) (λ told. TenantSteps setup history act told self.new) (λ _. TenantStandsFor setup history self.new) }
