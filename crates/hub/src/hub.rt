@@ -4,7 +4,7 @@ ghost use Rattle.hub.specs.Hubs.{config_view, AllSoundBooks};
 ghost use Rattle.hub.specs.Registered.{IsDeparture, is_unopened};
 ghost use Rattle.shard.specs.Queues.{unsent};
 ghost use Rattle.shard.specs.UsedAt.{AreUsagesAt};
-ghost use Rattle.std.specs.Prelude.{◌≡◌, ◌≤◌, ◌<◌, ◌+◌, ◌^◌, ◌↔◌, ◌⊎◌, true, false, [], length, map, slice_get, vec_len, vec_capacity, Ok, IfOk, IfErr, IfSome, OnOk, IsErrOf, IsTrue};
+ghost use Rattle.std.specs.Prelude.{◌≡◌, ◌≤◌, ◌<◌, ◌+◌, ◌↔◌, ◌⊎◌, true, false, [], length, map, slice_get, vec_len, vec_capacity, Ok, IfOk, IfErr, IfSome, OnOk, IsErrOf, IsTrue};
 
 use crate::closing::take_out;
 use crate::dispatcher::Dispatcher;
@@ -13,9 +13,9 @@ use crate::seal::Sealed;
 use crate::seat::{Ends, Seat};
 use crate::start::{HubFault, PartitionLists, Worker, collector_of, join_all, share, start_all};
 use closed_store::{Closed, Config, Transcript};
-use partition::{Counts, Journal, Usage};
+use partition::{Counts, Journal};
 use plain_store::{Reading, Readings, Refusal};
-use shard::{Collector, Gate, JobSender, SeatName, Shard, Sink};
+use shard::{Collector, Gate, JobSender, SeatName, Shard, Sink, TenantUsage};
 use stamps::{Client, Counter, Keep, Limits};
 use std::alloc::{AllocError, Global};
 use std::marker::Model;
@@ -176,7 +176,7 @@ impl<G: Gate> Hub<G> {
         &self,
         rt: &R,
         partition: u32,
-        usages: &mut Vec<Usage>,
+        usages: &mut Vec<TenantUsage>,
     ) -> Result<bool, AllocError>
         ensures used { IfOk result (λ is_there. IsTrue is_there → AreUsagesAt self.now.parts partition usages.new.items) }
         ensures past { self.now.parts ≤ partition → result ≡ Ok false }
@@ -185,13 +185,6 @@ impl<G: Gate> Hub<G> {
             Some(shard) => shard.put_usages(rt, self.config.parts, partition, usages),
             None => Ok(false),
         }
-    }
-
-    /// How many collections were begun: each is of one tenant at one partition. At most 2^62 are.
-    pub fn collections(&self) -> u64
-        ensures { result ≤ 2 ^ 62 }
-    {
-        self.collector.begun()
     }
 
     /// The limits of its tenants.

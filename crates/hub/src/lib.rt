@@ -16,5 +16,5 @@ pub use closed_store::{Closed, Config, Entry, EntryList, JoinFault, Operation, T
 pub use hub::Hub;
 pub use partition::Usage;
 pub use seat::Seat;
-pub use shard::{Gate, Sink};
+pub use shard::{Gate, Sink, TenantUsage};
 pub use start::HubFault;

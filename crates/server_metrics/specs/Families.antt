@@ -49,7 +49,7 @@ help_text Clients = codes "Client numbers of a tenant that were used."
 help_text ClientsLimit = codes "Client numbers that a tenant may use."
 help_text Refusals = codes "Lines of sessions that were answered by this refusal."
 help_text Restarts = codes "Lines of sessions that were answered by a restart."
-help_text Collections = codes "Collections that were begun, each of a tenant at a partition."
+help_text Collections = codes "Collections of a tenant at a partition."
 help_text Connections = codes "Connections that are served now."
 help_text ConnectionsLimit = codes "Connections that are served at a time."
 help_text ConnectionsBegun = codes "Connections that were begun."
@@ -83,4 +83,4 @@ kind_text Build = codes " gauge\n"
 -- those that have a number for each tenant at each partition
 abbrev pub row_families : List Family
 row_families =
-    Items ∷ ItemsLimit ∷ Versions ∷ VersionsLimit ∷ Marks ∷ MarksLimit ∷ Calls ∷ Cut ∷ Checked ∷ Waiting ∷ Wrong ∷ []
+    Items ∷ ItemsLimit ∷ Versions ∷ VersionsLimit ∷ Marks ∷ MarksLimit ∷ Calls ∷ Collections ∷ Cut ∷ Checked ∷ Waiting ∷ Wrong ∷ []

@@ -33,7 +33,7 @@ number_of Clients row = None
 number_of ClientsLimit row = None
 number_of Refusals row = None
 number_of Restarts row = None
-number_of Collections row = None
+number_of Collections row = Some row.collections
 number_of Connections row = None
 number_of ConnectionsLimit row = None
 number_of ConnectionsBegun row = None
@@ -113,8 +113,7 @@ process_text readings =
 -- the sessions and the process
 unfoldable pub server_text : Readings → List ℕ
 server_text readings =
-    plain_text Restarts readings.restarts ++ (plain_text Collections readings.collections
-    ++ (connections_text readings ++ process_text readings))
+    plain_text Restarts readings.restarts ++ (connections_text readings ++ process_text readings)
 
 -- the whole page
 abbrev pub metrics_text : Readings → List ℕ

@@ -12,6 +12,7 @@ pub enum Family {
     Marks,
     MarksLimit,
     Calls,
+    Collections,
     Cut,
     Checked,
     Waiting,
@@ -20,7 +21,6 @@ pub enum Family {
     ClientsLimit,
     Refusals,
     Restarts,
-    Collections,
     Connections,
     ConnectionsLimit,
     ConnectionsBegun,
@@ -29,7 +29,7 @@ pub enum Family {
 }
 
 /// The families that have a number for each tenant at each partition.
-pub(crate) const OF_ROWS: [Family; 11] = [
+pub(crate) const OF_ROWS: [Family; 12] = [
     Family::Items,
     Family::ItemsLimit,
     Family::Versions,
@@ -37,6 +37,7 @@ pub(crate) const OF_ROWS: [Family; 11] = [
     Family::Marks,
     Family::MarksLimit,
     Family::Calls,
+    Family::Collections,
     Family::Cut,
     Family::Checked,
     Family::Waiting,
@@ -55,6 +56,7 @@ pub(crate) fn name_text(family: Family) -> &'static str
         Family::Marks => "ramp_marks",
         Family::MarksLimit => "ramp_marks_limit",
         Family::Calls => "ramp_calls_served_total",
+        Family::Collections => "ramp_collections_total",
         Family::Cut => "ramp_epochs_cut_total",
         Family::Checked => "ramp_epochs_checked_total",
         Family::Waiting => "ramp_epochs_waiting",
@@ -63,7 +65,6 @@ pub(crate) fn name_text(family: Family) -> &'static str
         Family::ClientsLimit => "ramp_clients_limit",
         Family::Refusals => "ramp_refusals_total",
         Family::Restarts => "ramp_restarts_total",
-        Family::Collections => "ramp_collections_total",
         Family::Connections => "ramp_connections",
         Family::ConnectionsLimit => "ramp_connections_limit",
         Family::ConnectionsBegun => "ramp_connections_total",
@@ -85,6 +86,7 @@ pub(crate) fn help_text(family: Family) -> &'static str
         Family::MarksLimit =>
             "Clients of a tenant that may have a discard watermark at a partition.",
         Family::Calls => "Calls of a tenant that a partition served, collections among them.",
+        Family::Collections => "Collections of a tenant at a partition.",
         Family::Cut => "Epochs that were cut off a tenant's journal at a partition.",
         Family::Checked =>
             "Epochs of a tenant's journal at a partition that were checked and right.",
@@ -95,7 +97,6 @@ pub(crate) fn help_text(family: Family) -> &'static str
         Family::ClientsLimit => "Client numbers that a tenant may use.",
         Family::Refusals => "Lines of sessions that were answered by this refusal.",
         Family::Restarts => "Lines of sessions that were answered by a restart.",
-        Family::Collections => "Collections that were begun, each of a tenant at a partition.",
         Family::Connections => "Connections that are served now.",
         Family::ConnectionsLimit => "Connections that are served at a time.",
         Family::ConnectionsBegun => "Connections that were begun.",
@@ -110,11 +111,11 @@ pub(crate) fn kind_text(family: Family) -> &'static str
 {
     match family {
         Family::Calls
+        | Family::Collections
         | Family::Cut
         | Family::Checked
         | Family::Refusals
         | Family::Restarts
-        | Family::Collections
         | Family::ConnectionsBegun => " counter\n",
         _ => " gauge\n",
     }

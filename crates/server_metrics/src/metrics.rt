@@ -23,6 +23,8 @@ pub struct Row<'a> {
     pub marks_limit: u32,
     /// Calls that were served, collections among them.
     pub calls: u64,
+    /// Its collections there.
+    pub collections: u64,
     /// Epochs that were cut.
     pub cut: u64,
     /// How many of them were checked and right, where epochs are checked.
@@ -58,8 +60,6 @@ pub struct Readings<'a> {
     pub refusals: Vec<RefusalRow>,
     /// How many lines were answered by a restart.
     pub restarts: u64,
-    /// How many collections were begun, each of a tenant at a partition.
-    pub collections: u64,
     /// The connections that are open, how many are served at a time, and how many were begun in all.
     pub open: u64,
     pub most: u64,
@@ -174,6 +174,7 @@ fn number_of(family: Family, row: &Row<'_>) -> Option<u64>
         Family::Marks => Some(u64::from(row.marks)),
         Family::MarksLimit => Some(u64::from(row.marks_limit)),
         Family::Calls => Some(row.calls),
+        Family::Collections => Some(row.collections),
         Family::Cut => Some(row.cut),
         Family::Checked => row.checked,
         Family::Waiting => waiting_of(row),
@@ -291,7 +292,6 @@ fn put_server(text: &mut String, readings: &Readings<'_>) -> Result<(), AllocErr
     ensures { OnOk result (string_bytes text.new ≡ string_bytes text.old ++ server_text readings.now) }
 {
     put_plain(text, Family::Restarts, readings.restarts)?;
-    put_plain(text, Family::Collections, readings.collections)?;
     put_connections(text, readings)?;
     put_process(text, readings)
 }

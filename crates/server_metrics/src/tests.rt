@@ -108,6 +108,7 @@ ramp_versions_limit{tenant=\"t\",partition=\"3\"} 4\n\
 ramp_marks{tenant=\"t\",partition=\"3\"} 5\n\
 ramp_marks_limit{tenant=\"t\",partition=\"3\"} 6\n\
 ramp_calls_served_total{tenant=\"t\",partition=\"3\"} 18446744073709551615\n\
+ramp_collections_total{tenant=\"t\",partition=\"3\"} 8\n\
 ramp_epochs_cut_total{tenant=\"t\",partition=\"3\"} 9\n\
 ramp_epochs_checked_total{tenant=\"t\",partition=\"3\"} 7\n\
 ramp_epochs_waiting{tenant=\"t\",partition=\"3\"} 2\n\
@@ -116,7 +117,6 @@ ramp_clients{tenant=\"t\"} 10\n\
 ramp_clients_limit{tenant=\"t\"} 11\n\
 ramp_refusals_total{number=\"15\"} 12\n\
 ramp_restarts_total 13\n\
-ramp_collections_total 18\n\
 ramp_connections 14\n\
 ramp_connections_limit 15\n\
 ramp_connections_total 16\n\
@@ -137,6 +137,7 @@ fn readings(alloc: Global) -> Result<Readings<'static>, AllocError> {
         marks: 5,
         marks_limit: 6,
         calls: u64::MAX,
+        collections: 8,
         cut: 9,
         checked: Some(7),
         is_wrong: true,
@@ -157,7 +158,6 @@ fn readings(alloc: Global) -> Result<Readings<'static>, AllocError> {
         clients,
         refusals,
         restarts: 13,
-        collections: 18,
         open: 14,
         most: 15,
         begun: 16,

@@ -3,7 +3,7 @@ ghost use Rattle.std.specs.Prelude.{◌≡◌, ◌≢◌, ◌-◌, ◌↔◌, If
 ghost use Rattle.std.specs.Option.{option_map};
 ghost use Rattle.server_status.specs.Reported.{AreRowsAt, AreRowsBehind, IsRowOf};
 
-use hub::{Hub, Usage};
+use hub::{Hub, TenantUsage};
 use line_protocol::Name;
 use server_metrics::{ClientRow, Readings, RefusalRow, Row};
 use server_sessions::{AnswerCounts, Listener, Open, Server};
@@ -47,7 +47,6 @@ impl<'s> Watched<'s> {
             clients: self.read_clients(rt, alloc)?,
             refusals: read_refusals(alloc, self.server.answers())?,
             restarts: self.server.answers().restarts(),
-            collections: self.hub.collections(),
             open: connections.open as u64,
             most: connections.most as u64,
             begun: connections.begun,
@@ -99,7 +98,7 @@ impl<'s> Watched<'s> {
     fn put_rows(
         &self,
         partition: u32,
-        usages: &[Usage],
+        usages: &[TenantUsage],
         checked: &[Option<Progress>],
         rows: &mut Vec<Row<'s>>,
     ) -> Result<bool, AllocError>
@@ -162,12 +161,12 @@ fn read_refusals(alloc: Global, answers: &AnswerCounts) -> Result<Vec<RefusalRow
 fn row_of<'s>(
     tenant: &'s str,
     partition: u32,
-    usage: &Usage,
+    used: &TenantUsage,
     limits: &Limits,
     progress: Option<Progress>,
 ) -> Row<'s>
     ensures place { (result.tenant.now ≡ tenant.now) × (result.partition ≡ partition) }
-    ensures usage { IsRowOf usage.now result }
+    ensures used { IsRowOf used.now result }
     ensures limits { (result.items_limit ≡ limits.now.items) × (result.versions_limit ≡ limits.now.slots) × (result.marks_limit ≡ limits.now.clients) }
     ensures checked { result.checked ≡ option_map (λ its. its.checked) progress }
     ensures wrong { IsTrue result.is_wrong ↔ IsSomeAnd progress (λ its. its.standing ≢ Standing.Right) }
@@ -176,6 +175,7 @@ fn row_of<'s>(
         Some(its) => (Some(its.checked), its.standing != Standing::Right),
         None => (None, false),
     };
+    let usage = &used.usage;
     Row {
         tenant,
         partition,
@@ -186,6 +186,7 @@ fn row_of<'s>(
         marks: usage.holdings.marks,
         marks_limit: limits.clients,
         calls: usage.served,
+        collections: used.collections,
         cut: usage.epoch.saturating_sub(1),
         checked,
         is_wrong,

@@ -4,5 +4,6 @@ pub mod Jobs
 pub mod Journals
 pub mod Rounds
 pub mod Asked
+pub mod Collected
 pub mod UsedAt
 pub mod Held

@@ -1,22 +1,29 @@
 -- How much the tenants use of a partition.
-use Rattle.std.specs.Prelude.{ℕ, List, [], ◌∷◌}
+use Rattle.std.specs.Prelude.{◌≡◌, ℕ, List, [], ◌∷◌}
 use Rattle.partition.specs.Accounts.{Account}
 use Rattle.partition.specs.Used.{IsUsageOf}
-use Rattle.partition.specs.declared.usage.Usage.{Usage}
 use Rattle.shard.specs.Journals.{AreOf}
+use Rattle.shard.specs.declared.shard.ShardState.{ShardState}
+use Rattle.shard.specs.declared.usages.TenantUsage.{TenantUsage}
 
--- one of each tenant with these accounts, in their order
-abbrev pub AreUsagesOf : List Account → List Usage → Type 0
-AreUsagesOf [] [] = Unit {0}
-AreUsagesOf (account ∷ accounts) (usage ∷ usages) = IsUsageOf account usage × AreUsagesOf accounts usages
-AreUsagesOf _ _ = ⊥
+-- so much does a tenant use that has this account and had so many collections
+abbrev pub IsUsed : Account → ℕ → TenantUsage → Type 0
+IsUsed account count its = IsUsageOf account its.usage × (its.collections ≡ count)
 
--- The partition, one of so many, had these journals at one moment, and the numbers are those of this moment.
-pub record WereUsedAt (parts partition : ℕ) (usages : List Usage) : Type 0 where
-  pub accounts : List Account
-  pub journals : AreOf parts partition accounts
-  pub of_each : AreUsagesOf accounts usages
+-- One of each tenant with these accounts, in their order. There is a number of collections of each.
+abbrev pub AreUsagesOf : List Account → List ℕ → List TenantUsage → Type 0
+AreUsagesOf [] counts [] = Unit {0}
+AreUsagesOf (account ∷ accounts) (count ∷ counts) (its ∷ usages) =
+    IsUsed account count its × AreUsagesOf accounts counts usages
+AreUsagesOf _ _ _ = ⊥
+
+-- The partition, one of so many, was in this state at one moment, and the numbers are those of this moment.
+pub record WereUsedAt (parts partition : ℕ) (usages : List TenantUsage) : Type 0 where
+  pub state : ShardState
+  pub here : (state.parts ≡ parts) × (state.partition ≡ partition)
+  pub journals : AreOf parts partition state.book
+  pub of_each : AreUsagesOf state.book state.collections usages
 
 -- there was such a moment
-abbrev pub AreUsagesAt : ℕ → ℕ → List Usage → Type 0
+abbrev pub AreUsagesAt : ℕ → ℕ → List TenantUsage → Type 0
 AreUsagesAt parts partition usages = ∥ WereUsedAt parts partition usages ∥₁

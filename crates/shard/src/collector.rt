@@ -2,7 +2,7 @@
 ghost use Rattle.std.specs.Prelude.{◌≡◌, ◌<◌, ◌≤◌, ◌^◌, IfSome};
 ghost use Rattle.stamps.specs.Limits.{max_tenants};
 
-use crate::counting::{drawn, next_number};
+use crate::counting::next_number;
 use crate::keep_settings::{KeepSettings, TenantKeep};
 use stamps::Keep;
 use std::sync::atomic::AtomicU64;
@@ -46,12 +46,5 @@ impl Collector {
         ensures { IfSome result (λ number. (0 < number) × (number ≤ 2 ^ 62)) }
     {
         next_number(&self.numbers)
-    }
-
-    /// How many collections of the hub were begun: each is of one tenant at one partition. At most 2^62 are.
-    pub fn begun(&self) -> u64
-        ensures { result ≤ 2 ^ 62 }
-    {
-        drawn(&self.numbers)
     }
 }

@@ -1,17 +1,10 @@
 //! Numbers that several threads draw.
-ghost use Rattle.std.specs.Prelude.{◌<◌, ◌≤◌, ◌^◌, min, IfSome};
+ghost use Rattle.std.specs.Prelude.{◌<◌, ◌≤◌, ◌^◌, IfSome};
 
 use std::sync::atomic::{AtomicU64, Ordering};
 
 /// The last number that is drawn.
 pub const LAST: u64 = 1 << 62;
-
-/// How many numbers were drawn, up to 2^62.
-pub fn drawn(count: &AtomicU64) -> u64
-    ensures { result ≤ 2 ^ 62 }
-{
-    count.load(Ordering::SeqCst).min(LAST)
-}
 
 /// The next number, from 1. None once 2^62 was drawn.
 pub fn next_number(count: &AtomicU64) -> Option<u64>

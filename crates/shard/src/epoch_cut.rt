@@ -48,6 +48,7 @@ fn cut_long(state: &mut ShardState, tenant: u32, least: u32) -> Result<CutEpoch,
     ensures refused { IsErrOf result Uncut.Refused → least ≤ length (events_at state.old.book tenant) }
     ensures unchanged { OnErr result (state.new.book ≡ state.old.book) }
     ensures partition { state.new.partition ≡ state.old.partition }
+    ensures collections { state.new.collections ≡ state.old.collections }
 {
     if state.book.events(tenant) < least as u64 {
         return Err(Uncut::Short);
@@ -71,6 +72,7 @@ pub fn cut_full(state: &mut ShardState, tenant: u32, epoch: u32) -> Result<CutEp
     ensures of_journal { IfOk result (λ cut. (cut.partition ≡ state.old.partition) × (cut.tenant ≡ tenant)) }
     ensures unchanged { OnErr result (state.new.book ≡ state.old.book) }
     ensures partition { state.new.partition ≡ state.old.partition }
+    ensures collections { state.new.collections ≡ state.old.collections }
 {
     if is_full(&state.book, epoch, tenant) {
         cut_long(state, tenant, epoch)

@@ -1,6 +1,7 @@
 //! What stands at each partition: its book behind a lock, the jobs that wait there, and the worker that serves and cuts.
 #![tactic(auto)]
 
+mod collections;
 mod collector;
 mod counting;
 mod epoch_cut;
@@ -15,6 +16,7 @@ mod sink;
 mod usages;
 mod worker;
 
+pub use collections::CollectionCounts;
 pub use collector::Collector;
 pub use gate::Gate;
 pub use jobs::{Fault, Job, JobReceiver, JobSender, QueueOver, SeatReply, Task, job_queue};
@@ -24,4 +26,5 @@ pub use seat_call::SeatCall;
 pub use seat_name::SeatName;
 pub use shard::{CallState, FollowUp, Shard, ShardConfig, ShardState, Staged};
 pub use sink::Sink;
+pub use usages::TenantUsage;
 pub use worker::{WorkEnded, replied, work};

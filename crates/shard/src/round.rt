@@ -1,6 +1,7 @@
 //! A round of collections at a partition: each tenant in turn.
 ghost use Rattle.std.specs.Prelude.{◌≡◌, ◌⊎◌, ◌+◌, ◌*◌, ◌<◌, ◌≤◌, ◌↔◌, ◌^◌, length, false, IsErrOf, IsTrue, OnErr, OnOk};
 ghost use Rattle.partition.specs.Accounts.{events_at};
+ghost use Rattle.shard.specs.Collected.{one_more};
 ghost use Rattle.shard.specs.Rounds.{AreShort, IsCollected, IsLongAt};
 
 use crate::collector::Collector;
@@ -66,6 +67,8 @@ impl Round {
         ensures full { IsErrOf result Skipped.Full → (0 < config.now.epoch) × (2 * config.now.epoch ≤ length (events_at state.old.book self.old.next)) }
         ensures no_tenant { IsErrOf result (Skipped.Refused Fault.NoTenant) → length state.old.book ≤ self.old.next }
         ensures unchanged { OnErr result ((state.new.book ≡ state.old.book) × (self.new.cuts ≡ self.old.cuts)) }
+        ensures counted { OnOk result (state.new.collections ≡ one_more state.old.collections self.old.next) }
+        ensures uncounted { OnErr result (state.new.collections ≡ state.old.collections) }
         ensures cuts { OnOk result (IsTrue self.new.cuts ↔ (IsTrue self.old.cuts ⊎ IsLongAt config.now.epoch state.new.book self.old.next)) }
         ensures short { AreShort config.now.epoch state.old.book → AreShort config.now.epoch state.new.book }
     {
@@ -80,6 +83,7 @@ impl Round {
         let call = Call::Collect(its.keep());
         match answer(&mut state.book, COLLECTOR, number, tenant, &call) {
             Ok(_) => {
+                state.collections.count(tenant);
                 self.cuts = self.cuts || is_long(&state.book, config.epoch, tenant);
                 Ok(())
             }

@@ -9,6 +9,7 @@ ghost use Rattle.shard.specs.Journals.{AreOf, CameSo, came_to};
 ghost use Rattle.shard.specs.Rounds.{AreShort, IsLongAt};
 ghost use Rattle.stamps.specs.Limits.{max_tenants};
 
+use crate::collections::CollectionCounts;
 use crate::collector::Collector;
 use crate::counting::{LAST, next_number};
 use crate::gate::Gate;
@@ -58,6 +59,8 @@ pub struct ShardState {
     pub parts: u32,
     /// How many events of seats came since a collection was due.
     events: u32,
+    /// How many collections each tenant had here.
+    pub collections: CollectionCounts,
     ghost journals: { ∥ AreOf parts partition book ∥₁ },
 }
 
@@ -138,6 +141,7 @@ impl Shard {
             partition: config.partition,
             parts: config.parts,
             events: 0,
+            collections: CollectionCounts::new(),
         };
         Shard {
             config,
@@ -248,6 +252,7 @@ impl ShardState {
         // None that is for this partition is as it was staged.
         ensures all { All (λ staged. IsOpenAt self.old.partition self.old.parts staged → ⊥) calls.new.items }
         ensures partition { (self.new.partition ≡ self.old.partition) × (self.new.parts ≡ self.old.parts) }
+        ensures collections { self.new.collections ≡ self.old.collections }
     {
         let mut follow_up = FollowUp::nothing();
         for at in 0..calls.len() {
@@ -282,6 +287,7 @@ impl ShardState {
         ensures left { staged.new.stage ≡ CallState.Deferred → (0 < config.now.epoch) × (2 * config.now.epoch ≤ length (events_at self.old.book staged.old.call.tenant)) × (self.new.book ≡ self.old.book) }
         ensures served { staged.new.stage ≡ CallState.Pending → ⊥ }
         ensures partition { (self.new.partition ≡ self.old.partition) × (self.new.parts ≡ self.old.parts) }
+        ensures collections { self.new.collections ≡ self.old.collections }
     {
         if is_full(&self.book, config.epoch, staged.call.tenant) {
             staged.stage = CallState::Deferred;
@@ -309,6 +315,7 @@ impl ShardState {
         ensures cuts { IfOk result (λ _. 0 < config.now.epoch → length (events_at self.new.book call.old.tenant) ≡ config.now.epoch → follow_up.new.cuts ≡ true) }
         ensures unchanged { OnErr result (self.new.book ≡ self.old.book) }
         ensures partition { (self.new.partition ≡ self.old.partition) × (self.new.parts ≡ self.old.parts) }
+        ensures collections { self.new.collections ≡ self.old.collections }
     {
         if !self.is_home_of(call) {
             return Err(Fault::NoTenant);
@@ -333,6 +340,7 @@ impl ShardState {
         ensures late { call.old.tenant < length self.old.book → (IsErrOf result Fault.Late ↔ IsLate (events_at self.old.book call.old.tenant) call.old.seat call.old.number) }
         ensures unchanged { OnErr result (self.new.book ≡ self.old.book) }
         ensures partition { (self.new.partition ≡ self.old.partition) × (self.new.parts ≡ self.old.parts) }
+        ensures collections { self.new.collections ≡ self.old.collections }
         ensures call { (call.new.partition ≡ call.old.partition) × (call.new.tenant ≡ call.old.tenant) × (call.new.seat ≡ call.old.seat) × (call.new.number ≡ call.old.number) }
         ensures asked { asked_of call.new ≡ asked_of call.old }
         ensures cuts { IfOk result (λ _. 0 < config.now.epoch → length (events_at self.new.book call.old.tenant) ≡ config.now.epoch → follow_up.new.cuts ≡ true) }
@@ -361,6 +369,7 @@ impl ShardState {
     fn count(&mut self, config: &ShardConfig, follow_up: &mut FollowUp)
         ensures book { self.new.book ≡ self.old.book }
         ensures partition { (self.new.partition ≡ self.old.partition) × (self.new.parts ≡ self.old.parts) }
+        ensures collections { self.new.collections ≡ self.old.collections }
         ensures cuts { follow_up.new.cuts ≡ follow_up.old.cuts }
         ensures collects { follow_up.new.collects ≡ (follow_up.old.collects || nat_le config.now.every (min (self.old.events + 1) (2 ^ 32 - 1))) }
         ensures events { self.new.events ≡ cond (nat_le config.now.every (min (self.old.events + 1) (2 ^ 32 - 1))) 0 (min (self.old.events + 1) (2 ^ 32 - 1)) }

@@ -7,16 +7,30 @@ use partition::Usage;
 use std::alloc::AllocError;
 use std::sync::Wait;
 
+/// How much one tenant uses of one partition, at one moment.
+#[derive(Clone, Copy, Debug, PartialEq, Eq)]
+pub struct TenantUsage {
+    /// How much its cell holds, and what was served.
+    pub usage: Usage,
+    /// How many collections it had there. It stays at 2^64 - 1.
+    pub collections: u64,
+}
+
 impl ShardState {
-    /// Puts how much each tenant uses, in their order, in place of what the list has. The one error is that an allocation failed.
-    fn put_usages(&self, usages: &mut Vec<Usage>) -> Result<(), AllocError>
-        ensures { OnOk result (AreUsagesOf self.now.book usages.new.items) }
+    /// Puts how much each tenant uses, in their order, in place of what the list has. Says whether its collections are counted of
+    /// each. The one error is that an allocation failed.
+    fn put_usages(&self, usages: &mut Vec<TenantUsage>) -> Result<bool, AllocError>
+        ensures { IfOk result (λ is_there. IsTrue is_there → AreUsagesOf self.now.book self.now.collections usages.new.items) }
     {
         usages.clear();
         for tenant in 0..self.book.tenants() {
-            usages.push(self.book.usage(tenant))?;
+            let Some(collections) = self.collections.of_tenant(tenant) else {
+                return Ok(false);
+            };
+            let usage = self.book.usage(tenant);
+            usages.push(TenantUsage { usage, collections })?;
         }
-        Ok(())
+        Ok(true)
     }
 
     /// Does so where this is that partition, one of so many, and says whether it is.
@@ -24,15 +38,14 @@ impl ShardState {
         &self,
         parts: u32,
         partition: u32,
-        usages: &mut Vec<Usage>,
+        usages: &mut Vec<TenantUsage>,
     ) -> Result<bool, AllocError>
         ensures { IfOk result (λ is_there. IsTrue is_there → AreUsagesAt parts partition usages.new.items) }
     {
         if self.parts != parts || self.partition != partition {
             return Ok(false);
         }
-        self.put_usages(usages)?;
-        Ok(true)
+        self.put_usages(usages)
     }
 }
 
@@ -45,7 +58,7 @@ impl Shard {
         rt: &R,
         parts: u32,
         partition: u32,
-        usages: &mut Vec<Usage>,
+        usages: &mut Vec<TenantUsage>,
     ) -> Result<bool, AllocError>
         ensures { IfOk result (λ is_there. IsTrue is_there → AreUsagesAt parts partition usages.new.items) }
     {

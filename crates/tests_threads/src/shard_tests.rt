@@ -4,7 +4,7 @@ use partition::{Book, Epoch};
 use plain_store::{Call, Message};
 use shard::{
     Collector, Gate, Job, KeepSettings, SeatCall, SeatReply, Shard, ShardConfig, Sink, Task,
-    job_queue, work,
+    collect_at, job_queue, work,
 };
 use stamps::{Client, Keep, Limits, Stamp};
 use std::alloc::Global;
@@ -50,9 +50,16 @@ impl Sink for Trier {
     }
 }
 
-/// The one partition of a store of one tenant, whose journal is cut at each event.
-fn shard(alloc: Global) -> Option<Arc<Shard>> {
-    let limits = [Limits::new(16, 16, Keep::new(1)?, 4)?];
+/// The one partition of a store of so many tenants, 1 to 64, whose journals are cut after so many events.
+fn shard(alloc: Global, tenants: u32, epoch: u32) -> Option<Arc<Shard>> {
+    let its = Limits::new(16, 16, Keep::new(1)?, 4)?;
+    let mut limits = Vec::new(alloc);
+    for _tenant in 0..tenants {
+        limits.push(its).ok()?;
+    }
+    if limits.len() > 64 {
+        return None;
+    }
     let keeps = KeepSettings::of(alloc, &limits).ok()?;
     let collector = Arc::new(alloc, Collector::new(keeps)).ok()?;
     let Ok(book) = Book::open(alloc, &limits) else {
@@ -61,9 +68,9 @@ fn shard(alloc: Global) -> Option<Arc<Shard>> {
     let config = ShardConfig {
         partition: 0,
         parts: 1,
-        tenants: 1,
+        tenants: limits.len() as u32,
         every: 1000,
-        epoch: 1,
+        epoch,
     };
     Arc::new(alloc, Shard::new(config, collector, book)).ok()
 }
@@ -92,7 +99,7 @@ fn job(alloc: Global, number: u64) -> Option<(Job, Receiver<SeatReply>)> {
 
 /// How often the lock was found right and wrong by three jobs that a queue of three holds, and how many of them were answered.
 fn serve_three<R: Wait>(rt: &R, alloc: Global) -> Option<[u64; 3]> {
-    let shard = shard(alloc)?;
+    let shard = shard(alloc, 1, 1)?;
     let counts = Found {
         right: AtomicU64::new(0),
         wrong: AtomicU64::new(0),
@@ -128,4 +135,47 @@ fn serve_three<R: Wait>(rt: &R, alloc: Global) -> Option<[u64; 3]> {
 fn calls_are_served_under_the_lock_and_epochs_are_handed_over_without(rt: HostRuntime) {
     let seen = serve_three(&rt, rt.alloc());
     assert!(rt; seen == Some([6, 0, 3]), "{seen:?}");
+}
+
+/// How many collections each tenant of a partition had after so many rounds of them, and no other call.
+fn collections<R: Wait>(
+    rt: &R,
+    alloc: Global,
+    tenants: u32,
+    epoch: u32,
+    rounds: u32,
+) -> Option<Vec<u64>> {
+    let shard = shard(alloc, tenants, epoch)?;
+    for _round in 0..rounds {
+        collect_at(rt, &shard);
+    }
+    let mut usages = Vec::new(alloc);
+    if !shard.put_usages(rt, 1, 0, &mut usages).ok()? {
+        return None;
+    }
+    let mut counts = Vec::new(alloc);
+    for used in &usages {
+        counts.push(used.collections).ok()?;
+    }
+    Some(counts)
+}
+
+#[test]
+fn collections_are_counted_of_each_tenant(rt: HostRuntime) {
+    // How many tenants there are, after how many events a journal is to be cut, how many rounds there were, and what each tenant had.
+    let rows: [(u32, u32, u32, u64); 5] = [
+        (1, 0, 0, 0),
+        (1, 0, 1, 1),
+        (3, 0, 5, 5),
+        (64, 0, 2, 2),
+        // A journal that is full, after two events, is left out until it was cut.
+        (2, 1, 5, 2),
+    ];
+    for (tenants, epoch, rounds, each) in rows {
+        let counts = collections(&rt, rt.alloc(), tenants, epoch, rounds);
+        let is_right = counts.is_some_and(|counts| {
+            counts.len() == tenants as usize && counts.iter().all(|count| *count == each)
+        });
+        assert!(rt; is_right, "{tenants} tenants, {epoch}, {rounds} rounds");
+    }
 }

@@ -146,7 +146,7 @@ fn is_told<R: Wait>(
     for partition in 0..parts {
         let is_there = hub.status(rt, partition, &mut usages).ok()?;
         let used = usages.as_slice().get(last as usize)?;
-        if !is_there || usages.len() != tenants as usize || used.served < 4 {
+        if !is_there || usages.len() != tenants as usize || used.usage.served < 4 {
             return Some(false);
         }
     }

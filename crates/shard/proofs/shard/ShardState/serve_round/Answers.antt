@@ -28,6 +28,7 @@ loop-at-preserved g c =
         rw w.calls-is (next w.serve_staged.new.staged (λ still. w.serve_staged.ensures.served still.2)),
         rw w.self-is (w.serve_staged.ensures.partition.0 ∙ so_far.5),
         rw w.self-is (w.serve_staged.ensures.partition.1 ∙ so_far.6),
+        rw w.self-is (w.serve_staged.ensures.collections ∙ so_far.7),
       )
       | else-is_home_of w ↦
           elim w.else-is_home_of.branch [
@@ -40,6 +41,7 @@ loop-at-preserved g c =
                   (λ still. elim w'.match-matches.branch [ in-Pending w'' ↦ (let both : true ≡ false = sym w''.matches-is ∙ w'.if-matches.false in cc) | in_default-matches w'' ↦ w''.in_default-matches.not-Pending still.2 ])),
               rw w.self-is so_far.5,
               rw w.self-is so_far.6,
+              rw w.self-is so_far.7,
             )
             | else-is_home_of-via-else-is_home_of w' ↦ (
               rw w.self-is so_far.0,
@@ -52,6 +54,7 @@ loop-at-preserved g c =
                   let both : true ≡ false = sym home ∙ w'.if-is_home_of.false in cc)),
               rw w.self-is so_far.5,
               rw w.self-is so_far.6,
+              rw w.self-is so_far.7,
             )
           ]
     ]

@@ -16,3 +16,4 @@ invariant-loop-at g l =
     × ((k : ℕ) (d : Staged) → k < l.at → IsOpenAt l.fn.self.partition l.fn.self.parts (get_or l.calls.items k d) → ⊥)
     × (l.self.partition ≡ l.fn.self.partition)
     × (l.self.parts ≡ l.fn.self.parts)
+    × (l.self.collections ≡ l.fn.self.collections)
