@@ -25,22 +25,6 @@ unserved-passed calls at other within is =
     let one = ap Q is in
     omega (arith, sum_by-drop_more (λ s. cond (is_unserved s) 1 0) calls at other within, one)
 
--- ---- where each has come so far as it had
-
-same-count : (old new : List Staged) → map (λ s. s.stage) new ≡ map (λ s. s.stage) old → count_by is_unserved new ≡ count_by is_unserved old
-same-count [] [] is = refl
-same-count [] (y ∷ ys) is = cc
-same-count (x ∷ xs) [] is = cc
-same-count (x ∷ xs) (y ∷ ys) is =
-    let first : y.stage ≡ x.stage = cc in
-    let rest : map (λ (s : Staged). s.stage) ys ≡ map (λ (s : Staged). s.stage) xs = cc in
-    sum_by-cons _ y ys ∙ (λ i. cond (is_to_serve (first i)) 1 0 + same-count xs ys rest i) ∙ sym (sum_by-cons _ x xs)
-
-pub same-unserved : (old new : List Staged) (from : ℕ) → map (λ s. s.stage) new ≡ map (λ s. s.stage) old → unserved from new ≡ unserved from old
-same-unserved old new from is =
-    let f : Staged → CallState = λ s. s.stage in
-    same-count (drop from old) (drop from new) (sym (drop-map f from new) ∙ ap (drop from) is ∙ drop-map f from old)
-
 -- ---- the first that was not served is taken out
 
 pub removed-first : (calls : List Staged) (from at : ℕ) (staged : Staged) → from ≤ at → at < length calls → staged ≡ get_or calls at staged

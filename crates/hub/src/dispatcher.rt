@@ -1,5 +1,5 @@
 //! A seat's way to the partitions: its calls are staged, and served there or by a worker, and their replies come back.
-ghost use Rattle.std.specs.Prelude.{◌≡◌, ◌<◌, ◌≤◌, ◌+◌, ◌-◌, ◌^◌, ◌↔◌, [], ℕ, None, Some, OnOk, IfOk, IsOkAnd, IfSome, IsSomeAnd, IfNone, IsTrue, cond, drop, false, is_some, map, min, slice_index_or, vec_len};
+ghost use Rattle.std.specs.Prelude.{◌≡◌, ◌<◌, ◌≤◌, ◌+◌, ◌-◌, ◌^◌, ◌↔◌, [], ℕ, None, Some, OnOk, IfOk, IsOkAnd, IfSome, IsSomeAnd, IfNone, IsTrue, cond, drop, false, is_some, length, map, min, slice_index_or, vec_len};
 ghost use Rattle.std.specs.VecDeque.{deque_capacity, deque_len};
 ghost use Rattle.stamps.specs.Bounds.{IsParts};
 ghost use Rattle.shard.specs.Asked.{asked_by, without_reply};
@@ -192,23 +192,6 @@ impl<'a, G> Dispatcher<'a, G> {
         }
     }
 
-    /// Stages the call in this box as the seat's call of this number, for `dispatch`.
-    pub fn stage(&mut self, name: &SeatName, number: u64, message: Box<Message>)
-        requires { HasPlaces 1 self.old }
-        ensures counted { self.new.sent ≡ self.old.sent + 1 }
-        ensures calls { deque_len self.new.calls ≡ deque_len self.old.calls + 1 }
-        ensures staged { IsStagedNext name.now self.old.parts number (Some (without_reply message.value)) self.old.calls.items self.new.calls.items }
-        ensures parts { self.new.parts ≡ self.old.parts }
-        ensures boxes { self.new.boxes ≡ self.old.boxes }
-        ensures room { (calls : ℕ) → HasPlaces (1 + calls) self.old → HasPlaces calls self.new }
-        ensures queued { self.new.queued ≡ self.old.queued }
-    {
-        let call = called(name, number, self.parts, message);
-        let stage = CallState::Pending;
-        self.calls.push_back_reserved(Staged { call, stage });
-        self.sent += 1;
-    }
-
     /// A reply that is there, or else waits for one. It fails where none can come.
     fn receive<R: Wait>(&mut self, rt: &R) -> Result<SeatReply, RecvError>
         ensures first { 0 < self.old.served → IfFirst self.old.calls.items (λ staged. IsOkAnd result (IsReplyOf staged)) }
@@ -366,7 +349,55 @@ impl<'a, G> Dispatcher<'a, G> {
 }
 
 impl<'a, G: Gate> Dispatcher<'a, G> {
-    ghost use Rattle.hub.specs.Rooms.{HasRoom, SameRoom};
+    ghost use Rattle.hub.specs.Rooms.{HasPlaces, HasRoom, SameRoom};
+
+    /// Stages the call in this box as the seat's call of this number, for `dispatch`, once it has passed the gate.
+    pub fn stage(&mut self, name: &SeatName, number: u64, message: Box<Message>)
+        requires { HasPlaces 1 self.old }
+        ensures counted { self.new.sent ≡ self.old.sent + 1 }
+        ensures calls { deque_len self.new.calls ≡ deque_len self.old.calls + 1 }
+        ensures staged { IsStagedNext name.now self.old.parts number (Some (without_reply message.value)) self.old.calls.items self.new.calls.items }
+        ensures parts { self.new.parts ≡ self.old.parts }
+        ensures boxes { self.new.boxes ≡ self.old.boxes }
+        ensures room { (calls : ℕ) → HasPlaces (1 + calls) self.old → HasPlaces calls self.new }
+        ensures queued { self.new.queued ≡ self.old.queued }
+    {
+        let call = self.called(name, number, message);
+        let stage = CallState::Pending;
+        self.calls.push_back_reserved(Staged { call, stage });
+        self.sent += 1;
+    }
+
+    /// A call of this seat on its way to the home of its key, if it has one, which has passed the gate.
+    fn called(&self, name: &SeatName, number: u64, message: Box<Message>) -> SeatCall
+        ensures owner { (result.tenant ≡ name.now.tenant) × (result.seat ≡ name.now.seat) × (result.number ≡ number) × (result.parts ≡ self.now.parts) }
+        ensures message { result.message ≡ message }
+        ensures place { result.partition ≡ place_for message.value.call self.now.parts message.value.partition }
+    {
+        let partition = place_of(&message, self.parts);
+        SeatCall {
+            partition,
+            parts: self.parts,
+            tenant: name.tenant,
+            seat: name.seat,
+            number,
+            arrival: self.pass(partition),
+            message,
+        }
+    }
+
+    /// Passes the gate for a call at this partition, and answers which arrival there it is; 0 where there is no such partition.
+    fn pass(&self, partition: u32) -> u64
+        ensures there { partition < length self.now.shards.now → 0 < result }
+        ensures passed { 0 < result → G.has_passed self.now.gate.now partition result }
+    {
+        let Some(shard) = self.shards.get(partition as usize) else {
+            return 0;
+        };
+        let arrival = shard.next_arrival();
+        self.gate.pass(partition, arrival);
+        arrival
+    }
 
     /// Has the staged calls served, those of one partition in their order and under one lock: first at the partitions that are
     /// free, then at those that another thread has. What cannot be served there goes to the worker of its partition. Says
@@ -388,50 +419,16 @@ impl<'a, G: Gate> Dispatcher<'a, G> {
             → map asked_by self.new.calls.items ≡ map asked_by self.old.calls.items }
         ensures served { self.new.served ≡ deque_len self.new.calls }
     {
-        self.pass();
         if self.queued > 0 {
             return self.hand_over(rt);
         }
-        self.serve_free(rt);
-        self.serve_held(rt);
+        let left = self.serve_free(rt);
+        self.serve_held(rt, left);
         self.hand_over(rt)
     }
 
-    /// Passes the gate for each staged call.
-    fn pass(&mut self)
-        ensures sent { self.new.sent ≡ self.old.sent }
-        ensures room { SameRoom self.old self.new }
-        ensures calls { (deque_len self.new.calls ≡ deque_len self.old.calls) × (self.new.queued ≡ self.old.queued) }
-        ensures served { self.new.served ≡ self.old.served }
-        ensures stages { map (λ staged. staged.stage) self.new.calls.items ≡ map (λ staged. staged.stage) self.old.calls.items }
-        ensures asked { map asked_by self.new.calls.items ≡ map asked_by self.old.calls.items }
-    {
-        for at in self.served..self.calls.len() {
-            self.pass_one(at);
-        }
-    }
-
-    /// Passes the gate for the staged call at this place, if there is one and its partition is there.
-    fn pass_one(&mut self, at: usize)
-        ensures sent { self.new.sent ≡ self.old.sent }
-        ensures room { SameRoom self.old self.new }
-        ensures calls { (deque_len self.new.calls ≡ deque_len self.old.calls) × (self.new.queued ≡ self.old.queued) }
-        ensures served { self.new.served ≡ self.old.served }
-        ensures stages { map (λ staged. staged.stage) self.new.calls.items ≡ map (λ staged. staged.stage) self.old.calls.items }
-        ensures asked { map asked_by self.new.calls.items ≡ map asked_by self.old.calls.items }
-    {
-        let Some(staged) = self.calls.get_mut(at) else {
-            return;
-        };
-        let Some(shard) = self.shards.get(staged.call.partition as usize) else {
-            return;
-        };
-        staged.call.arrival = shard.next_arrival();
-        self.gate.pass(staged.call.partition, staged.call.arrival);
-    }
-
-    /// Serves the staged calls whose partitions are free.
-    fn serve_free<R: Wait>(&mut self, rt: &R)
+    /// Serves the staged calls whose partitions are free, and answers the place of the first one whose partition was not.
+    fn serve_free<R: Wait>(&mut self, rt: &R) -> usize
         ensures sent { self.new.sent ≡ self.old.sent }
         ensures room { SameRoom self.old self.new }
         ensures served { self.new.served ≡ self.old.served }
@@ -439,21 +436,27 @@ impl<'a, G: Gate> Dispatcher<'a, G> {
         ensures asked { map asked_by self.new.calls.items ≡ map asked_by self.old.calls.items }
     {
         let shards = self.shards;
+        let mut left = self.calls.len();
         for at in self.served..self.calls.len() {
             if let Some(partition) = self.open_at(at)
                 && let Some(shard) = shards.get(partition as usize)
-                && let Some(guard) = shard.try_lock()
             {
-                let mut guard = guard;
-                let follow_up = self.serve_under(shard, &mut guard);
-                drop(guard);
-                self.follow_up(rt, shard, follow_up);
+                match shard.try_lock() {
+                    Some(guard) => {
+                        let mut guard = guard;
+                        let follow_up = self.serve_under(shard, &mut guard);
+                        drop(guard);
+                        self.follow_up(rt, shard, follow_up);
+                    }
+                    None => left = left.min(at),
+                }
             }
         }
+        left
     }
 
-    /// Waits for the partitions of the staged calls that are left, and serves them.
-    fn serve_held<R: Wait>(&mut self, rt: &R)
+    /// Waits for the partitions of the staged calls from this place on that are left, and serves them.
+    fn serve_held<R: Wait>(&mut self, rt: &R, from: usize)
         ensures sent { self.new.sent ≡ self.old.sent }
         ensures room { SameRoom self.old self.new }
         ensures served { self.new.served ≡ self.old.served }
@@ -461,7 +464,7 @@ impl<'a, G: Gate> Dispatcher<'a, G> {
         ensures asked { map asked_by self.new.calls.items ≡ map asked_by self.old.calls.items }
     {
         let shards = self.shards;
-        for at in self.served..self.calls.len() {
+        for at in from..self.calls.len() {
             if let Some(partition) = self.open_at(at)
                 && let Some(shard) = shards.get(partition as usize)
             {
@@ -495,25 +498,6 @@ fn blank(client: Client) -> Message
         partition: 0,
         call: Call::Commit(Stamp::ZERO),
         reply: None,
-    }
-}
-
-/// A call of this seat on its way to the home of its key, if it has one.
-fn called(name: &SeatName, number: u64, parts: u32, message: Box<Message>) -> SeatCall
-    requires { IsParts parts }
-    ensures owner { (result.tenant ≡ name.now.tenant) × (result.seat ≡ name.now.seat) × (result.number ≡ number) × (result.parts ≡ parts) }
-    ensures message { result.message ≡ message }
-    ensures place { result.partition ≡ place_for message.value.call parts message.value.partition }
-{
-    let partition = place_of(&message, parts);
-    SeatCall {
-        partition,
-        parts,
-        tenant: name.tenant,
-        seat: name.seat,
-        number,
-        arrival: 0,
-        message,
     }
 }
 

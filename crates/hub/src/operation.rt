@@ -404,7 +404,9 @@ impl<'a, G: Gate> RunningOperation<'a, G> {
             return;
         }
         self.push_took(reply.number, reply.partition, place, told);
-        let taken = self.session.take_into(message, &mut *self.readings);
+        let mut taken = MoveKind::Ignored;
+        self.session
+            .move_into(message, &mut *self.readings, &mut taken);
         self.follow(rt, &taken, message.ticket, answer);
     }
 

@@ -26,8 +26,8 @@ returns-clause-read g c name setup asked start stamped is its own reads =
     let enters = λ (m : Message) (same : IsTakenFor c.deref-message.result.now m).
     came-taken name asked reply.partition reply.tenant reply.seat reply.number c.args.place reply.message.value m reply.outcome _ is has its own reply.came of
     (subst (λ (from : Message). IsTakenFor from m) c.deref-message.ensures same) in
-    let served = reads-served name setup asked start c.args.self.now.entries.items c.push_took.new.self.entries.items c.args.self.now.session c.push_took.new.self.session c.take_into-taken.new.self c.args.self.now.place c.push_took.new.self.place c.args.answer.now _ _ _ _ _ _
-    c.push_took.ensures.took c.push_took.ensures.session c.push_took.ensures.place enters c.take_into-taken.ensures.shown reads in
+    let served = reads-served name setup asked start c.args.self.now.entries.items c.push_took.new.self.entries.items c.args.self.now.session c.push_took.new.self.session c.move_into.new.self c.args.self.now.place c.push_took.new.self.place c.args.answer.now _ _ _ _ _ _
+    c.push_took.ensures.took c.push_took.ensures.session c.push_took.ensures.place enters c.move_into.ensures.shown reads in
     c.follow.ensures.read name setup asked start served.0 served.1
 
 pub returns-clause-served : goal.returns-clause-served
@@ -44,13 +44,13 @@ pub returns-clause-counter : goal.returns-clause-counter
 returns-clause-counter g c =
     let before = ap (λ (s : ClientSession). s.counter) c.push_took.ensures.session in
     let after = ap (λ (s : ClientSession). s.counter) c.follow.ensures.session in
-    omega (arith, before, after, c.take_into-taken.ensures.counter)
+    omega (arith, before, after, c.move_into.ensures.counter)
 
 -- what the move sends, it may send
 pub follow-requires-clause-calls : goal.follow-requires-clause-calls
 follow-requires-clause-calls g c =
     let before = ap (λ (s : ClientSession). calls_left s.running) c.push_took.ensures.session in
-    room_stays c.args.self.now.queues c.push_took.new.self.queues _ _ c.push_took.ensures.queues (omega (arith, before, c.take_into-taken.ensures.calls)) c.requires.calls
+    room_stays c.args.self.now.queues c.push_took.new.self.queues _ _ c.push_took.ensures.queues (omega (arith, before, c.move_into.ensures.calls)) c.requires.calls
 
 pub returns-clause-replies : goal.returns-clause-replies
 returns-clause-replies g c =
