@@ -1,8 +1,11 @@
 -- What an operation makes room for.
-use Rattle.std.specs.Prelude.{◌≡◌, ℕ, ◌+◌, ◌-◌, ◌≤◌, vec_len}
+use Rattle.std.specs.Prelude.{◌≡◌, ℕ, ◌+◌, ◌-◌, ◌≤◌, Bool, true, false, vec_len}
 use Rattle.std.specs.VecDeque.{deque_capacity, deque_len}
 use Rattle.hub.specs.Limits.{max_calls}
 use Rattle.hub.specs.declared.dispatcher.Dispatcher.{Dispatcher}
+use Rattle.tenant_sessions.specs.declared.moves.MoveKind.{MoveKind}
+use Rattle.tenant_sessions.specs.declared.moves.MoveKind.TheVariants.{Wait, Decided, Done, Ask, Begins, Read, Listed}
+use Rattle.tenant_sessions.specs.declared.moves.MoveKind.TheVariants.{Restart, Ended, Ignored}
 
 -- For so many calls more, which lie in boxes, there are numbers, places among those that are staged, and ends of the way
 -- back, besides those of the calls that are staged by then.
@@ -25,3 +28,16 @@ pub record SameRoom {G : Type 0} (old new : Dispatcher G) : Type 0 where
 -- how many replies are still to come: to calls that are no longer staged, and to those with workers
 abbrev pub awaited : {G : Type 0} → Dispatcher G → ℕ
 awaited queues = queues.served + queues.queued
+
+-- whether COMMITs are sent with the move
+abbrev pub has_commits : MoveKind → Bool
+has_commits Wait = false
+has_commits (Decided stamp) = true
+has_commits (Done stamp) = false
+has_commits Ask = false
+has_commits Begins = false
+has_commits Read = false
+has_commits Listed = false
+has_commits (Restart key floor) = false
+has_commits (Ended refusal calls) = false
+has_commits Ignored = false

@@ -1,11 +1,12 @@
 -- The calls that a seat has staged.
-use Rattle.std.specs.Prelude.{◌≡◌, ℕ, ◌+◌, Bool, true, false, cond, List, [], ◌∷◌, ◌++◌, Option, Some, None}
+use Rattle.std.specs.Prelude.{◌≡◌, ℕ, ◌+◌, Bool, true, false, cond, set, slice_get, IsSomeAnd, List, [], ◌∷◌, ◌++◌, Option, Some, None}
 use Rattle.std.specs.Prelude.{drop}
 use Rattle.std.specs.List.{count_by}
 use Rattle.plain_store.specs.declared.message.Message.{Message}
 use Rattle.shard.specs.Asked.{without_reply}
 use Rattle.shard.specs.Homes.{place_of}
 use Rattle.shard.specs.Journals.{came_to}
+use Rattle.shard.specs.Queues.{QueueEnd}
 use Rattle.shard.specs.declared.jobs.SeatReply.{SeatReply}
 use Rattle.shard.specs.declared.seat_name.SeatName.{SeatName}
 use Rattle.shard.specs.declared.shard.CallState.{CallState}
@@ -80,6 +81,12 @@ pub record AreStagedBehind (name : SeatName) (partitions nth : ℕ) (messages : 
   pub more : List Staged
   pub is : new ≡ old ++ more
   pub staged : AreStagedFor name partitions nth messages more
+
+-- ---- calls on their way
+
+-- of these ends of queues, the one at this place has sent one task more, and the others none
+abbrev pub HasSentAt : ℕ → List QueueEnd → List QueueEnd → Type 0
+HasSentAt at old new = IsSomeAnd (slice_get old at) (λ queue. new ≡ set old at (record queue { count = queue.count + 1 }))
 
 -- ---- a call that is staged
 

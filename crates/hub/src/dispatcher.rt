@@ -6,7 +6,7 @@ ghost use Rattle.shard.specs.Asked.{asked_by, without_reply};
 ghost use Rattle.shard.specs.Homes.{HasHome, place_of as place_for};
 ghost use Rattle.hub.specs.Limits.{max_calls};
 ghost use Rattle.shard.specs.declared.shard.Staged.{Staged as Waiting};
-ghost use Rattle.hub.specs.Staging.{is_unserved, place_if_open, unserved, IfFirst, IsFirstOf, IsReplyOf, IsStagedNext};
+ghost use Rattle.hub.specs.Staging.{HasSentAt, is_unserved, place_if_open, unserved, IfFirst, IsFirstOf, IsReplyOf, IsStagedNext};
 
 use crossbeam_channel::{Receiver, RecvError, Sender};
 use plain_store::{Call, Message};
@@ -291,6 +291,7 @@ impl<'a, G> Dispatcher<'a, G> {
         ensures served { self.new.served ≡ self.old.served }
         ensures refused { result ≡ false → self.new.queued ≡ self.old.queued }
         ensures queued { IsTrue result → self.new.queued ≡ min (self.old.queued + 1) (2 ^ 64 - 1) }
+        ensures moved { IsTrue result → HasSentAt call.partition self.old.jobs.items self.new.jobs.items }
         ensures ends { vec_len self.old.spare ≡ vec_len self.new.spare + 1 }
         ensures boxes { self.new.boxes ≡ self.old.boxes }
     {
@@ -373,6 +374,7 @@ impl<'a, G: Gate> Dispatcher<'a, G> {
         ensures owner { (result.tenant ≡ name.now.tenant) × (result.seat ≡ name.now.seat) × (result.number ≡ number) × (result.parts ≡ self.now.parts) }
         ensures message { result.message ≡ message }
         ensures place { result.partition ≡ place_for message.value.call self.now.parts message.value.partition }
+        ensures passed { result.partition < length self.now.shards.now → G.has_passed self.now.gate.now result.partition result.arrival }
     {
         let partition = place_of(&message, self.parts);
         SeatCall {

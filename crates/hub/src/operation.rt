@@ -1,6 +1,7 @@
 //! One operation of a seat: its calls go out, and their replies come in until each is answered.
 ghost use Rattle.std.specs.Prelude.{◌≡◌, ◌<◌, ◌≤◌, ◌+◌, ◌^◌, ◌↔◌, true, None, IsTrue};
 ghost use Rattle.hub.specs.Replies.{IsUnder};
+ghost use Rattle.hub.specs.Rooms.{has_commits};
 ghost use Rattle.plain_store.specs.declared.answer.Rows.{Rows as Told};
 ghost use Rattle.tenant_sessions.specs.Moves.{moved, is_last, answer_of};
 ghost use Rattle.hub.specs.Seats.{at_seat, is_final};
@@ -53,8 +54,10 @@ fn is_under(call: &Call, own: Stamp) -> bool
     }
 }
 
-/// Whether a move sends COMMITs, by which a box for its calls is chosen. No promise rests on it.
-fn sends_commits(taken: &MoveKind) -> bool {
+/// Whether a move sends COMMITs, by which a box for its calls is chosen.
+fn sends_commits(taken: &MoveKind) -> bool
+    ensures { result ≡ has_commits taken.now }
+{
     matches!(taken, MoveKind::Decided(_))
 }
 
