@@ -1,6 +1,7 @@
 """The mutants of a crate that `tools/wrong-bodies` tries, and how an edit is read.
 
 An edit is made of a line `file: PATH`, a path in the crate, and of pairs of lines `old: TEXT` and `new: TEXT`; TEXT of `old:` stands once in that file.
+One that no clause refuses has a line `test: CRATE NAME`, the stored test that has to fail over it.
 The file `crates/CRATE/wrong-bodies.edits` holds many, each after a line `== NAME`. A file `crates/CRATE/wrong-bodies/NAME.edit` is one more, or
 the newer one of that name; `fold` takes such files into the one of their crate. The edits that the gate tries are `crates/CRATE/must-fail/NAME.edit`.
 """
@@ -27,10 +28,10 @@ def in_one(crate):
             if name in found:
                 raise ValueError(f"{path.relative_to(TOP)}:{number}: {name} stands there twice")
             found[name] = ""
-        elif line.startswith(("file: ", "old: ", "new:")) and name:
+        elif line.startswith(("test: ", "file: ", "old: ", "new:")) and name:
             found[name] += line + "\n"
         elif line and not line.startswith("#"):
-            raise ValueError(f"{path.relative_to(TOP)}:{number}: neither `== NAME` nor `file:`, `old:` or `new:`")
+            raise ValueError(f"{path.relative_to(TOP)}:{number}: neither `== NAME` nor `test:`, `file:`, `old:` or `new:`")
     return found
 
 
@@ -62,6 +63,21 @@ def changes_of(text):
     return found
 
 
+def test_of(text):
+    """The crate and the name of the stored test that has to fail over an edit; nothing where a clause has to refuse it."""
+    for line in text.split("\n"):
+        if line.startswith("test: "):
+            crate, _, name = line.removeprefix("test: ").partition(" ")
+            return crate, name.strip()
+    return None
+
+
+def has_test(crate, name):
+    """Whether a crate has a stored test of this name."""
+    said = f"fn {name}("
+    return any(said in it.read_text(encoding="utf-8") for it in (CRATES / crate / "src").rglob("*.rt"))
+
+
 def applied(text, folder, texts):
     """Makes an edit in `texts`, the files of a crate's folder by their path there. Returns where each change was made: the file as it was before, and the place."""
     for path, old, new in changes_of(text):
@@ -81,6 +97,9 @@ def bad_edits(crates):
         for folder, edits in ((GATE, of_the_gate(crate)), (SINGLE, edits_of(crate))):
             count += len(edits)
             for name, text in edits.items():
+                test = test_of(text)
+                if test and not has_test(*test):
+                    said.append(f"{crate}/{folder}/{name}: {test[0]} has no test {test[1]}")
                 try:
                     if not list(applied(text, CRATES / crate, {})):
                         said.append(f"{crate}/{folder}/{name}: it changes nothing")

@@ -298,11 +298,11 @@ fn the_program_serves_as_its_words_ask(rt: HostRuntime) {
     // store has, the last lines, the status, and what is reported of a fault.
     let rows = [
         (
-            "ramp serve --parts 3 u t",
+            "ramp serve --parts 3 a u t",
             FIRST,
             false,
             (0, 3),
-            "\nsettled u yes\nsettled t yes\n",
+            "\nsettled a yes\nsettled u yes\nsettled t yes\n",
             0,
             "",
         ),
