@@ -1,3 +1,4 @@
+pub mod Counting
 pub mod Telling
 pub mod Answering
 pub mod Answered

@@ -1,5 +1,5 @@
 -- The places of a server's connections, and how many are still to be begun.
-use Rattle.std.specs.Prelude.{◌≡◌, ◌⊎◌, ◌+◌, ◌-◌, ◌^◌, ◌++◌, ◌∷◌, [], ℕ, true, List, Option, None, IsSome, All, count_by, is_some, min}
+use Rattle.std.specs.Prelude.{◌≡◌, ◌⊎◌, ◌≤◌, ◌+◌, ◌-◌, ◌^◌, ◌++◌, ◌∷◌, [], ℕ, true, List, Option, None, IsSome, All, count_by, is_some, min, vec_capacity, vec_len}
 use Rattle.std.specs.Option.{option_map}
 use Rattle.closed_store.specs.declared.transcript.Transcript.{Transcript}
 use Rattle.server_sessions.specs.declared.served.ServedConnections.{ServedConnections}
@@ -31,8 +31,9 @@ pub record LeavesTheSame (old new : ServedConnections) : Type 0 where
   pub refused : new.has_refused ≡ old.has_refused
   pub lost : new.has_lost ≡ old.has_lost
 
--- a transcript stands behind those before, or it is reported that one was lost
+-- A transcript stands behind those before, or, where the list has no room for it, it is reported that one was lost.
 abbrev pub IsKeptOrLost : Transcript → ServedConnections → ServedConnections → Type 0
 IsKeptOrLost transcript old new =
     ((new.transcripts.items ≡ old.transcripts.items ++ transcript ∷ []) × (new.has_lost ≡ old.has_lost))
-    ⊎ ((new.transcripts.items ≡ old.transcripts.items) × (new.has_lost ≡ true))
+    ⊎ ((new.transcripts.items ≡ old.transcripts.items) × (new.has_lost ≡ true)
+    × (vec_capacity old.transcripts ≤ vec_len old.transcripts))

@@ -1,4 +1,8 @@
 //! How many lines were answered by refusals and by restarts.
+ghost use Rattle.std.specs.Prelude.{◌≡◌, ◌<◌, ◌≤◌, IfOk, Some, vec_len};
+ghost use Rattle.plain_store.specs.Numbers.{number_of};
+ghost use Rattle.server_sessions.specs.Counting.{counted_as, kind_of, numbers};
+
 use plain_store::{Answer, Refusal};
 use std::alloc::{AllocError, Global};
 use std::sync::atomic::{AtomicU64, Ordering};
@@ -8,6 +12,21 @@ use std::sync::atomic::{AtomicU64, Ordering};
 pub struct AnswerCounts {
     refusals: Vec<AtomicU64>,
     restarts: AtomicU64,
+    ghost each: { vec_len refusals ≡ numbers },
+}
+
+/// As what an answer is counted.
+#[derive(Clone, Copy)]
+pub(crate) enum CountedAs {
+    /// The refusal of this number.
+    Refusal(u8),
+    Restart,
+}
+
+/// The receipt of an answer that was counted. The counts alone make one.
+#[derive(Clone, Copy)]
+pub(crate) struct Counted {
+    kind: CountedAs,
 }
 
 impl AnswerCounts {
@@ -15,9 +34,11 @@ impl AnswerCounts {
     pub const NUMBERS: u8 = 43;
 
     /// None was answered yet. The one error is that an allocation failed.
-    pub(crate) fn new(alloc: Global) -> Result<AnswerCounts, AllocError> {
+    pub(crate) fn new(alloc: Global) -> Result<AnswerCounts, AllocError>
+        ensures { IfOk result (λ counts. vec_len counts.refusals ≡ numbers) }
+    {
         let mut refusals = Vec::with_capacity(alloc, usize::from(AnswerCounts::NUMBERS))?;
-        for _ in 0..AnswerCounts::NUMBERS {
+        for _number in 0..AnswerCounts::NUMBERS {
             refusals.push(AtomicU64::new(0))?;
         }
         Ok(AnswerCounts {
@@ -27,7 +48,9 @@ impl AnswerCounts {
     }
 
     /// How many lines were answered `refused` or `ended` with this number.
-    pub fn refusals(&self, number: u8) -> u64 {
+    pub fn refusals(&self, number: u8) -> u64
+        ensures { numbers ≤ number → result ≡ 0 }
+    {
         match self.refusals.get(usize::from(number)) {
             Some(count) => count.load(Ordering::SeqCst),
             None => 0,
@@ -39,21 +62,32 @@ impl AnswerCounts {
         self.restarts.load(Ordering::SeqCst)
     }
 
-    /// Counts a line's answer.
-    pub(crate) fn count(&self, answer: &Answer) {
+    /// Counts a line's answer, and answers the receipt; none where it is neither a refusal nor a restart.
+    pub(crate) fn count(&self, answer: &Answer) -> Option<Counted>
+        ensures { kind_of result ≡ counted_as answer.now }
+    {
         match answer {
-            Answer::Refused(refusal) | Answer::Ended(refusal, _) => self.count_refusal(*refusal),
+            Answer::Refused(refusal) | Answer::Ended(refusal, _) => {
+                Some(self.count_refusal(*refusal))
+            }
             Answer::Restart(..) => {
                 self.restarts.fetch_add(1, Ordering::SeqCst);
+                Some(Counted {
+                    kind: CountedAs::Restart,
+                })
             }
-            _ => {}
+            _ => None,
         }
     }
 
     /// Counts a line that is refused.
-    pub(crate) fn count_refusal(&self, refusal: Refusal) {
-        if let Some(count) = self.refusals.get(usize::from(refusal.number())) {
-            count.fetch_add(1, Ordering::SeqCst);
+    pub(crate) fn count_refusal(&self, refusal: Refusal) -> Counted
+        ensures { result.kind ≡ CountedAs.Refusal (number_of refusal) }
+    {
+        let number = refusal.number();
+        self.refusals[usize::from(number)].fetch_add(1, Ordering::SeqCst);
+        Counted {
+            kind: CountedAs::Refusal(number),
         }
     }
 }

@@ -4,9 +4,10 @@ ghost use Rattle.plain_store.specs.declared.answer.Answer.TheVariants.{Ignored, 
 ghost use Rattle.plain_store.specs.declared.refusal.Refusal.TheVariants.{NoTenant, OutOfMemory};
 ghost use Rattle.line_protocol.specs.declared.request.Request.TheVariants.{Bye};
 ghost use Rattle.line_protocol.specs.AnswerSpelling.{answer_line};
+ghost use Rattle.server_sessions.specs.Counting.{counted_as, kind_of};
 ghost use Rattle.server_sessions.specs.Telling.{IsAnswered, IsPut};
 
-use crate::answer_counts::AnswerCounts;
+use crate::answer_counts::{AnswerCounts, Counted};
 use bytes::BytesMut;
 use hub::{Gate, Hub, Seat};
 use line_protocol::{LINE_LIMIT, Request};
@@ -47,9 +48,11 @@ impl Given {
         self.answer = Answer::Ready(counter);
     }
 
-    /// Counts it.
-    pub(crate) fn count(&self, counts: &AnswerCounts) {
-        counts.count(&self.answer);
+    /// Counts it, and answers the receipt; none where it is neither a refusal nor a restart.
+    pub(crate) fn count(&self, counts: &AnswerCounts) -> Option<Counted>
+        ensures { kind_of result ≡ counted_as self.now }
+    {
+        counts.count(&self.answer)
     }
 
     /// Whether it is an allocation failure.

@@ -13,9 +13,10 @@ ghost use Rattle.line_runs.specs.RunAnswers.{Gathers};
 ghost use Rattle.server_sessions.specs.Answered.{BreaksOffIn, EndsBefore, HasAnswered, HasAnsweredSome, IsOfSeat, StaysBehind, TakesBytes, TakesInput};
 ghost use Rattle.server_sessions.specs.declared.line_session.SessionEnd.TheVariants.{Unread};
 ghost use Rattle.server_sessions.specs.Answering.{GoesOnBehind, IsAnsweredBy, IsEndOfInput, IsGreeted, IsLineAnswered, last_line, no_options, refused_as};
+ghost use Rattle.server_sessions.specs.Counting.{counted_as, counted_last, if_counts, kind_of};
 ghost use Rattle.server_sessions.specs.Telling.{BreaksTelling, HasName, IsAnswered, IsAnsweredAndDrained, IsBegun, IsDrained, IsLastLine, IsPut, IsSeated, IsWritten, Tells, seat_tenant};
 
-use crate::answer_counts::AnswerCounts;
+use crate::answer_counts::{AnswerCounts, Counted};
 use crate::given::{Given, ask_seat, put_answer, tell_refusal};
 use crate::session_options::SessionOptions;
 use bytes::BytesMut;
@@ -145,7 +146,7 @@ pub fn run_session_as<'s, G: Gate, H: Wait, R: Read, W: Write>(
     let transcript = end_seat(rt, connection.seat);
     match ended {
         Ok(ending) => {
-            count_last(ending, counts);
+            let _counted = count_last(ending, counts);
             (transcript, finish(ending, &mut out, writer))
         }
         Err(fault) => (transcript, Err(fault)),
@@ -165,15 +166,15 @@ fn end_seat<G: Gate, H: Wait>(rt: &H, seat: Option<Seat<'_, G>>) -> Option<Trans
     }
 }
 
-// Counts the last answer, where answers are counted.
-fn count_last(ending: SessionEnd, counts: Option<&AnswerCounts>) {
-    let Some(counts) = counts else {
-        return;
-    };
+// Counts the last answer, where answers are counted, and answers the receipt; none where it is no refusal.
+fn count_last(ending: SessionEnd, counts: Option<&AnswerCounts>) -> Option<Counted>
+    ensures { kind_of result ≡ if_counts counts.entry (counted_last ending) }
+{
+    let counts = counts?;
     match ending {
-        SessionEnd::Silent | SessionEnd::Bye => {}
-        SessionEnd::Unread => counts.count_refusal(Refusal::BadLine),
-        SessionEnd::Refused(refusal) => counts.count_refusal(refusal),
+        SessionEnd::Silent | SessionEnd::Bye => None,
+        SessionEnd::Unread => Some(counts.count_refusal(Refusal::BadLine)),
+        SessionEnd::Refused(refusal) => Some(counts.count_refusal(refusal)),
     }
 }
 
@@ -391,7 +392,7 @@ fn answer_next<'s, G: Gate, H: Wait, W: Write>(
         return Ok(Some(ending));
     }
     let ends = connection.ends();
-    connection.count();
+    let _counted = connection.count();
     put_answer(&connection.answer, out);
     make_room(out, writer)?;
     Ok(if ends { Some(SessionEnd::Silent) } else { None })
@@ -462,10 +463,13 @@ impl<'s, G: Gate> Connection<'s, G> {
         }
     }
 
-    // Counts the answer, where answers are counted.
-    fn count(&self) {
-        if let Some(counts) = self.terms.counts {
-            self.answer.count(counts);
+    // Counts the answer, where answers are counted, and answers the receipt; none where it is neither a refusal nor a restart.
+    fn count(&self) -> Option<Counted>
+        ensures { kind_of result ≡ if_counts self.now.terms.counts (counted_as self.now.answer) }
+    {
+        match self.terms.counts {
+            Some(counts) => self.answer.count(counts),
+            None => None,
         }
     }
 

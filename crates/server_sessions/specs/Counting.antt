@@ -1,0 +1,56 @@
+-- As what answers are counted.
+use Rattle.std.specs.Prelude.{ℕ, Option, Some, None}
+use Rattle.std.specs.Option.{option_map}
+use Rattle.plain_store.specs.Numbers.{number_of}
+use Rattle.plain_store.specs.declared.answer.Answer.{Answer}
+use Rattle.plain_store.specs.declared.answer.Answer.TheVariants as answers
+use Rattle.plain_store.specs.declared.refusal.Refusal.TheVariants.{BadLine}
+use Rattle.server_sessions.specs.declared.line_session.SessionEnd.{SessionEnd}
+use Rattle.server_sessions.specs.declared.line_session.SessionEnd.TheVariants.{Silent, Bye, Unread, Refused}
+use Rattle.server_sessions.specs.declared.answer_counts.Counted.{Counted}
+use Rattle.server_sessions.specs.declared.answer_counts.CountedAs.{CountedAs}
+use Rattle.server_sessions.specs.declared.answer_counts.CountedAs.TheVariants.{Refusal, Restart}
+
+-- the numbers of refusals are below this
+abbrev pub numbers : ℕ
+numbers = 43
+
+-- a refusal, and an end by one, is counted by its number, and a restart as one; no other answer is counted
+abbrev pub counted_as : Answer → Option CountedAs
+counted_as (answers.Refused cause) = Some (Refusal (number_of cause))
+counted_as (answers.Ended cause rows) = Some (Refusal (number_of cause))
+counted_as (answers.Restart key floor) = Some Restart
+counted_as (answers.Ready counter) = None
+counted_as (answers.PutBegun stamp rows) = None
+counted_as (answers.GetBegun rows) = None
+counted_as (answers.FindBegun rows) = None
+counted_as (answers.Replied row reply) = None
+counted_as answers.Ignored = None
+counted_as answers.Wait = None
+counted_as (answers.Decided stamp rows) = None
+counted_as (answers.Done stamp) = None
+counted_as (answers.Ask rows) = None
+counted_as (answers.BeginsRead rows) = None
+counted_as (answers.Read readings) = None
+counted_as (answers.Listed readings) = None
+counted_as answers.Lost = None
+counted_as answers.Stopped = None
+counted_as (answers.Sent rows) = None
+counted_as (answers.Freed count) = None
+counted_as (answers.Keeps keep) = None
+
+-- the last answer of a session that ended so, where it is a refusal
+abbrev pub counted_last : SessionEnd → Option CountedAs
+counted_last Silent = None
+counted_last Bye = None
+counted_last Unread = Some (Refusal (number_of BadLine))
+counted_last (Refused cause) = Some (Refusal (number_of cause))
+
+-- as what the receipt says, if there is one
+abbrev pub kind_of : Option Counted → Option CountedAs
+kind_of = option_map (λ (counted : Counted). counted.kind)
+
+-- nothing is counted where there are no counts
+abbrev pub if_counts : {X : Type 0} → Option X → Option CountedAs → Option CountedAs
+if_counts None kind = None
+if_counts (Some counts) kind = kind
