@@ -1,5 +1,5 @@
 //! Epochs that are checked while a store runs, by a thread for each partition.
-ghost use Rattle.std.specs.Prelude.{◌≡◌, ◌⊎◌, ◌<◌, ◌≤◌, ◌+◌, IfNone, IfOk, IfSome, OnErr, OnOk, None, Some, [], length, vec_len, vec_capacity};
+ghost use Rattle.std.specs.Prelude.{◌≡◌, ◌⊎◌, ◌<◌, ◌≤◌, ◌+◌, IfNone, IfOk, IfSome, OnErr, OnOk, None, Some, [], length, slice_get, vec_len, vec_capacity};
 ghost use Rattle.std.specs.Arc.{arc_value};
 ghost use Rattle.server_verdicts.specs.Rows.{HavePlaces, at_place};
 ghost use Rattle.shard.specs.Journals.{WasCut};
@@ -40,7 +40,7 @@ pub struct Checker<H> {
 
 impl<H: Wait> Sink for Checker<H> {
     fn epoch(&self, partition: u32, tenant: u32, epoch: Epoch) {
-        let Some(queue) = self.queues.get(partition as usize) else {
+        let Some(queue) = self.queue_of(partition) else {
             return;
         };
         let cut = QueuedEpoch {
@@ -53,6 +53,16 @@ impl<H: Wait> Sink for Checker<H> {
         {
             checked.lock(&self.rt).lose();
         }
+    }
+}
+
+impl<H> Checker<H> {
+    /// The end that sends to the thread of a partition, if that is there.
+    fn queue_of(&self, partition: u32) -> Option<&Sender<QueuedEpoch>>
+        ensures there { IfSome result (λ queue. slice_get self.now.queues.items partition ≡ Some queue.now) }
+        ensures not_there { IfNone result (slice_get self.now.queues.items partition ≡ None) }
+    {
+        self.queues.get(partition as usize)
     }
 }
 
