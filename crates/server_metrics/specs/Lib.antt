@@ -3,3 +3,5 @@ pub mod Responses
 pub mod Families
 pub mod Figures
 pub mod MetricsText
+pub mod Pages
+pub mod Exchanges

@@ -7,7 +7,8 @@ use Rattle.std.specs.Char.{is_ascii_digit, to_ascii_lowercase}
 use Rattle.httparse.specs.Grammar.{ReadsRequest, RequestHead}
 use Rattle.httparse.specs.Spans.{RequestOverflows, name_and_value}
 use Rattle.server_metrics.specs.declared.request.Asked.{Asked}
-use Rattle.server_metrics.specs.declared.request.Asked.TheVariants.{Metrics, Health, NotFound, OtherMethod, Foreign, Bad}
+use Rattle.server_metrics.specs.declared.answer.Status.TheVariants.{BadRequest, Forbidden, NotFound, OtherMethod}
+use Rattle.server_metrics.specs.declared.request.Asked.TheVariants.{Metrics, Health, Refused}
 
 -- two texts are the same
 abbrev pub same : List ℕ → List ℕ → Bool
@@ -38,21 +39,21 @@ is_foreign header = is_host header && not (is_here header.1)
 -- what a request that names this machine asks for
 abbrev pub page_by : List ℕ → List ℕ → Asked
 page_by method target =
-    if not (same method (codes "GET")) then OtherMethod
+    if not (same method (codes "GET")) then Refused OtherMethod
     else (if same target (codes "/metrics") then Metrics
-    else (if same target (codes "/health") then Health else NotFound))
+    else (if same target (codes "/health") then Health else Refused NotFound))
 
 -- What a request with this method, this target, this minor version and these header lines asks for. A host that is not
 -- this machine comes before all; then a request of HTTP/1.1 without one.
 abbrev pub asked_by : List ℕ → List ℕ → ℕ → List (List ℕ × List ℕ) → Asked
 asked_by method target minor headers =
-    if list_any is_foreign headers then Foreign
-    else (if minor == 1 && not (list_any is_host headers) then Bad else page_by method target)
+    if list_any is_foreign headers then Refused Forbidden
+    else (if minor == 1 && not (list_any is_host headers) then Refused BadRequest else page_by method target)
 
--- What the bytes ask for: what their first request does; or they are bad, since no request that they can become has
--- 64 header lines or fewer.
+-- What the bytes ask for: what their first request does; or they are refused 400, since no request that they can become
+-- has 64 header lines or fewer.
 abbrev pub IsAskedBy : List ℕ → Asked → Type 0
 IsAskedBy bytes asked =
     ((head : RequestHead) × (rest : List ℕ) × ReadsRequest bytes head rest
     × (asked ≡ asked_by head.method head.target head.minor (map name_and_value head.fields)))
-    ⊎ ((asked ≡ Bad) × RequestOverflows 64 bytes)
+    ⊎ ((asked ≡ Refused BadRequest) × RequestOverflows 64 bytes)

@@ -30,3 +30,13 @@ response_text status body =
     codes "HTTP/1.1 " ++ (status_line status
     ++ (codes "\r\nContent-Type: text/plain; version=0.0.4; charset=utf-8\r\nContent-Length: "
     ++ (decimal (length body) ++ (codes "\r\n" ++ (more_of status ++ (codes "Connection: close\r\n\r\n" ++ body))))))
+
+-- the words for a client that gets this status
+abbrev pub words_of : Status → List ℕ
+words_of Well = codes "ok\n"
+words_of BadRequest = codes "This is no request of HTTP/1.1.\n"
+words_of Forbidden = codes "The host is not this machine.\n"
+words_of NotFound = codes "There are /metrics and /health.\n"
+words_of OtherMethod = codes "Only GET is answered.\n"
+words_of TooLarge = codes "The head of the request is too long.\n"
+words_of NotWell = codes "An epoch was not right or could not be checked, or a partition is not there.\n"

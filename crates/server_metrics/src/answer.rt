@@ -1,6 +1,6 @@
 //! The text that answers a request.
 ghost use Rattle.std.specs.Prelude.{◌≡◌, IfOk, string_bytes};
-ghost use Rattle.server_metrics.specs.Responses.{more_of, response_text, status_line};
+ghost use Rattle.server_metrics.specs.Responses.{more_of, response_text, status_line, words_of};
 
 use std::alloc::{AllocError, Global};
 
@@ -9,15 +9,15 @@ use std::alloc::{AllocError, Global};
 pub enum Status {
     /// 200.
     Well,
-    /// 400: it is no request that is read here.
+    /// 400: it is no request of HTTP/1.0 or 1.1, has no host though it is of 1.1, or has more than 64 header lines.
     BadRequest,
-    /// 403: the host is not this machine.
+    /// 403: the host is not this machine, as where a page of another site sent it.
     Forbidden,
-    /// 404.
+    /// 404: there is no such page.
     NotFound,
     /// 405: only `GET` is answered.
     OtherMethod,
-    /// 431: its head is too long.
+    /// 431: its head has 8 KiB or more.
     TooLarge,
     /// 503: the server is not well.
     NotWell,
@@ -58,5 +58,21 @@ fn more_of(status: Status) -> &'static str
     match status {
         Status::OtherMethod => "Allow: GET\r\n",
         _ => "",
+    }
+}
+
+/// The words for a client that gets this status.
+pub(crate) fn words_of(status: Status) -> &'static str
+    ensures { result.now ≡ words_of status }
+{
+    match status {
+        Status::Well => "ok\n",
+        Status::BadRequest => "This is no request of HTTP/1.1.\n",
+        Status::Forbidden => "The host is not this machine.\n",
+        Status::NotFound => "There are /metrics and /health.\n",
+        Status::OtherMethod => "Only GET is answered.\n",
+        Status::TooLarge => "The head of the request is too long.\n",
+        Status::NotWell =>
+            "An epoch was not right or could not be checked, or a partition is not there.\n",
     }
 }

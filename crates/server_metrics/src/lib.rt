@@ -3,13 +3,17 @@
 #![tactic(auto)]
 
 mod answer;
+mod exchange;
 mod families;
 mod figures;
 mod metrics;
+mod page;
 mod request;
 #[cfg(test)]
 mod tests;
 
 pub use answer::{Status, response};
+pub use exchange::{hear, pass_over, write_page};
 pub use metrics::{ClientRow, Readings, RefusalRow, Row, put_metrics};
+pub use page::{health_page, metrics_page, status_page};
 pub use request::{Asked, MOST_FIELDS, read_request};

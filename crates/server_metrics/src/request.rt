@@ -6,26 +6,21 @@ ghost use Rattle.httparse.specs.Borrowed.{header_parts};
 ghost use Rattle.httparse.specs.Grammar.{HasNoRequest};
 ghost use Rattle.server_metrics.specs.Requests.{IsAskedBy, asked_by, is_foreign, is_here, is_host, is_named, is_port, page_by};
 
-use httparse::{EMPTY_HEADER, Header, Request, Status};
+use crate::answer::Status;
+use httparse::{EMPTY_HEADER, Header, Request, Status as Parsed};
 
 /// How many header lines a request has at most.
 pub const MOST_FIELDS: usize = 64;
 
-/// What a request asks for, or why it is not answered.
+/// What a request asks for.
 #[derive(Clone, Copy, Debug, PartialEq, Eq)]
 pub enum Asked {
     /// How the server stands, in figures: `GET /metrics`.
     Metrics,
     /// Whether it is well: `GET /health`.
     Health,
-    /// A page that is not there.
-    NotFound,
-    /// Something other than `GET`.
-    OtherMethod,
-    /// A host that is not this machine, as where a page of another site sent it.
-    Foreign,
-    /// It is no request of HTTP/1.0 or 1.1, has no host though it is of 1.1, or has more than 64 header lines.
-    Bad,
+    /// Nothing that there is: it is refused with this status.
+    Refused(Status),
 }
 
 /// What the request asks for that these bytes begin with; `None` where its head is not there yet. A body is not looked at.
@@ -36,7 +31,7 @@ pub fn read_request(bytes: &[u8]) -> Option<Asked>
     let mut headers = [EMPTY_HEADER; MOST_FIELDS];
     let mut request = Request::new(&mut headers);
     match request.parse(bytes) {
-        Ok(Status::Complete(_)) => {
+        Ok(Parsed::Complete(_)) => {
             let Some(method) = request.method else {
                 unreachable!();
             };
@@ -48,8 +43,8 @@ pub fn read_request(bytes: &[u8]) -> Option<Asked>
             };
             Some(asked_of(method, path, minor, request.headers))
         }
-        Ok(Status::Partial) => None,
-        Err(_) => Some(Asked::Bad),
+        Ok(Parsed::Partial) => None,
+        Err(_) => Some(Asked::Refused(Status::BadRequest)),
     }
 }
 
@@ -59,10 +54,10 @@ fn asked_of(method: &str, path: &str, minor: u8, headers: &[Header<'_>]) -> Aske
     ensures { result ≡ asked_by method.now path.now minor (map header_parts headers.now) }
 {
     if has_foreign(headers) {
-        return Asked::Foreign;
+        return Asked::Refused(Status::Forbidden);
     }
     if minor == 1 && !has_host(headers) {
-        return Asked::Bad;
+        return Asked::Refused(Status::BadRequest);
     }
     page_of(method, path)
 }
@@ -72,7 +67,7 @@ fn page_of(method: &str, path: &str) -> Asked
     ensures { result ≡ page_by method.now path.now }
 {
     if method != "GET" {
-        return Asked::OtherMethod;
+        return Asked::Refused(Status::OtherMethod);
     }
     if path == "/metrics" {
         return Asked::Metrics;
@@ -80,7 +75,7 @@ fn page_of(method: &str, path: &str) -> Asked
     if path == "/health" {
         return Asked::Health;
     }
-    Asked::NotFound
+    Asked::Refused(Status::NotFound)
 }
 
 // Whether one of the header lines names a host that is not this machine.

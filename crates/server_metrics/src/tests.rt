@@ -28,47 +28,53 @@ fn requests_are_answered_for_what_they_ask(rt: HostRuntime) {
         ),
         (
             "GET / HTTP/1.1\r\nHost: localhost\r\n\r\n",
-            Some(Asked::NotFound),
+            Some(Asked::Refused(Status::NotFound)),
         ),
         (
             "GET /metrics?x=1 HTTP/1.1\r\nHost: localhost\r\n\r\n",
-            Some(Asked::NotFound),
+            Some(Asked::Refused(Status::NotFound)),
         ),
         (
             "POST /metrics HTTP/1.1\r\nHost: localhost\r\nContent-Length: 0\r\n\r\n",
-            Some(Asked::OtherMethod),
+            Some(Asked::Refused(Status::OtherMethod)),
         ),
         (
             "HEAD /health HTTP/1.1\r\nHost: localhost\r\n\r\n",
-            Some(Asked::OtherMethod),
+            Some(Asked::Refused(Status::OtherMethod)),
         ),
         // As a page of another site has a browser ask, whose name was made to mean this machine.
         (
             "GET /metrics HTTP/1.1\r\nHost: evil.example:9100\r\n\r\n",
-            Some(Asked::Foreign),
+            Some(Asked::Refused(Status::Forbidden)),
         ),
         (
             "GET /metrics HTTP/1.1\r\nHost: localhost.evil.example\r\n\r\n",
-            Some(Asked::Foreign),
+            Some(Asked::Refused(Status::Forbidden)),
         ),
         (
             "GET /metrics HTTP/1.1\r\nHost: localhost\r\nHost: evil.example\r\n\r\n",
-            Some(Asked::Foreign),
+            Some(Asked::Refused(Status::Forbidden)),
         ),
         (
             "GET /metrics HTTP/1.1\r\nHost: localhost:80x\r\n\r\n",
-            Some(Asked::Foreign),
+            Some(Asked::Refused(Status::Forbidden)),
         ),
         (
             "GET /metrics HTTP/1.0\r\nHost: 10.0.0.1\r\n\r\n",
-            Some(Asked::Foreign),
+            Some(Asked::Refused(Status::Forbidden)),
         ),
         (
             "GET /metrics HTTP/1.1\r\nAccept: */*\r\n\r\n",
-            Some(Asked::Bad),
+            Some(Asked::Refused(Status::BadRequest)),
         ),
-        ("hello t 1\r\n\r\n", Some(Asked::Bad)),
-        ("GET /metrics HTTP/2.0\r\n\r\n", Some(Asked::Bad)),
+        (
+            "hello t 1\r\n\r\n",
+            Some(Asked::Refused(Status::BadRequest)),
+        ),
+        (
+            "GET /metrics HTTP/2.0\r\n\r\n",
+            Some(Asked::Refused(Status::BadRequest)),
+        ),
         // More has to come.
         ("GET /metrics HTTP/1.1\r\nHost: localhost\r\n", None),
         ("GET /met", None),

@@ -1,24 +1,77 @@
--- One row more, behind those of the usages before: for `put_rows`.
-use Rattle.std.proofs.Common.{◌≡◌, ◌∙◌, ℕ, ◌+◌, ◌<◌, List, [], ◌∷◌, ◌++◌, take, length, get_or, sym, ap, subst, append_assoc, add-one}
+-- One row more, behind those that were there.
+use Rattle.std.proofs.Common.{◌≡◌, ◌∙◌, ℕ, suc, ◌+◌, ◌<◌, ◌≤◌, List, [], ◌∷◌, ◌++◌, Option, Some, take, length, length-take-le, get_or, sym, ap, subst, append_assoc, add-one, arith}
+use Rattle.std.specs.Prelude.{slice_get, unwrap_or}
 use Rattle.std.proofs.Math.Seq.{take-suc}
+use Rattle.stamps.specs.declared.bounds.Limits.{Limits}
 use Rattle.shard.specs.declared.usages.TenantUsage.{TenantUsage}
+use Rattle.server_metrics.specs.declared.metrics.ClientRow.{ClientRow}
+use Rattle.server_metrics.specs.declared.metrics.RefusalRow.{RefusalRow}
 use Rattle.server_metrics.specs.declared.metrics.Row.{Row}
-use Rattle.server_status.specs.Reported.{AreRowsBehind, AreRowsOf, IsRowOf}
+use Rattle.server_verdicts.specs.declared.epochs.checked.Progress.{Progress}
+use Rattle.server_status.specs.Reported.{AreClientRows, AreRefusalRows, AreRowsBehind, AreRowsOf, IsClientRow, IsRowAt, IsRowOf}
+
+-- what a list has at a place is one thing
+same : {X : Type 0} (x y : X) → Some x ≡ Some y → y ≡ x
+same x y there = sym (ap (λ found. unwrap_or found x) there)
 
 -- one usage and its row more
-rows_more : (usages : List TenantUsage) (rows : List Row) (usage : TenantUsage) (row : Row) → AreRowsOf usages rows → IsRowOf usage row
-    → AreRowsOf (usages ++ usage ∷ []) (rows ++ row ∷ [])
-rows_more [] [] usage row are is = (is, tt)
-rows_more (first ∷ usages) (its ∷ rows) usage row are is = (are.0, rows_more usages rows usage row are.1 is)
-rows_more [] (its ∷ rows) usage row are is = absurd are
-rows_more (first ∷ usages) [] usage row are is = absurd are
+rows_more : (partition : ℕ) (names : List (List ℕ)) (limits : List Limits) (checks : List (Option Progress)) (usages : List TenantUsage) (rows : List Row)
+    (name : List ℕ) (its : Limits) (progress : Option Progress) (used : TenantUsage) (row : Row) → AreRowsOf partition names limits checks usages rows
+    → slice_get names (length usages) ≡ Some name → slice_get limits (length usages) ≡ Some its → slice_get checks (length usages) ≡ Some progress
+    → IsRowOf used row → IsRowAt partition name its progress row → AreRowsOf partition names limits checks (usages ++ used ∷ []) (rows ++ row ∷ [])
+rows_more partition (n ∷ names) (l ∷ limits) (c ∷ checks) [] [] name its progress used row are named limited checked is at =
+    let P : List ℕ → Type 0 = λ one. IsRowAt partition one its progress row in
+    let Q : Limits → Type 0 = λ one. IsRowAt partition n one progress row in
+    let R : Option Progress → Type 0 = λ one. IsRowAt partition n l one row in
+    (is, subst R (same c progress checked) (subst Q (same l its limited) (subst P (same n name named) at)), tt)
+rows_more partition [] limits checks [] [] name its progress used row are named limited checked is at = cc
+rows_more partition (n ∷ names) [] checks [] [] name its progress used row are named limited checked is at = cc
+rows_more partition (n ∷ names) (l ∷ limits) [] [] [] name its progress used row are named limited checked is at = cc
+rows_more partition names limits checks [] (r ∷ rows) name its progress used row are named limited checked is at = absurd are
+rows_more partition [] limits checks (u ∷ usages) rows name its progress used row are named limited checked is at = absurd are
+rows_more partition (n ∷ names) [] checks (u ∷ usages) rows name its progress used row are named limited checked is at = absurd are
+rows_more partition (n ∷ names) (l ∷ limits) [] (u ∷ usages) rows name its progress used row are named limited checked is at = absurd are
+rows_more partition (n ∷ names) (l ∷ limits) (c ∷ checks) (u ∷ usages) [] name its progress used row are named limited checked is at = absurd are
+rows_more partition (n ∷ names) (l ∷ limits) (c ∷ checks) (u ∷ usages) (r ∷ rows) name its progress used row are named limited checked is at =
+    (are.0, are.1, rows_more partition names limits checks usages rows name its progress used row are.2 named limited checked is at)
 
--- the same of rows behind others
-pub rows_behind : (usages : List TenantUsage) (nth : ℕ) (none : TenantUsage) (old now new : List Row) (row : Row) → nth < length usages → AreRowsBehind (take nth usages) old now
-    → IsRowOf (get_or usages nth none) row → new ≡ now ++ row ∷ [] → AreRowsBehind (take (nth + 1) usages) old new
-rows_behind usages nth none old now new row within (rows, behind, are) is pushed =
-    let one : take (nth + 1) usages ≡ take nth usages ++ get_or usages nth none ∷ [] = ap (λ (k : ℕ). take k usages) (add-one nth) ∙ take-suc usages nth none within in (
+-- the same of rows behind others: for `put_rows`
+pub rows_behind : (partition : ℕ) (names : List (List ℕ)) (limits : List Limits) (checks : List (Option Progress)) (usages : List TenantUsage) (nth : ℕ)
+    (name : List ℕ) (its : Limits) (progress : Option Progress) (none : TenantUsage) (old now new : List Row) (row : Row) → nth < length usages
+    → AreRowsBehind partition names limits checks (take nth usages) old now
+    → slice_get names nth ≡ Some name → slice_get limits nth ≡ Some its → slice_get checks nth ≡ Some progress
+    → IsRowOf (get_or usages nth none) row → IsRowAt partition name its progress row → new ≡ now ++ row ∷ []
+    → AreRowsBehind partition names limits checks (take (nth + 1) usages) old new
+rows_behind partition names limits checks usages nth name its progress none old now new row within (rows, behind, are) named limited checked is at pushed =
+    let one : take (nth + 1) usages ≡ take nth usages ++ get_or usages nth none ∷ [] = ap (λ (k : ℕ). take k usages) (add-one nth) ∙ take-suc usages nth none within in
+    let here : length (take nth usages) ≡ nth = length-take-le nth usages (omega (arith, within)) in (
       rows ++ row ∷ [],
       pushed ∙ ap (λ (l : List Row). l ++ row ∷ []) behind ∙ append_assoc old rows (row ∷ []),
-      subst (λ (l : List TenantUsage). AreRowsOf l (rows ++ row ∷ [])) (sym one) (rows_more (take nth usages) rows (get_or usages nth none) row are is),
+      subst (λ (l : List TenantUsage). AreRowsOf partition names limits checks l (rows ++ row ∷ [])) (sym one)
+          (rows_more partition names limits checks (take nth usages) rows name its progress (get_or usages nth none) row are
+          (ap (λ (k : ℕ). slice_get names k) here ∙ named) (ap (λ (k : ℕ). slice_get limits k) here ∙ limited) (ap (λ (k : ℕ). slice_get checks k) here ∙ checked) is at),
     )
+
+-- a tenant's clients more: for `read_clients`
+pub clients_more : (names : List (List ℕ)) (limits : List Limits) (rows : List ClientRow) (name : List ℕ) (its : Limits) (row : ClientRow) → AreClientRows names limits rows
+    → slice_get names (length rows) ≡ Some name → slice_get limits (length rows) ≡ Some its → IsClientRow name its row → AreClientRows names limits (rows ++ row ∷ [])
+clients_more (n ∷ names) (l ∷ limits) [] name its row are named limited is =
+    let P : List ℕ → Type 0 = λ one. IsClientRow one its row in
+    let Q : Limits → Type 0 = λ one. IsClientRow n one row in
+    (subst Q (same l its limited) (subst P (same n name named) is), tt)
+clients_more [] limits [] name its row are named limited is = cc
+clients_more (n ∷ names) [] [] name its row are named limited is = cc
+clients_more [] limits (r ∷ rows) name its row are named limited is = absurd are
+clients_more (n ∷ names) [] (r ∷ rows) name its row are named limited is = absurd are
+clients_more (n ∷ names) (l ∷ limits) (r ∷ rows) name its row are named limited is =
+    (are.0, clients_more names limits rows name its row are.1 named limited is)
+
+-- a refusal more, or none of this number: for `read_refusals`
+pub refusals_more : (from below : ℕ) (rows : List RefusalRow) (row : RefusalRow) → AreRefusalRows from below rows → row.number ≡ below → 0 < row.lines
+    → AreRefusalRows from (below + 1) (rows ++ row ∷ [])
+refusals_more from below [] row are is some = (omega (arith, are, is), some, omega (arith, is))
+refusals_more from below (r ∷ rows) row are is some = (are.0, are.1, refusals_more (r.number + 1) below rows row are.2 is some)
+
+pub refusals_wider : (from below : ℕ) (rows : List RefusalRow) → AreRefusalRows from below rows → AreRefusalRows from (below + 1) rows
+refusals_wider from below [] are = omega (arith, are)
+refusals_wider from below (r ∷ rows) are = (are.0, are.1, refusals_wider (r.number + 1) below rows are.2)

@@ -1,8 +1,20 @@
--- What is reported of a partition.
-use Rattle.std.specs.Prelude.{◌≡◌, ◌-◌, ◌++◌, ℕ, List, [], ◌∷◌}
+-- What is reported of a running server.
+use Rattle.std.specs.Prelude.{◌≡◌, ◌≢◌, ◌+◌, ◌-◌, ◌^◌, ◌++◌, ◌↔◌, ◌<◌, ◌≤◌, ℕ, zero, suc, min}
+use Rattle.std.specs.Prelude.{List, [], ◌∷◌, length, All, Option, Some, None, IsSomeAnd, IsTrue}
+use Rattle.std.specs.Option.{option_map}
+use Rattle.stamps.specs.declared.bounds.Limits.{Limits}
 use Rattle.shard.specs.UsedAt.{AreUsagesAt}
 use Rattle.shard.specs.declared.usages.TenantUsage.{TenantUsage}
+use Rattle.server_metrics.specs.declared.metrics.ClientRow.{ClientRow}
+use Rattle.server_metrics.specs.declared.metrics.Readings.{Readings}
+use Rattle.server_metrics.specs.declared.metrics.RefusalRow.{RefusalRow}
 use Rattle.server_metrics.specs.declared.metrics.Row.{Row}
+use Rattle.server_sessions.specs.Ports.{most_of}
+use Rattle.server_verdicts.specs.declared.epochs.checked.Progress.{Progress}
+use Rattle.server_verdicts.specs.declared.epochs.checked.Standing.TheVariants.{Right}
+use Rattle.server_status.specs.declared.reading.Watched.{Watched}
+
+-- ---- the rows of a partition
 
 -- the row has the numbers of what a tenant uses
 pub record IsRowOf (used : TenantUsage) (row : Row) : Type 0 where
@@ -13,18 +25,76 @@ pub record IsRowOf (used : TenantUsage) (row : Row) : Type 0 where
   pub collections : row.collections ≡ used.collections
   pub cut : row.cut ≡ used.usage.epoch - 1
 
--- a row of each usage, in their order
-abbrev pub AreRowsOf : List TenantUsage → List Row → Type 0
-AreRowsOf [] [] = Unit {0}
-AreRowsOf (usage ∷ usages) (row ∷ rows) = IsRowOf usage row × AreRowsOf usages rows
-AreRowsOf _ _ = ⊥
+-- it is of the tenant of this name at this partition, has these limits, and says how far its checks have come, if it has any
+pub record IsRowAt (at : ℕ) (name : List ℕ) (limits : Limits) (progress : Option Progress) (row : Row) : Type 0 where
+  pub tenant : row.tenant.now ≡ name
+  pub partition : row.partition ≡ at
+  pub items : row.items_limit ≡ limits.items
+  pub versions : row.versions_limit ≡ limits.slots
+  pub marks : row.marks_limit ≡ limits.clients
+  pub checked : row.checked ≡ option_map (λ (its : Progress). its.checked) progress
+  pub wrong : IsTrue row.is_wrong ↔ IsSomeAnd progress (λ (its : Progress). its.standing ≢ Right)
+
+-- a row of each usage, in their order: that of the tenant of the next name, limits and checks
+abbrev pub AreRowsOf : ℕ → List (List ℕ) → List Limits → List (Option Progress) → List TenantUsage → List Row → Type 0
+AreRowsOf partition names limits checks [] [] = Unit {0}
+AreRowsOf partition (name ∷ names) (its ∷ limits) (progress ∷ checks) (used ∷ usages) (row ∷ rows) =
+    IsRowOf used row × IsRowAt partition name its progress row × AreRowsOf partition names limits checks usages rows
+AreRowsOf _ _ _ _ _ _ = ⊥
 
 -- rows of these usages were put behind those that were there
-abbrev pub AreRowsBehind : List TenantUsage → List Row → List Row → Type 0
-AreRowsBehind usages old new = (rows : List Row) × (new ≡ old ++ rows) × AreRowsOf usages rows
+abbrev pub AreRowsBehind : ℕ → List (List ℕ) → List Limits → List (Option Progress) → List TenantUsage → List Row
+    → List Row → Type 0
+AreRowsBehind partition names limits checks usages old new =
+    (rows : List Row) × (new ≡ old ++ rows) × AreRowsOf partition names limits checks usages rows
 
--- Rows were put behind those that were there. Their numbers are those that the cells of the partition, one of so many, had at
--- one moment.
-abbrev pub AreRowsAt : ℕ → ℕ → List Row → List Row → Type 0
-AreRowsAt parts partition old new =
-    (usages : List TenantUsage) × AreUsagesAt parts partition usages × AreRowsBehind usages old new
+-- checks of so many tenants; none where no epochs are checked
+abbrev pub AreChecksOf : Watched → List (Option Progress) → Type 0
+AreChecksOf watched checks =
+    (length checks ≡ min (length watched.names.now) (2 ^ 32 - 1))
+    × (watched.known ≡ None → All (λ (progress : Option Progress). progress ≡ None) checks)
+
+-- Rows were put behind those that were there. Their numbers are those that the cells of the partition had at one moment.
+abbrev pub AreRowsAt : Watched → ℕ → List Row → List Row → Type 0
+AreRowsAt watched partition old new =
+    (usages : List TenantUsage) × (checks : List (Option Progress)) × AreUsagesAt watched.hub.now.parts partition usages
+    × AreChecksOf watched checks
+    × AreRowsBehind partition watched.names.now watched.hub.now.limits checks usages old new
+
+-- so for each partition before this one, one after another
+abbrev pub AreRowsBefore : Watched → ℕ → List Row → Type 0
+AreRowsBefore watched zero rows = rows ≡ []
+AreRowsBefore watched (suc partition) rows =
+    (before : List Row) × AreRowsBefore watched partition before × AreRowsAt watched partition before rows
+
+-- ---- the tenants' clients and the refusals
+
+-- the row is of the tenant of this name, and of no more clients than its limits say
+pub record IsClientRow (name : List ℕ) (limits : Limits) (row : ClientRow) : Type 0 where
+  pub tenant : row.tenant.now ≡ name
+  pub limit : row.limit ≡ limits.clients
+  pub few : row.clients ≤ limits.clients
+
+-- a row of each tenant that has a name and limits, in their order
+abbrev pub AreClientRows : List (List ℕ) → List Limits → List ClientRow → Type 0
+AreClientRows names limits [] = Unit {0}
+AreClientRows (name ∷ names) (its ∷ limits) (row ∷ rows) = IsClientRow name its row × AreClientRows names limits rows
+AreClientRows _ _ _ = ⊥
+
+-- the rows are of refusals with rising numbers, from the first of these to before the second, each of one line or more
+abbrev pub AreRefusalRows : ℕ → ℕ → List RefusalRow → Type 0
+AreRefusalRows from below [] = from ≤ below
+AreRefusalRows from below (row ∷ rows) = (from ≤ row.number) × (0 < row.lines) × AreRefusalRows (row.number + 1) below rows
+
+-- ---- all that is read
+
+-- What was read of this server: where it is whole, a row of each tenant at each partition; and rows of the clients and of
+-- the refusals.
+pub record IsReadOf (watched : Watched) (readings : Readings) : Type 0 where
+  pub rows : IsTrue readings.is_whole → AreRowsBefore watched watched.hub.now.parts readings.rows.items
+  pub clients : AreClientRows watched.names.now watched.hub.now.limits readings.clients.items
+  pub all_clients : length readings.clients.items ≡ min (min (length watched.names.now) (2 ^ 32 - 1)) (length watched.hub.now.limits)
+  pub refusals : AreRefusalRows 0 43 readings.refusals.items
+  pub most : readings.most ≡ most_of watched.server.now
+  pub started : readings.started ≡ watched.started
+  pub version : readings.version.now ≡ watched.version.now

@@ -1,7 +1,6 @@
 //! What a scrape reads of a running server.
-ghost use Rattle.std.specs.Prelude.{◌≡◌, ◌≢◌, ◌-◌, ◌↔◌, IfOk, IsSomeAnd, IsTrue};
-ghost use Rattle.std.specs.Option.{option_map};
-ghost use Rattle.server_status.specs.Reported.{AreRowsAt, AreRowsBehind, IsRowOf};
+ghost use Rattle.std.specs.Prelude.{◌≡◌, ◌-◌, ◌^◌, [], min, IfOk, IsTrue, vec_len, None, length};
+ghost use Rattle.server_status.specs.Reported.{AreChecksOf, AreClientRows, AreRefusalRows, AreRowsAt, AreRowsBefore, AreRowsBehind, IsReadOf, IsRowAt, IsRowOf};
 
 use hub::{Hub, TenantUsage};
 use line_protocol::Name;
@@ -33,14 +32,11 @@ impl<'s> Watched<'s> {
     /// Reads all that is reported, one partition after another, each under its own lock. It takes time for each tenant at each
     /// partition, and visits none of what they hold. It waits for no session, but where an epoch is being checked for that
     /// check. The one error is that an allocation failed.
-    pub fn read<H: Wait>(&self, rt: &H, alloc: Global) -> Result<Readings<'s>, AllocError> {
+    pub fn read<H: Wait>(&self, rt: &H, alloc: Global) -> Result<Readings<'s>, AllocError>
+        ensures { IfOk result (IsReadOf self.now) }
+    {
         let mut rows = Vec::new(alloc);
-        let mut is_whole = true;
-        for partition in 0..self.hub.parts() {
-            if !self.read_partition(rt, alloc, partition, &mut rows)? {
-                is_whole = false;
-            }
-        }
+        let is_whole = self.read_partitions(rt, alloc, &mut rows)?;
         let connections = self.server.connections(rt);
         Ok(Readings {
             rows,
@@ -56,6 +52,25 @@ impl<'s> Watched<'s> {
         })
     }
 
+    // Puts a row of each tenant at each partition into the rows, of which there are none. Says whether each partition is there.
+    fn read_partitions<H: Wait>(
+        &self,
+        rt: &H,
+        alloc: Global,
+        rows: &mut Vec<Row<'s>>,
+    ) -> Result<bool, AllocError>
+        requires { rows.old.items ≡ [] }
+        ensures { IfOk result (λ is_whole. IsTrue is_whole → AreRowsBefore self.now self.now.hub.now.parts rows.new.items) }
+    {
+        let mut is_whole = true;
+        for partition in 0..self.hub.parts() {
+            if !self.read_partition(rt, alloc, partition, rows)? {
+                is_whole = false;
+            }
+        }
+        Ok(is_whole)
+    }
+
     // Puts a row of each tenant at a partition behind the rows. Says whether the partition is there: the rows are then of one
     // moment.
     fn read_partition<H: Wait>(
@@ -65,33 +80,41 @@ impl<'s> Watched<'s> {
         partition: u32,
         rows: &mut Vec<Row<'s>>,
     ) -> Result<bool, AllocError>
-        ensures { IfOk result (λ is_there. IsTrue is_there → AreRowsAt self.now.hub.now.parts partition rows.old.items rows.new.items) }
+        ensures { IfOk result (λ is_there. IsTrue is_there → AreRowsAt self.now partition rows.old.items rows.new.items) }
     {
         // Before the epochs, so that no more are checked than cut.
-        let checked = self.read_checked(rt, alloc, partition)?;
+        let checks = self.read_checks(rt, alloc, partition)?;
         let mut usages = Vec::new(alloc);
         if !self.hub.status(rt, partition, &mut usages)? {
             return Ok(false);
         }
-        self.put_rows(partition, &usages, &checked, rows)
+        self.put_rows(partition, &usages, &checks, rows)
     }
 
     // How far the checks of each tenant's journal at a partition have come.
-    fn read_checked<H: Wait>(
+    fn read_checks<H: Wait>(
         &self,
         rt: &H,
         alloc: Global,
         partition: u32,
-    ) -> Result<Vec<Option<Progress>>, AllocError> {
-        let mut checked = Vec::new(alloc);
+    ) -> Result<Vec<Option<Progress>>, AllocError>
+        ensures { IfOk result (λ checks. AreChecksOf self.now checks.items) }
+    {
+        let mut checks = Vec::new(alloc);
         for tenant in 0..tenants_of(self.names) {
-            let progress = match self.known {
-                Some(known) => progress_at(rt, known, partition, tenant),
-                None => None,
-            };
-            checked.push(progress)?;
+            checks.push(self.read_check(rt, partition, tenant))?;
         }
-        Ok(checked)
+        Ok(checks)
+    }
+
+    // How far the checks of a tenant's journal at a partition have come, where epochs are checked.
+    fn read_check<H: Wait>(&self, rt: &H, partition: u32, tenant: u32) -> Option<Progress>
+        ensures { self.now.known ≡ None → result ≡ None }
+    {
+        match self.known {
+            Some(known) => progress_at(rt, known, partition, tenant),
+            None => None,
+        }
     }
 
     // Puts a row of each usage behind the rows. Says whether each is of a tenant that has a name.
@@ -99,28 +122,30 @@ impl<'s> Watched<'s> {
         &self,
         partition: u32,
         usages: &[TenantUsage],
-        checked: &[Option<Progress>],
+        checks: &[Option<Progress>],
         rows: &mut Vec<Row<'s>>,
     ) -> Result<bool, AllocError>
-        ensures { IfOk result (λ is_there. IsTrue is_there → AreRowsBehind usages.now rows.old.items rows.new.items) }
+        ensures { IfOk result (λ is_there. IsTrue is_there → AreRowsBehind partition self.now.names.now self.now.hub.now.limits checks.now usages.now rows.old.items rows.new.items) }
     {
         let limits = self.hub.limits();
-        for (tenant, usage) in usages.iter().enumerate() {
-            let (Some(name), Some(limits)) = (self.names.get(tenant), limits.get(tenant)) else {
+        for (tenant, used) in usages.iter().enumerate() {
+            let (Some(name), Some(limits), Some(progress)) = (
+                self.names.get(tenant),
+                limits.get(tenant),
+                checks.get(tenant),
+            ) else {
                 return Ok(false);
             };
-            let progress = checked.get(tenant).copied().flatten();
-            rows.push(row_of(text_of(name), partition, usage, limits, progress))?;
+            rows.push(row_of(text_of(name), partition, used, limits, *progress))?;
         }
         Ok(true)
     }
 
     // A row of each tenant's clients.
-    fn read_clients<H: Wait>(
-        &self,
-        rt: &H,
-        alloc: Global,
-    ) -> Result<Vec<ClientRow<'s>>, AllocError> {
+    fn read_clients<H: Wait>(&self, rt: &H, alloc: Global) -> Result<Vec<ClientRow<'s>>, AllocError>
+        ensures all { IfOk result (λ rows. vec_len rows ≡ min (min (length self.now.names.now) (2 ^ 32 - 1)) (length self.now.hub.now.limits)) }
+        ensures each { IfOk result (λ rows. AreClientRows self.now.names.now self.now.hub.now.limits rows.items) }
+    {
         let mut clients = Vec::new(alloc);
         let limits = self.hub.limits();
         for tenant in 0..tenants_of(self.names) {
@@ -141,12 +166,16 @@ impl<'s> Watched<'s> {
 }
 
 // How many tenants have these names.
-fn tenants_of(names: &[Name]) -> u32 {
+fn tenants_of(names: &[Name]) -> u32
+    ensures { result ≡ min (length names.now) (2 ^ 32 - 1) }
+{
     u32::try_from(names.len()).unwrap_or(u32::MAX)
 }
 
 // A row of each refusal that was answered.
-fn read_refusals(alloc: Global, answers: &AnswerCounts) -> Result<Vec<RefusalRow>, AllocError> {
+fn read_refusals(alloc: Global, answers: &AnswerCounts) -> Result<Vec<RefusalRow>, AllocError>
+    ensures { IfOk result (λ rows. AreRefusalRows 0 43 rows.items) }
+{
     let mut refusals = Vec::new(alloc);
     for number in 0..AnswerCounts::NUMBERS {
         let lines = answers.refusals(number);
@@ -165,11 +194,8 @@ fn row_of<'s>(
     limits: &Limits,
     progress: Option<Progress>,
 ) -> Row<'s>
-    ensures place { (result.tenant.now ≡ tenant.now) × (result.partition ≡ partition) }
     ensures used { IsRowOf used.now result }
-    ensures limits { (result.items_limit ≡ limits.now.items) × (result.versions_limit ≡ limits.now.slots) × (result.marks_limit ≡ limits.now.clients) }
-    ensures checked { result.checked ≡ option_map (λ its. its.checked) progress }
-    ensures wrong { IsTrue result.is_wrong ↔ IsSomeAnd progress (λ its. its.standing ≢ Standing.Right) }
+    ensures at { IsRowAt partition tenant.now limits.now progress result }
 {
     let (checked, is_wrong) = match progress {
         Some(its) => (Some(its.checked), its.standing != Standing::Right),

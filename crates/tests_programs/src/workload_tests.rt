@@ -11,6 +11,7 @@ use workload::run_words;
 
 mod connection;
 mod epochs;
+mod health;
 mod keeping;
 mod limits;
 mod server;

@@ -12,16 +12,17 @@ use workload::{Checked, Ending, LastEpochs, tell_checks};
 
 /// An epoch of one event, a GET of a key that nobody wrote: its number, whether the reply is the right one, and how many slots
 /// the base has room for at which it begins, which has nothing else.
-#[derive(Clone, Copy)]
-struct Given(u64, bool, u32);
+#[derive(Clone, Copy, Debug)]
+pub(super) struct Given(pub u64, pub bool, pub u32);
 
 /// The limits of a tenant with room for so many slots.
-fn limits_of(slots: u32) -> Result<Limits, &'static str> {
+pub(super) fn limits_of(slots: u32) -> Result<Limits, &'static str> {
     let keep = Keep::new(2).ok_or("a keep")?;
     Limits::new(slots, 4, keep, 4).ok_or("limits")
 }
 
-fn epoch(alloc: Global, given: Given) -> Result<Epoch, Fail> {
+/// That epoch.
+pub(super) fn epoch_of(alloc: Global, given: Given) -> Result<Epoch, Fail> {
     let Given(number, is_right, slots) = given;
     let key = Key::read(b"x").ok_or("a key")?;
     let reply = if is_right {
@@ -103,7 +104,7 @@ fn told_of(alloc: Global, slots: u32, epochs: Vec<Epoch>) -> Result<(Vec<u8>, bo
 fn epochs_of(alloc: Global, given: &[Given]) -> Result<Vec<Epoch>, Fail> {
     let mut epochs = Vec::new(alloc);
     for one in given {
-        epochs.push(epoch(alloc, *one)?)?;
+        epochs.push(epoch_of(alloc, *one)?)?;
     }
     Ok(epochs)
 }

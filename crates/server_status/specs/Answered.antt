@@ -1,0 +1,40 @@
+-- What a client of a status port is answered.
+use Rattle.std.specs.Prelude.{◌≡◌, ◌⊎◌, ℕ, List, Option, Bool, false, IsTrue, take}
+use Rattle.std.specs.Io.KnownBytes.{Appends, Keeps}
+use Rattle.server_metrics.specs.Exchanges.{IsHeardOf}
+use Rattle.server_metrics.specs.MetricsText.{is_well}
+use Rattle.server_metrics.specs.Pages.{health_status, metrics_text_page, text_page}
+use Rattle.server_metrics.specs.declared.metrics.Readings.{Readings}
+use Rattle.server_metrics.specs.declared.request.Asked.{Asked}
+use Rattle.server_metrics.specs.declared.request.Asked.TheVariants.{Metrics, Health, Refused}
+use Rattle.server_status.specs.Reported.{IsReadOf}
+use Rattle.server_status.specs.declared.reading.Watched.{Watched}
+use Rattle.server_status.specs.declared.serving.StatusPort.{StatusPort}
+
+-- where a port's requests come from
+abbrev pub port_listener : {L : Type 0} → StatusPort L → L
+port_listener port = port.listener
+
+-- the page that answers what was asked of a server: how it stands as it was read, or the words of a refusal
+abbrev pub IsAnswerTo : Watched → Asked → List ℕ → Type 0
+IsAnswerTo watched Metrics page = (readings : Readings) × IsReadOf watched readings × (page ≡ metrics_text_page readings)
+IsAnswerTo watched Health page =
+    (readings : Readings) × IsReadOf watched readings × (page ≡ text_page (health_status (is_well readings)))
+IsAnswerTo watched (Refused status) page = page ≡ text_page status
+
+-- a prefix of the page was written, or where that is said the whole of it
+abbrev pub IsWritten : List ℕ → Option (List ℕ) → Option (List ℕ) → Bool → Type 0
+IsWritten page old new whole = ((n : ℕ) × Appends old new (take n page)) × (IsTrue whole → Appends old new page)
+
+-- a request was read from an input, and a page that answers it was written, whole or not
+pub record Answers (watched : Watched) (input left old new : Option (List ℕ)) (whole : Bool) : Type 0 where
+  pub asked : Asked
+  pub page : List ℕ
+  pub heard : IsHeardOf input left asked
+  pub answer : IsAnswerTo watched asked page
+  pub written : IsWritten page old new whole
+
+-- so, or nothing was written
+abbrev pub HasAnswered : Watched → Option (List ℕ) → Option (List ℕ) → Option (List ℕ) → Option (List ℕ) → Bool → Type 0
+HasAnswered watched input left old new whole =
+    Answers watched input left old new whole ⊎ ((whole ≡ false) × Keeps old new)
