@@ -14,13 +14,15 @@ use Rattle.plain_store.specs.Log.{is_version}
 use Rattle.plain_store.specs.Words.{Key}
 use Rattle.secondary_index.specs.Index.{Index}
 use Rattle.stamps.specs.Record.{Record}
-use Rattle.version_arena.specs.Arena.{entry, beside, next_beside, live_count}
+use Rattle.version_arena.specs.Arena.{entry, beside, next_beside}
 use Rattle.version_chain.specs.declared.version.Node.{Node}
 use Rattle.version_chain.specs.declared.version.Version.{Version}
 use Rattle.version_chain.specs.declared.stamp_list.Kept.{Kept}
 use Rattle.version_chain.specs.Heads.{Heads}
-use Rattle.version_chain.specs.Chain.{Cells, HoldsChains, HasShare, OthersKept, OtherChainsKept, chain_versions, follow, at_stamp}
+use Rattle.version_chain.specs.Chain.{Cells, HoldsChains, OtherChainsKept, chain_versions, follow, at_stamp}
 use Rattle.version_chain.specs.Listed.{is_at_stamp, is_named, chain_of, chain_in, with_latest, Lists, IsSwept, NoneMove}
+use Rattle.version_chain.specs.Sharing.{ChangesOwn}
+use Rattle.version_chain.proofs.Changing.{own_next}
 use Rattle.version_chain.proofs.Listing.{lists_same, swept_same}
 use Rattle.version_chain.proofs.MarkingListed.{marks}
 use Rattle.version_chain.proofs.Places.{places, place_stamp, place_named}
@@ -62,12 +64,10 @@ marked_together stamp items chains = together (item_chains items (map (map (mark
 pub record SoFar (start now : Cells) (chains heads : Heads) (stamp j : ℕ) (old index : Index) (count before visits : ℕ) : Type 0 where
   pub stands : HoldsChains now heads
   pub rest : heads ≡ with_latest chains heads.latest
-  pub share : HasShare start chains → HasShare now chains
+  pub own : ChangesOwn start now chains heads
   pub listed : Lists now chains
   pub swept : IsSwept now chains
   pub stays : NoneMove start now chains.tenant
-  pub others : OthersKept start now chains.tenant
-  pub live : live_count now ≡ live_count start
   pub places_stay : (slot : ℕ) → chain_in now slot ≡ chain_in start slot
   pub chained : (chain : ℕ) → chain < length chains.heads → chain_versions now chains chain ≡ once_done stamp (is_done start (places chains stamp) j chain) (chain_versions start chains chain)
   pub within : j ≤ length (places chains stamp)
@@ -174,18 +174,18 @@ module _ (start now : Cells) (chains heads : Heads) (stamp j : ℕ) (old index :
   -- the same facts of chains that differ in their latest versions alone
   abbrev pub Facts : Cells → Index → Heads → Heads → Type 0
   Facts next next_index h k =
-      (HasShare now h → HasShare next k) × NoneMove now next h.tenant × OtherChainsKept now h next k (chain_in now kept.slot)
-      × (chain_versions next k (chain_in now kept.slot) ≡ map (marked_at kept.stamp) (chain_versions now h (chain_in now kept.slot))) × OthersKept now next h.tenant
+      NoneMove now next h.tenant × OtherChainsKept now h next k (chain_in now kept.slot)
+      × (chain_versions next k (chain_in now kept.slot) ≡ map (marked_at kept.stamp) (chain_versions now h (chain_in now kept.slot)))
       × ((key : Key) → All (IsVersionOf key) (chain_versions now h (chain_in now kept.slot)) → (latest : Version) × IsLatest key (chain_versions next k (chain_in now kept.slot)) (Some latest) × (next_index.tags ≡ insert index.tags key latest.prepared.tag))
 
   module _ (next : Cells) (after : Heads) (next_index : Index) (stands_next : HoldsChains next after) (rest_next : after ≡ with_latest chains after.latest) (told : Facts next next_index heads after) (places_stay : (slot : ℕ) → chain_in next slot ≡ chain_in now slot)
-      (live : live_count next ≡ live_count now) (room : next_index.room ≡ index.room) (keys : HasSameKeys index.tags next_index.tags) where
+      (own : ChangesOwn now next heads after) (room : next_index.room ≡ index.room) (keys : HasSameKeys index.tags next_index.tags) where
     facts : Facts next next_index chains chains
     facts = subst (λ (k : Heads). Facts next next_index chains k) rest_next (subst (λ (h : Heads). Facts next next_index h after) was.rest told)
 
     marked_now : chain_versions next chains (chain_in now kept.slot) ≡ map (marked_at stamp) (chain_versions start chains (chain_in start kept.slot))
     marked_now =
-        facts.3 ∙ ap (λ s. map (marked_at s) (chain_versions now chains (chain_in now kept.slot))) (place_stamp start chains stamp j kept within is)
+        facts.2 ∙ ap (λ s. map (marked_at s) (chain_versions now chains (chain_in now kept.slot))) (place_stamp start chains stamp j kept within is)
         ∙ ap (map (marked_at stamp)) so_far ∙ marked_once stamp (is_done start (places chains stamp) j (chain_in start kept.slot)) (chain_versions start chains (chain_in start kept.slot))
 
     chained_next : (chain : ℕ) → chain < length chains.heads → chain_versions next chains chain ≡ once_done stamp (is_done start (places chains stamp) (j + 1) chain) (chain_versions start chains chain)
@@ -195,7 +195,7 @@ module _ (start now : Cells) (chains heads : Heads) (stamp j : ℕ) (old index :
           ∙ ap (λ b. once_done stamp b (chain_versions start chains (chain_in start kept.slot))) (sym (done_this start (places chains stamp) j kept within is))
           ∙ ap (λ n. once_done stamp (is_done start (places chains stamp) (j + 1) n) (chain_versions start chains n)) (sym same)
       | inr other ↦
-          facts.2 chain known (λ same. other (same ∙ was.places_stay kept.slot)) ∙ was.chained chain known
+          facts.1 chain known (λ same. other (same ∙ was.places_stay kept.slot)) ∙ was.chained chain known
           ∙ ap (λ b. once_done stamp b (chain_versions start chains chain)) (sym (done_other start (places chains stamp) j kept within is chain other))
     ]
 
@@ -207,7 +207,7 @@ module _ (start now : Cells) (chains heads : Heads) (stamp j : ℕ) (old index :
         let owner = owner_of start chains chain stamp v.prepared items stands at.known at.found have in
         let i = owner.item.i in
         let key : v.prepared.key ≡ i.entry.key = key_at i.entry.key (chain_versions start chains chain) stamp v.prepared owner.own at.found in
-        let got = facts.5 i.entry.key (own_so_far i.entry.key owner.own) in
+        let got = facts.3 i.entry.key (own_so_far i.entry.key owner.own) in
         let u = got.0 in
         let lists = chain_lists start chains in
         let all = marked_together stamp items lists in
@@ -225,15 +225,10 @@ module _ (start now : Cells) (chains heads : Heads) (stamp j : ℕ) (old index :
     one_more = record {
       stands = stands_next;
       rest = rest_next;
-      share = λ s. facts.0 (was.share s);
-      listed = lists_same now next chains facts.1 was.listed;
-      swept = swept_same now next chains facts.1 was.swept;
-      stays = λ slot when. facts.1 slot when ∙ was.stays slot when;
-      others = record {
-        long = facts.4.long ∙ was.others.long;
-        cells = λ other slot different. facts.4.cells other slot different ∙ was.others.cells other slot different;
-      };
-      live = live ∙ was.live;
+      own = own_next start now next chains heads after was.own own;
+      listed = lists_same now next chains facts.0 was.listed;
+      swept = swept_same now next chains facts.0 was.swept;
+      stays = λ slot when. facts.0 slot when ∙ was.stays slot when;
       places_stay = λ slot. places_stay slot ∙ was.places_stay slot;
       chained = chained_next;
       within = omega arith;

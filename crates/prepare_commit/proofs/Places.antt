@@ -1,5 +1,5 @@
 -- For `BasePart`, `PartList`, `Held` and the copies of a cell. What lies at places of parts.
-use Rattle.std.proofs.Common.{◌≡◌, ℕ, zero, suc, ◌+◌, ◌<◌, List, [], ◌∷◌, ◌++◌, map, length, get_or, Option, Some, None, Result, Ok, Err, inl, inr, refl, sym, ap, ◌∙◌, arith}
+use Rattle.std.proofs.Common.{◌≡◌, ℕ, zero, suc, ◌<◌, List, [], ◌∷◌, ◌++◌, map, length, get_or, Option, Some, None, Result, Ok, Err, inl, inr, refl, sym, ap, ◌∙◌, arith}
 use Rattle.std.specs.Prelude.{slice_get, IfOk, OnOk}
 use Rattle.std.proofs.Math.ListN.{get_or-eq_default, get_or-append}
 use Rattle.std.proofs.Math.Seq.{get_or-append_seam}

@@ -1,5 +1,5 @@
 -- What a base has of each item, in parts that bases share, and which items are still as a part has them.
-use Rattle.std.specs.Prelude.{◌≡◌, ◌==◌, ℕ, Bool, false, All, List, [], ◌∷◌, Option, Some, None, length, map, count_by, slice_get, slice_index_or}
+use Rattle.std.specs.Prelude.{◌≡◌, ◌==◌, ℕ, Bool, false, All, List, [], ◌∷◌, Option, Some, None, map, count_by, slice_get, slice_index_or}
 use Rattle.version_chain.specs.declared.version.Version.{Version}
 use Rattle.prepare_commit.specs.declared.items.KnownItem.{KnownItem}
 use Rattle.prepare_commit.specs.declared.items.ChainedItem.{ChainedItem}

@@ -3,7 +3,8 @@ ghost use Rattle.std.specs.Prelude.{◌≡◌, ◌≢◌, ◌+◌, ◌≤◌, �
 ghost use Rattle.std.specs.Prelude.{◌<◌, ◌==◌, ◌&&◌, not, is_some, nat_le, length};
 ghost use Rattle.std.specs.Ordering.{nat_cmp};
 ghost use Rattle.stamps.specs.Stamp.{client_of};
-ghost use Rattle.version_chain.specs.Chain.{Cells, is_of_tenant, HoldsChains, HasShare, OthersKept, at_stamp};
+ghost use Rattle.version_chain.specs.Chain.{Cells, is_of_tenant, HasShare, OthersKept, at_stamp};
+ghost use Rattle.version_chain.specs.Changes.{HasChain};
 ghost use Rattle.version_arena.specs.Arena.{live_count};
 ghost use Rattle.version_chain.specs.Sharing.{ChangesOwn};
 ghost use Rattle.secondary_index.specs.Ordered.{IsInOrder};
@@ -11,7 +12,8 @@ ghost use Rattle.prepare_commit.specs.Marks.{mark_row, marks_of, mark_in};
 ghost use Rattle.prepare_commit.specs.InBlock.{content_in, begun_with, LiesIn};
 ghost use Rattle.prepare_commit.specs.Begun.{holdings};
 ghost use Rattle.prepare_commit.specs.HowMuch.{IsHeldIn};
-ghost use Rattle.prepare_commit.specs.Layout.{chain_lists, chain_at};
+ghost use Rattle.prepare_commit.specs.Calls.{versions_at, HoldsTheSame, IsAnswered, IsServed, LiesWithShare};
+ghost use Rattle.prepare_commit.specs.Layout.{chain_lists};
 ghost use Rattle.prepare_commit.specs.Content.{HasVersion, IsBelowFloor};
 ghost use Rattle.prepare_commit.specs.Serving.{Serves, StandsFor};
 ghost use Rattle.prepare_commit.specs.Bases.{base_of, Leaves, IsNew, NameEach};
@@ -133,10 +135,14 @@ impl Cell {
         clients: u32,
         tenant: u32,
     ) -> Result<Cell, AllocError>
-        ensures room { IfOk result (λ cell. cell.room ≡ record { slots = slots; items = items; clients = clients }) }
-        ensures chains { IfOk result (λ cell. (cell.chains.tenant ≡ tenant) × (cell.chains.share ≡ slots) × (cell.chains.used ≡ 0)) }
-        ensures lies { IfOk result (λ cell. (block : Cells) → count_by (is_of_tenant tenant) block ≡ 0 → LiesIn block cell) }
-        ensures empty { IfOk result (λ cell. (block : Cells) → StandsFor (content_in block cell) []) }
+        ensures room { IfOk result (λ cell. cell.room
+            ≡ record { slots = slots; items = items; clients = clients }) }
+        ensures chains { IfOk result (λ cell. (cell.chains.tenant ≡ tenant)
+            × (cell.chains.share ≡ slots) × (cell.chains.used ≡ 0)) }
+        ensures lies { IfOk result (λ cell. (block : Cells)
+            → count_by (is_of_tenant tenant) block ≡ 0 → LiesIn block cell) }
+        ensures empty { IfOk result (λ cell. (block : Cells)
+            → StandsFor (content_in block cell) []) }
     {
         let cell = Cell::with_room(alloc, slots, items, clients, tenant)?;
         Ok(cell)
@@ -151,7 +157,8 @@ impl Cell {
         tenant: u32,
     ) -> Result<Cell, AllocError>
         ensures tenant { IfOk result (λ cell. cell.chains.tenant ≡ tenant) }
-        ensures new { IfOk result (λ cell. IsNew (record { slots = slots; items = items; clients = clients }) cell) }
+        ensures new { IfOk result (λ cell. IsNew
+            (record { slots = slots; items = items; clients = clients }) cell) }
     {
         Ok(Cell {
             slots,
@@ -181,13 +188,17 @@ impl Cell {
         requires none { count_by (is_of_tenant tenant) block.old ≡ 0 }
         requires share { base.now.room.slots + live_count block.old ≤ length block.old }
         ensures room { IfOk result (λ cell. cell.room ≡ base.now.room) }
-        ensures chains { IfOk result (λ cell. (cell.chains.tenant ≡ tenant) × (cell.chains.share ≡ base.now.room.slots) × (cell.chains.used ≡ length base.now.versions)) }
+        ensures chains { IfOk result (λ cell. (cell.chains.tenant ≡ tenant)
+            × (cell.chains.share ≡ base.now.room.slots)
+            × (cell.chains.used ≡ length base.now.versions)) }
         ensures lies { IfOk result (λ cell. LiesIn block.new cell) }
         ensures share { IfOk result (λ cell. HasShare block.new cell.chains) }
         ensures others { OthersKept block.old block.new tenant }
-        ensures live { IfOk result (λ _. live_count block.new ≡ live_count block.old + length base.now.versions) }
+        ensures live { IfOk result (λ _.
+            live_count block.new ≡ live_count block.old + length base.now.versions) }
         ensures holds { IfOk result (λ cell. base_of block.new cell ≡ base.now) }
-        ensures stands { IfOk result (λ cell. (log : Log) → Leaves base.now log → StandsFor (content_in block.new cell) log) }
+        ensures stands { IfOk result (λ cell. (log : Log)
+            → Leaves base.now log → StandsFor (content_in block.new cell) log) }
         ensures refused { OnErr result (block.new ≡ block.old) }
     {
         let slots = base.slots;
@@ -216,7 +227,8 @@ impl Cell {
         ensures used { self.new.chains.used ≡ length base.now.versions }
         ensures lies { LiesIn block.new self.new }
         ensures holds { base_of block.new self.new ≡ base.now }
-        ensures stands { (log : Log) → Leaves base.now log → StandsFor (content_in block.new self.new) log }
+        ensures stands { (log : Log) → Leaves base.now log
+            → StandsFor (content_in block.new self.new) log }
     {
         fill::add_items(&mut self.entries, &base.held);
         fill::add_versions(block, &self.entries, &mut self.versions, versions, places);
@@ -240,16 +252,16 @@ impl Cell {
     ///
     /// It looks the item up by a binary search, and searches for the version's stamp in its chain. For an item with no entry
     /// it shifts the places of the entries behind the new one, here and in the index, and no entry.
-    #[tactic(auto, using(crate::proofs::Owning::own_none))]
     pub fn prepare(&mut self, block: &mut Block, version: &Record) -> PrepareReply
-        requires lies { LiesIn block.old self.old }
-        requires share { HasShare block.old self.old.chains }
-        ensures lies { LiesIn block.new self.new }
-        ensures own { ChangesOwn block.old block.new self.old.chains self.new.chains }
-        ensures serves { Serves (content_in block.old self.old) (content_in block.new self.new) (Call.Prepare version.now) (Reply.Prepare result) }
-        ensures refused { result ≢ PrepareReply.Prepared → (block.new ≡ block.old) × (content_in block.new self.new ≡ content_in block.old self.old) }
-        ensures repeated { HasVersion (content_in block.old self.old) version.now → (block.new ≡ block.old) × (content_in block.new self.new ≡ content_in block.old self.old) }
-        ensures late { IsBelowFloor (content_in block.old self.old) version.now → (block.new ≡ block.old) × (content_in block.new self.new ≡ content_in block.old self.old) }
+        requires { LiesWithShare block.old self.old }
+        ensures served { IsServed block.old self.old block.new self.new
+            (Call.Prepare version.now) (Reply.Prepare result) }
+        ensures refused { result ≢ PrepareReply.Prepared
+            → HoldsTheSame block.old self.old block.new self.new }
+        ensures repeated { HasVersion (content_in block.old self.old) version.now
+            → HoldsTheSame block.old self.old block.new self.new }
+        ensures late { IsBelowFloor (content_in block.old self.old) version.now
+            → HoldsTheSame block.old self.old block.new self.new }
     {
         let place = match items::search(&self.entries, &version.key) {
             Ok(place) => {
@@ -306,11 +318,11 @@ impl Cell {
     /// the item's chain to the latest committed version, and shifts the index where the tag is another one.
     pub fn commit(&mut self, block: &mut Block, stamp: Stamp) -> u32
         requires { LiesIn block.old self.old }
-        ensures lies { LiesIn block.new self.new }
-        ensures own { ChangesOwn block.old block.new self.old.chains self.new.chains }
-        ensures serves { Serves (content_in block.old self.old) (content_in block.new self.new) (Call.Commit stamp) (Reply.Committed result) }
+        ensures served { IsServed block.old self.old block.new self.new
+            (Call.Commit stamp) (Reply.Committed result) }
         ensures initial { stamp ≡ 0 → result ≡ 0 }
-        ensures nothing { result ≡ 0 → content_in block.new self.new ≡ content_in block.old self.old }
+        ensures nothing { result ≡ 0
+            → content_in block.new self.new ≡ content_in block.old self.old }
     {
         self.commit_counted(block, stamp, &mut Visits::new())
     }
@@ -320,11 +332,11 @@ impl Cell {
     pub fn commit_counted(&mut self, block: &mut Block, stamp: Stamp, visits: &mut Visits) -> u32
         requires lies { LiesIn block.old self.old }
         requires before { visits.old ≤ 2 ^ 61 }
-        ensures lies { LiesIn block.new self.new }
-        ensures own { ChangesOwn block.old block.new self.old.chains self.new.chains }
-        ensures serves { Serves (content_in block.old self.old) (content_in block.new self.new) (Call.Commit stamp) (Reply.Committed result) }
+        ensures served { IsServed block.old self.old block.new self.new
+            (Call.Commit stamp) (Reply.Committed result) }
         ensures initial { stamp ≡ 0 → result ≡ 0 }
-        ensures nothing { result ≡ 0 → content_in block.new self.new ≡ content_in block.old self.old }
+        ensures nothing { result ≡ 0
+            → content_in block.new self.new ≡ content_in block.old self.old }
         ensures visits { visits.new ≡ visits.old + result }
     {
         self.versions.commit(
@@ -353,11 +365,12 @@ impl Cell {
     #[inline(never)]
     pub fn discard(&mut self, block: &mut Block, stamp: Stamp) -> DiscardReply
         requires { LiesIn block.old self.old }
-        ensures lies { LiesIn block.new self.new }
-        ensures own { ChangesOwn block.old block.new self.old.chains self.new.chains }
-        ensures serves { Serves (content_in block.old self.old) (content_in block.new self.new) (Call.Discard stamp) (Reply.Discard result) }
-        ensures initial { stamp ≡ 0 → (result ≡ DiscardReply.Dropped 0) × (block.new ≡ block.old) × (self.new ≡ self.old) }
-        ensures refused { result ≡ DiscardReply.FullMarks → (block.new ≡ block.old) × (self.new ≡ self.old) }
+        ensures served { IsServed block.old self.old block.new self.new
+            (Call.Discard stamp) (Reply.Discard result) }
+        ensures initial { stamp ≡ 0
+            → (result ≡ DiscardReply.Dropped 0) × (block.new ≡ block.old) × (self.new ≡ self.old) }
+        ensures refused { result ≡ DiscardReply.FullMarks
+            → (block.new ≡ block.old) × (self.new ≡ self.old) }
     {
         self.discard_counted(block, stamp, &mut Visits::new())
     }
@@ -365,7 +378,6 @@ impl Cell {
     /// What `discard` does, and the versions that are looked at, the probes of a binary search excepted, are counted in
     /// `visits`: the kept versions of the stamp, where it is not `0.0` and the reply is not `FullMarks`. The search in a
     /// chain to take a version out of it is not counted. At most 2^61 were counted before.
-    #[tactic(auto, using(crate::proofs::Owning::own_none))]
     pub fn discard_counted(
         &mut self,
         block: &mut Block,
@@ -374,13 +386,16 @@ impl Cell {
     ) -> DiscardReply
         requires lies { LiesIn block.old self.old }
         requires before { visits.old ≤ 2 ^ 61 }
-        ensures lies { LiesIn block.new self.new }
-        ensures own { ChangesOwn block.old block.new self.old.chains self.new.chains }
-        ensures serves { Serves (content_in block.old self.old) (content_in block.new self.new) (Call.Discard stamp) (Reply.Discard result) }
-        ensures initial { stamp ≡ 0 → (result ≡ DiscardReply.Dropped 0) × (block.new ≡ block.old) × (self.new ≡ self.old) × (visits.new ≡ visits.old) }
-        ensures refused { result ≡ DiscardReply.FullMarks → (block.new ≡ block.old) × (self.new ≡ self.old) × (visits.new ≡ visits.old) }
+        ensures served { IsServed block.old self.old block.new self.new
+            (Call.Discard stamp) (Reply.Discard result) }
+        ensures initial { stamp ≡ 0
+            → (result ≡ DiscardReply.Dropped 0) × (block.new ≡ block.old) × (self.new ≡ self.old)
+            × (visits.new ≡ visits.old) }
+        ensures refused { result ≡ DiscardReply.FullMarks
+            → (block.new ≡ block.old) × (self.new ≡ self.old) × (visits.new ≡ visits.old) }
         ensures visits { stamp ≢ 0 → result ≢ DiscardReply.FullMarks
-            → visits.new ≡ visits.old + count_by (λ v. v.prepared.stamp == stamp) (content_in block.old self.old).versions }
+            → (let all = (content_in block.old self.old).versions in
+            visits.new ≡ visits.old + count_by (λ v. v.prepared.stamp == stamp) all) }
     {
         let most = self.clients;
         if stamp == Stamp::ZERO {
@@ -404,7 +419,8 @@ impl Cell {
     /// It looks the item up by a binary search, and searches for the stamp in its chain, or knows the latest.
     pub fn get<'b>(&self, block: &'b Block, key: &Key, stamp: Option<Stamp>) -> GetReply<'b>
         requires { LiesIn block.now self.now }
-        ensures { Serves (content_in block.now self.now) (content_in block.now self.now) (Call.Get key.now stamp) (Reply.Get (copied result)) }
+        ensures { IsAnswered block.now self.now (Call.Get key.now stamp)
+            (Reply.Get (copied result)) }
     {
         let Ok(place) = items::search(&self.entries, key) else {
             return match stamp {
@@ -437,7 +453,8 @@ impl Cell {
     ///
     /// It looks the tag up in the index, and visits neither versions nor entries.
     pub fn found(&self, tag: &Tag) -> Found
-        ensures { (block : Cells) → Serves (content_in block self.now) (content_in block self.now) (Call.Found tag.now) (Reply.Found result) }
+        ensures { (block : Cells)
+            → IsAnswered block self.now (Call.Found tag.now) (Reply.Found result) }
     {
         self.index.under(tag)
     }
@@ -451,9 +468,8 @@ impl Cell {
     /// goes over the list of the kept versions once.
     pub fn collect(&mut self, block: &mut Block, keep: Keep) -> u32
         requires { LiesIn block.old self.old }
-        ensures lies { LiesIn block.new self.new }
-        ensures own { ChangesOwn block.old block.new self.old.chains self.new.chains }
-        ensures serves { Serves (content_in block.old self.old) (content_in block.new self.new) (Call.Collect keep) (Reply.Freed result) }
+        ensures { IsServed block.old self.old block.new self.new
+            (Call.Collect keep) (Reply.Freed result) }
     {
         let last = self.last;
         let before = self.last;
@@ -477,7 +493,8 @@ impl Cell {
 
     /// How much it holds. It visits none of that.
     pub fn holdings(&self) -> Holdings
-        ensures { (block : Cells) → LiesIn block self.now → IsHeldIn (content_in block self.now) result }
+        ensures { (block : Cells) → LiesIn block self.now
+            → IsHeldIn (content_in block self.now) result }
     {
         // There are no more marks than these.
         let _most = self.clients;
@@ -493,7 +510,8 @@ impl Cell {
     /// some log. The one error is that an allocation failed.
     pub fn base(&self, block: &Block) -> Result<Base, AllocError>
         requires lies { LiesIn block.now self.now }
-        requires log { (log : Log) × IsSound self.now.room log × StandsFor (content_in block.now self.now) log }
+        requires log { (log : Log) × IsSound self.now.room log
+            × StandsFor (content_in block.now self.now) log }
         ensures { IfOk result (λ base. base ≡ base_of block.now self.now) }
     {
         let alloc = *self.marks.allocator();
@@ -512,7 +530,8 @@ impl Cell {
     /// Where the parts are many, or have much that no base wants any more, all is packed anew.
     pub fn cut(&mut self, block: &Block) -> Result<Base, AllocError>
         requires lies { LiesIn block.now self.old }
-        requires log { (log : Log) × IsSound self.old.room log × StandsFor (content_in block.now self.old) log }
+        requires log { (log : Log) × IsSound self.old.room log
+            × StandsFor (content_in block.now self.old) log }
         ensures base { IfOk result (λ base. base ≡ base_of block.now self.old) }
         ensures lies { LiesIn block.now self.new }
         ensures rest { self.new ≡ begun_with self.old self.new.begun self.new.since }
@@ -544,8 +563,11 @@ impl Cell {
     // Shares the parts of what is held, which is just what the items have. The one error is that an allocation failed; nothing
     // changes then.
     fn begin(&mut self, held: &Held) -> Result<(), AllocError>
-        requires { (block : Cells) × LiesIn block self.old × (held.now ≡ holdings self.old.items (chain_lists block self.old.chains)) }
-        ensures lies { (block : Cells) → LiesIn block self.old → held.now ≡ holdings self.old.items (chain_lists block self.old.chains) → LiesIn block self.new }
+        requires { (block : Cells) × LiesIn block self.old
+            × (held.now ≡ holdings self.old.items (chain_lists block self.old.chains)) }
+        ensures lies { (block : Cells) → LiesIn block self.old
+            → held.now ≡ holdings self.old.items (chain_lists block self.old.chains)
+            → LiesIn block self.new }
         ensures rest { self.new ≡ begun_with self.old self.new.begun self.new.since }
     {
         let alloc = *self.marks.allocator();
@@ -559,7 +581,8 @@ impl Cell {
     // What the items have. The one error is that an allocation failed.
     fn held(&self, alloc: Global, block: &Block) -> Result<Held, AllocError>
         requires { LiesIn block.now self.now }
-        ensures { IfOk result (λ held. held ≡ holdings self.now.items (chain_lists block.now self.now.chains)) }
+        ensures { let lists = chain_lists block.now self.now.chains in
+            IfOk result (λ held. held ≡ holdings self.now.items lists) }
     {
         held_items(alloc, block, &self.entries, &self.versions, &self.last_base)
     }
@@ -590,7 +613,8 @@ impl Cell {
     // Whether the items have just what is held. The one error is that an allocation failed.
     fn has(&self, block: &Block, held: &Held) -> Result<bool, AllocError>
         requires { LiesIn block.now self.now }
-        ensures { IfOk result (λ yes. IsTrue yes ↔ (holdings self.now.items (chain_lists block.now self.now.chains) ≡ held.now)) }
+        ensures { IfOk result (λ yes. IsTrue yes
+            ↔ (holdings self.now.items (chain_lists block.now self.now.chains) ≡ held.now)) }
     {
         let alloc = *self.marks.allocator();
         has_items(
@@ -619,11 +643,8 @@ impl Cell {
 
     /// Serves any of these calls by its own method, and answers its reply, with a copy of the record that `get` lends.
     pub fn apply(&mut self, block: &mut Block, call: &Call) -> Reply
-        requires lies { LiesIn block.old self.old }
-        requires share { HasShare block.old self.old.chains }
-        ensures lies { LiesIn block.new self.new }
-        ensures own { ChangesOwn block.old block.new self.old.chains self.new.chains }
-        ensures serves { Serves (content_in block.old self.old) (content_in block.new self.new) call.now result }
+        requires { LiesWithShare block.old self.old }
+        ensures { IsServed block.old self.old block.new self.new call.now result }
     {
         match call {
             Call::Prepare(version) => Reply::Prepare(self.prepare(block, version)),
@@ -639,18 +660,19 @@ impl Cell {
     #[cold]
     #[inline(never)]
     fn found_into(&self, tag: &Tag, reply: &mut Option<Reply>)
-        ensures { (block : Cells) → IsSomeAnd reply.new (λ told. Serves (content_in block self.now) (content_in block self.now) (Call.Found tag.now) told) }
+        ensures { (block : Cells)
+            → IsSomeAnd reply.new (λ told. IsAnswered block self.now (Call.Found tag.now) told) }
     {
         put_found(self.found(tag), reply);
     }
 
     /// Does what `apply` does, and puts the reply into the caller's buffer, over a reply of the same kind where it lies.
     pub fn apply_into(&mut self, block: &mut Block, call: &Call, reply: &mut Option<Reply>)
-        requires lies { LiesIn block.old self.old }
-        requires share { HasShare block.old self.old.chains }
+        requires { LiesWithShare block.old self.old }
         ensures lies { LiesIn block.new self.new }
         ensures own { ChangesOwn block.old block.new self.old.chains self.new.chains }
-        ensures serves { IsSomeAnd reply.new (λ told. Serves (content_in block.old self.old) (content_in block.new self.new) call.now told) }
+        ensures serves { IsSomeAnd reply.new (λ told.
+            Serves (content_in block.old self.old) (content_in block.new self.new) call.now told) }
     {
         match call {
             Call::Prepare(version) => put_prepared(self.prepare(block, version), reply),
@@ -669,9 +691,10 @@ const MOST_PARTS: usize = 64;
 // Whether a version of this stamp is refused in an item's chain, since it was discarded and is not kept.
 fn refuses(marks: &[Stamp], block: &Block, versions: &Versions, chain: u32, stamp: Stamp) -> bool
     requires order { IsInOrder nat_cmp mark_row marks.now }
-    requires known { chain < length (chain_lists block.now versions.now.chains) }
-    requires stands { HoldsChains block.now versions.now.chains }
-    ensures { result ≡ (nat_le stamp (mark_in (marks_of marks.now) (client_of stamp)) && not (is_some (at_stamp (chain_at (chain_lists block.now versions.now.chains) chain) stamp))) }
+    requires chain { HasChain block.now versions.now.chains chain }
+    ensures { let kept = at_stamp (versions_at block.now versions.now chain) stamp in
+        result ≡ (nat_le stamp (mark_in (marks_of marks.now) (client_of stamp))
+        && not (is_some kept)) }
 {
     marks::is_discarded(marks, stamp) && versions.find(block, chain, stamp).is_none()
 }

@@ -68,7 +68,8 @@ impl ChangedChains {
         requires { length self.old ≡ length others.now }
         ensures long { length self.new ≡ length self.old }
         ensures noted { (chain : ℕ) → slice_index_or self.new chain false ≡ false
-            → (slice_index_or self.old chain false ≡ false) × (slice_index_or others.now chain false ≡ false) }
+            → (slice_index_or self.old chain false ≡ false)
+            × (slice_index_or others.now chain false ≡ false) }
     {
         self.note_each(&others.numbers);
     }
@@ -77,7 +78,9 @@ impl ChangedChains {
     fn note_each(&mut self, numbers: &[u32])
         requires { All (λ n. n < length self.old) numbers.now }
         ensures long { length self.new ≡ length self.old }
-        ensures noted { (chain : ℕ) → slice_index_or self.new chain false ≡ (slice_index_or self.old chain false || list_any (λ n. n == chain) numbers.now) }
+        ensures noted { (chain : ℕ)
+            → slice_index_or self.new chain false
+            ≡ (slice_index_or self.old chain false || list_any (λ n. n == chain) numbers.now) }
     {
         for chain in numbers {
             self.note(*chain);
@@ -88,7 +91,8 @@ impl ChangedChains {
     pub(crate) fn note_all(&mut self, chains: u32)
         requires { length self.old ≡ chains }
         ensures long { length self.new ≡ length self.old }
-        ensures noted { (chain : ℕ) → chain < length self.old → slice_index_or self.new chain false ≡ true }
+        ensures noted { (chain : ℕ) → chain < length self.old
+            → slice_index_or self.new chain false ≡ true }
     {
         for chain in 0..chains {
             self.note(chain);
@@ -105,9 +109,11 @@ impl ChangedChains {
 
     /// Takes out a chain that is noted, if there is one.
     pub(crate) fn take(&mut self) -> Option<u32>
-        ensures noted { IfSome result (λ chain. (chain < length self.old) × (slice_index_or self.old chain false ≡ true)) }
+        ensures noted { IfSome result (λ chain. (chain < length self.old)
+            × (slice_index_or self.old chain false ≡ true)) }
         ensures taken { IfSome result (λ chain. self.new ≡ slice_set self.old chain false) }
-        ensures none { result ≡ None → (self.new ≡ self.old) × ((chain : ℕ) → slice_index_or self.old chain false ≡ false) }
+        ensures none { result ≡ None
+            → (self.new ≡ self.old) × ((chain : ℕ) → slice_index_or self.old chain false ≡ false) }
     {
         let chain = self.numbers.pop()?;
         self.flags[chain as usize] = false;

@@ -1,12 +1,10 @@
 //! What a collection does to the items.
-ghost use Rattle.std.specs.Prelude.{◌≡◌, ◌<◌, ◌≤◌, ◌^◌, ◌+◌, ℕ, false, List, All, Some, length, map, slice_set, slice_index_or};
-ghost use Rattle.version_chain.specs.declared.version.Version.{Version};
-ghost use Rattle.version_chain.specs.Chain.{HoldsChains};
-ghost use Rattle.version_chain.specs.Sharing.{ChangesOwn};
+ghost use Rattle.std.specs.Prelude.{◌≡◌, ◌<◌, ◌^◌, ℕ, false, Some, length, slice_set, slice_index_or};
+ghost use Rattle.version_chain.specs.Changes.{HasChain};
 ghost use Rattle.prepare_commit.specs.declared.items.ChainedItem.{ChainedItem};
-ghost use Rattle.prepare_commit.specs.InBlock.{AreIn};
-ghost use Rattle.prepare_commit.specs.Layout.{held_in, chain_lists, together, item_chains, raised_item, kept_chain, HaveAll, IsLaid};
-ghost use Rattle.prepare_commit.specs.Remembered.{AreSettled, Remembers, raised_where, kept_where};
+ghost use Rattle.prepare_commit.specs.Calls.{lists_of, GivesUpOf, HoldItems, IsCollected, IsCollectedAt};
+ghost use Rattle.prepare_commit.specs.Layout.{raised_item, kept_chain};
+ghost use Rattle.prepare_commit.specs.Remembered.{AreSettled, Remembers};
 
 use crate::changed::ChangedChains;
 use crate::items::{self, ChainedItem, KnownItem};
@@ -27,20 +25,13 @@ pub(crate) fn collect(
     last: Option<Keep>,
     keep: Keep,
 ) -> u32
-    requires lies { AreIn block.old versions.old.chains versions.old.is_swept }
-    requires have { HaveAll items.old.items (held_in block.old versions.old.chains) }
+    requires held { HoldItems block.old versions.old items.old.items }
     requires few { versions.old.chains.used < 2 ^ 32 }
-    requires long { length changed.old ≡ length (chain_lists block.old versions.old.chains) }
-    requires remembers { Remembers last changed.old items.old.items (chain_lists block.old versions.old.chains) }
-    ensures lies { AreIn block.new versions.new.chains versions.new.is_swept }
-    ensures own { ChangesOwn block.old block.new versions.old.chains versions.new.chains }
-    ensures laid { IsLaid items.new.items (chain_lists block.new versions.new.chains) }
-    ensures raised { items.new.items ≡ map (raised_item keep (chain_lists block.old versions.old.chains)) items.old.items }
-    ensures kept { item_chains items.new.items (chain_lists block.new versions.new.chains) ≡ map (kept_chain keep (chain_lists block.old versions.old.chains)) items.old.items }
-    ensures room { items.new.room ≡ items.old.room }
-    ensures fewer { versions.new.chains.used + result ≡ versions.old.chains.used }
-    ensures as_many { (versions.new.chains.share ≡ versions.old.chains.share) × (length (chain_lists block.new versions.new.chains) ≡ length (chain_lists block.old versions.old.chains)) }
-    ensures freed { result + length (together (item_chains items.new.items (chain_lists block.new versions.new.chains))) ≡ length (together (item_chains items.old.items (chain_lists block.old versions.old.chains))) }
+    requires long { length changed.old ≡ length (lists_of block.old versions.old) }
+    requires remembers { Remembers last changed.old items.old.items
+        (lists_of block.old versions.old) }
+    ensures collected { IsCollected keep result
+        block.old versions.old items.old block.new versions.new items.new }
     ensures long { length changed.new ≡ length changed.old }
 {
     let freed = cut(block, items, versions, changed, last, keep);
@@ -57,19 +48,13 @@ fn cut(
     last: Option<Keep>,
     keep: Keep,
 ) -> u32
-    requires lies { AreIn block.old versions.old.chains versions.old.is_swept }
-    requires have { HaveAll items.old.items (held_in block.old versions.old.chains) }
+    requires held { HoldItems block.old versions.old items.old.items }
     requires few { versions.old.chains.used < 2 ^ 32 }
-    requires long { length changed.old ≡ length (chain_lists block.old versions.old.chains) }
-    requires remembers { Remembers last changed.old items.old.items (chain_lists block.old versions.old.chains) }
-    ensures lies { AreIn block.new versions.new.chains versions.new.is_swept }
-    ensures own { ChangesOwn block.old block.new versions.old.chains versions.new.chains }
-    ensures have { HaveAll items.new.items (held_in block.new versions.new.chains) }
-    ensures raised { items.new.items ≡ map (raised_item keep (chain_lists block.old versions.old.chains)) items.old.items }
-    ensures kept { item_chains items.new.items (chain_lists block.new versions.new.chains) ≡ map (kept_chain keep (chain_lists block.old versions.old.chains)) items.old.items }
-    ensures room { items.new.room ≡ items.old.room }
-    ensures fewer { versions.new.chains.used + result ≡ versions.old.chains.used }
-    ensures as_many { (versions.new.chains.share ≡ versions.old.chains.share) × (length (chain_lists block.new versions.new.chains) ≡ length (chain_lists block.old versions.old.chains)) }
+    requires long { length changed.old ≡ length (lists_of block.old versions.old) }
+    requires remembers { Remembers last changed.old items.old.items
+        (lists_of block.old versions.old) }
+    ensures collected { IsCollected keep result
+        block.old versions.old items.old block.new versions.new items.new }
     ensures long { length changed.new ≡ length changed.old }
 {
     if last == Some(keep) {
@@ -86,17 +71,10 @@ fn cut_items(
     versions: &mut Versions,
     keep: Keep,
 ) -> u32
-    requires lies { AreIn block.old versions.old.chains versions.old.is_swept }
-    requires have { HaveAll items.old.items (held_in block.old versions.old.chains) }
+    requires held { HoldItems block.old versions.old items.old.items }
     requires few { versions.old.chains.used < 2 ^ 32 }
-    ensures lies { AreIn block.new versions.new.chains versions.new.is_swept }
-    ensures own { ChangesOwn block.old block.new versions.old.chains versions.new.chains }
-    ensures have { HaveAll items.new.items (held_in block.new versions.new.chains) }
-    ensures raised { items.new.items ≡ map (raised_item keep (chain_lists block.old versions.old.chains)) items.old.items }
-    ensures kept { item_chains items.new.items (chain_lists block.new versions.new.chains) ≡ map (kept_chain keep (chain_lists block.old versions.old.chains)) items.old.items }
-    ensures room { items.new.room ≡ items.old.room }
-    ensures fewer { versions.new.chains.used + result ≡ versions.old.chains.used }
-    ensures as_many { (versions.new.chains.share ≡ versions.old.chains.share) × (length (chain_lists block.new versions.new.chains) ≡ length (chain_lists block.old versions.old.chains)) }
+    ensures { IsCollected keep result
+        block.old versions.old items.old block.new versions.new items.new }
 {
     let mut freed = 0;
     for place in 0..items.len() {
@@ -113,19 +91,13 @@ fn cut_noted(
     changed: &mut ChangedChains,
     keep: Keep,
 ) -> u32
-    requires lies { AreIn block.old versions.old.chains versions.old.is_swept }
-    requires have { HaveAll items.old.items (held_in block.old versions.old.chains) }
+    requires held { HoldItems block.old versions.old items.old.items }
     requires few { versions.old.chains.used < 2 ^ 32 }
-    requires long { length changed.old ≡ length (chain_lists block.old versions.old.chains) }
-    requires settled { AreSettled keep changed.old items.old.items (chain_lists block.old versions.old.chains) }
-    ensures lies { AreIn block.new versions.new.chains versions.new.is_swept }
-    ensures own { ChangesOwn block.old block.new versions.old.chains versions.new.chains }
-    ensures have { HaveAll items.new.items (held_in block.new versions.new.chains) }
-    ensures raised { items.new.items ≡ map (raised_item keep (chain_lists block.old versions.old.chains)) items.old.items }
-    ensures kept { item_chains items.new.items (chain_lists block.new versions.new.chains) ≡ map (kept_chain keep (chain_lists block.old versions.old.chains)) items.old.items }
-    ensures room { items.new.room ≡ items.old.room }
-    ensures fewer { versions.new.chains.used + result ≡ versions.old.chains.used }
-    ensures as_many { (versions.new.chains.share ≡ versions.old.chains.share) × (length (chain_lists block.new versions.new.chains) ≡ length (chain_lists block.old versions.old.chains)) }
+    requires long { length changed.old ≡ length (lists_of block.old versions.old) }
+    requires settled { AreSettled keep changed.old items.old.items
+        (lists_of block.old versions.old) }
+    ensures collected { IsCollected keep result
+        block.old versions.old items.old block.new versions.new items.new }
     ensures long { length changed.new ≡ length changed.old }
 {
     let mut freed = 0;
@@ -144,17 +116,10 @@ fn cut_chain(
     chain: u32,
     keep: Keep,
 ) -> u32
-    requires lies { AreIn block.old versions.old.chains versions.old.is_swept }
-    requires have { HaveAll items.old.items (held_in block.old versions.old.chains) }
-    requires known { chain < length (chain_lists block.old versions.old.chains) }
-    ensures lies { AreIn block.new versions.new.chains versions.new.is_swept }
-    ensures own { ChangesOwn block.old block.new versions.old.chains versions.new.chains }
-    ensures have { HaveAll items.new.items (held_in block.new versions.new.chains) }
-    ensures raised { items.new.items ≡ map (raised_where chain keep (chain_lists block.old versions.old.chains)) items.old.items }
-    ensures kept { item_chains items.new.items (chain_lists block.new versions.new.chains) ≡ map (kept_where chain keep (chain_lists block.old versions.old.chains)) items.old.items }
-    ensures room { items.new.room ≡ items.old.room }
-    ensures fewer { versions.new.chains.used + result ≡ versions.old.chains.used }
-    ensures long { length (chain_lists block.new versions.new.chains) ≡ length (chain_lists block.old versions.old.chains) }
+    requires held { HoldItems block.old versions.old items.old.items }
+    requires known { chain < length (lists_of block.old versions.old) }
+    ensures { IsCollectedAt chain keep result
+        block.old versions.old items.old block.new versions.new items.new }
 {
     let Some(first) = versions.first(block, chain) else {
         return 0;
@@ -173,18 +138,16 @@ fn cut_item(
     place: usize,
     keep: Keep,
 ) -> u32
-    requires lies { AreIn block.old versions.old.chains versions.old.is_swept }
-    requires have { HaveAll items.old.items (held_in block.old versions.old.chains) }
+    requires held { HoldItems block.old versions.old items.old.items }
     requires within { place < length items.old.items }
-    ensures lies { AreIn block.new versions.new.chains versions.new.is_swept }
-    ensures own { ChangesOwn block.old block.new versions.old.chains versions.new.chains }
-    ensures have { HaveAll items.new.items (held_in block.new versions.new.chains) }
+    ensures left { GivesUpOf result
+        block.old versions.old items.old block.new versions.new items.new }
     ensures raised { (i : ChainedItem) → i ≡ slice_index_or items.old.items place i
-        → items.new.items ≡ slice_set items.old.items place (raised_item keep (chain_lists block.old versions.old.chains) i) }
+        → items.new.items ≡ slice_set items.old.items place
+        (raised_item keep (lists_of block.old versions.old) i) }
     ensures kept { (i : ChainedItem) → i ≡ slice_index_or items.old.items place i
-        → chain_lists block.new versions.new.chains ≡ slice_set (chain_lists block.old versions.old.chains) i.chain (kept_chain keep (chain_lists block.old versions.old.chains) i) }
-    ensures room { items.new.room ≡ items.old.room }
-    ensures fewer { versions.new.chains.used + result ≡ versions.old.chains.used }
+        → lists_of block.new versions.new ≡ slice_set (lists_of block.old versions.old) i.chain
+        (kept_chain keep (lists_of block.old versions.old) i) }
 {
     let item = raised_item(block, *items.get(place), versions, keep);
     let raised = item;
@@ -194,9 +157,8 @@ fn cut_item(
 
 /// An item with its floor raised.
 fn raised_item(block: &Block, item: ChainedItem, versions: &Versions, keep: Keep) -> ChainedItem
-    requires known { item.chain < length (chain_lists block.now versions.now.chains) }
-    requires stands { HoldsChains block.now versions.now.chains }
-    ensures { result ≡ raised_item keep (chain_lists block.now versions.now.chains) item }
+    requires { HasChain block.now versions.now.chains item.chain }
+    ensures { result ≡ raised_item keep (lists_of block.now versions.now) item }
 {
     let kept = versions.kth_committed(block, item.chain, keep);
     if kept <= item.entry.floor {
@@ -223,8 +185,10 @@ pub(crate) fn note_collected(
     requires as_long { length since.old ≡ length changed.now }
     requires chains { length since.old ≡ chains }
     ensures long { length since.new ≡ length since.old }
-    ensures noted { (chain : ℕ) → chain < length since.old → slice_index_or since.new chain false ≡ false
-        → (last ≡ Some keep) × (slice_index_or since.old chain false ≡ false) × (slice_index_or changed.now chain false ≡ false) }
+    ensures noted { (chain : ℕ) → chain < length since.old
+        → slice_index_or since.new chain false ≡ false
+        → (last ≡ Some keep) × (slice_index_or since.old chain false ≡ false)
+        × (slice_index_or changed.now chain false ≡ false) }
 {
     if Some(keep) == last {
         since.note_those(changed);

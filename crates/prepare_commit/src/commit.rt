@@ -1,14 +1,14 @@
 //! What a COMMIT does to the chains and to the index.
-ghost use Rattle.std.specs.Prelude.{◌≡◌, ◌+◌, ◌<◌, ◌≤◌, ◌^◌, ◌==◌, ℕ, true, List, length, map, filter, count_by, sum_by, slice_range, slice_set, IsTrue, All, Some};
+ghost use Rattle.std.specs.Prelude.{◌≡◌, ◌+◌, ◌<◌, ◌≤◌, ◌^◌, ◌==◌, ℕ, true, List, length, map, count_by, sum_by, slice_set, IsTrue, All, Some};
 ghost use Rattle.std.specs.FinMap.{contains_key, insert};
-ghost use Rattle.version_arena.specs.Arena.{live_count};
 ghost use Rattle.version_chain.specs.declared.version.Version.{Version};
-ghost use Rattle.version_chain.specs.Chain.{HoldsChains, HasShare, OthersKept, OtherChainsKept, chain_versions};
-ghost use Rattle.version_chain.specs.Listed.{is_named, chain_in, with_latest, Lists, IsSwept, NoneMove};
-ghost use Rattle.prepare_commit.specs.declared.items.ChainedItem.{ChainedItem};
-ghost use Rattle.prepare_commit.specs.Remembered.{AreNotedWhere};
-ghost use Rattle.prepare_commit.specs.Content.{marked_at, IsLatest, HasSameKeys, IsMoved};
-ghost use Rattle.prepare_commit.specs.Layout.{held_in, chain_lists, together, item_chains, IsVersionOf, HaveAll};
+ghost use Rattle.version_chain.specs.Chain.{HoldsChains, chain_versions};
+ghost use Rattle.version_chain.specs.Changes.{ChangesChain, IsRunOf, ListsExactly, MarksOnly};
+ghost use Rattle.version_chain.specs.Listed.{is_named, chain_in, with_latest};
+ghost use Rattle.version_chain.specs.Sharing.{ChangesOwn};
+ghost use Rattle.prepare_commit.specs.Calls.{KnowsHeld, MovesItems, NotesChanged};
+ghost use Rattle.prepare_commit.specs.Content.{marked_at, IsLatest, HasSameKeys};
+ghost use Rattle.prepare_commit.specs.Layout.{held_in, chain_lists, IsVersionOf};
 
 use crate::changed::ChangedChains;
 use secondary_index::TagIndex;
@@ -29,31 +29,24 @@ pub(crate) fn commit(
     visits: &mut Visits,
 ) -> u32
     requires stands { HoldsChains block.old chains.old }
-    requires ordered { first ≤ end }
-    requires within { end ≤ length chains.old.kept }
-    requires together { slice_range chains.old.kept first end ≡ filter (λ k. k.stamp == stamp) chains.old.kept }
-    requires listed { Lists block.old chains.old }
-    requires swept { IsSwept block.old chains.old }
+    requires list { ListsExactly block.old chains.old }
+    requires run { IsRunOf stamp chains.old.kept first end }
     requires few { chains.old.used < 2 ^ 32 }
     requires long { length changed.old ≡ length chains.old.heads }
     requires before { visits.old ≤ 2 ^ 61 }
-    requires known { (items : List ChainedItem) × HaveAll items (held_in block.old chains.old)
-        × All (λ (i : ChainedItem). IsTrue (contains_key index.old.tags i.entry.key)) items }
+    requires known { KnowsHeld index.old (held_in block.old chains.old) }
+    ensures own { ChangesOwn block.old block.new chains.old chains.new }
     ensures stands { HoldsChains block.new chains.new }
-    ensures share { HasShare block.old chains.old → HasShare block.new chains.new }
+    ensures list { ListsExactly block.new chains.new }
     ensures rest { chains.new ≡ with_latest chains.old chains.new.latest }
-    ensures others { OthersKept block.old block.new chains.old.tenant }
-    ensures live { live_count block.new ≡ live_count block.old }
-    ensures listed { Lists block.new chains.new }
-    ensures swept { IsSwept block.new chains.new }
-    ensures marked { chain_lists block.new chains.new ≡ map (map (marked_at stamp)) (chain_lists block.old chains.old) }
-    ensures count { result ≡ sum_by (count_by (λ v. v.prepared.stamp == stamp)) (chain_lists block.old chains.old) }
-    ensures room { index.new.room ≡ index.old.room }
-    ensures keys { HasSameKeys index.old.tags index.new.tags }
-    ensures moved { (items : List ChainedItem) → HaveAll items (held_in block.old chains.old)
-        → (let all = together (item_chains items (chain_lists block.new chains.new)) in IsMoved stamp all all index.old.tags index.new.tags) }
-    ensures long { length changed.new ≡ length changed.old }
-    ensures noted { AreNotedWhere changed.old changed.new (chain_lists block.old chains.old) (chain_lists block.new chains.new) }
+    ensures marked { chain_lists block.new chains.new
+        ≡ map (map (marked_at stamp)) (chain_lists block.old chains.old) }
+    ensures count { let lists = chain_lists block.old chains.old in
+        result ≡ sum_by (count_by (λ v. v.prepared.stamp == stamp)) lists }
+    ensures moved { MovesItems stamp (held_in block.old chains.old)
+        (chain_lists block.new chains.new) index.old index.new }
+    ensures noted { NotesChanged changed.old changed.new
+        (chain_lists block.old chains.old) (chain_lists block.new chains.new) }
     ensures visits { visits.new ≡ visits.old + result }
 {
     let mut count = 0;
@@ -77,24 +70,23 @@ fn commit_version(
     requires stands { HoldsChains block.old chains.old }
     requires long { length changed.old ≡ length chains.old.heads }
     requires named { is_named chains.old.tenant block.old kept ≡ true }
-    requires known { (key : List ℕ) × All (IsVersionOf key) (chain_versions block.old chains.old (chain_in block.old kept.slot))
+    requires known { let chain = chain_in block.old kept.slot in
+        (key : List ℕ) × All (IsVersionOf key) (chain_versions block.old chains.old chain)
         × IsTrue (contains_key index.old.tags key) }
     ensures known { chain_in block.old kept.slot < length chains.old.heads }
     ensures noted { changed.new ≡ slice_set changed.old (chain_in block.old kept.slot) true }
-    ensures stands { HoldsChains block.new chains.new }
-    ensures share { HasShare block.old chains.old → HasShare block.new chains.new }
-    ensures rest { chains.new ≡ with_latest chains.old chains.new.latest }
-    ensures stays { NoneMove block.old block.new chains.old.tenant }
-    ensures others { OthersKept block.old block.new chains.old.tenant }
-    ensures live { live_count block.new ≡ live_count block.old }
+    ensures changed { ChangesChain block.old chains.old block.new chains.new
+        (chain_in block.old kept.slot) }
+    ensures only { MarksOnly block.old chains.old block.new chains.new }
     ensures places { (slot : ℕ) → chain_in block.new slot ≡ chain_in block.old slot }
-    ensures chains { OtherChainsKept block.old chains.old block.new chains.new (chain_in block.old kept.slot) }
     ensures marked { let chain = chain_in block.old kept.slot in
-        chain_versions block.new chains.new chain ≡ map (marked_at kept.stamp) (chain_versions block.old chains.old chain) }
+        chain_versions block.new chains.new chain
+        ≡ map (marked_at kept.stamp) (chain_versions block.old chains.old chain) }
     ensures room { index.new.room ≡ index.old.room }
     ensures keys { HasSameKeys index.old.tags index.new.tags }
     ensures moved { let chain = chain_in block.old kept.slot in
-        (key : List ℕ) → All (IsVersionOf key) (chain_versions block.old chains.old chain) → (latest : Version)
+        (key : List ℕ) → All (IsVersionOf key) (chain_versions block.old chains.old chain)
+        → (latest : Version)
         × IsLatest key (chain_versions block.new chains.new chain) (Some latest)
         × (index.new.tags ≡ insert index.old.tags key latest.prepared.tag) }
 {

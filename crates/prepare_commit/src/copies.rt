@@ -1,12 +1,12 @@
 //! What a cell holds, as parts that a base shares, and whether a base holds the same.
-ghost use Rattle.std.specs.Prelude.{◌≡◌, ◌↔◌, ◌<◌, ◌≤◌, ◌++◌, ◌∷◌, ℕ, [], false, Some, IfOk, OnOk, IsTrue, All, length, slice_index_or};
+ghost use Rattle.std.specs.Prelude.{◌≡◌, ◌↔◌, ◌<◌, ◌++◌, ◌∷◌, ℕ, [], false, Some, IfOk, OnOk, IsTrue, All, length, slice_index_or};
 ghost use Rattle.packed.specs.Cuts.{IsCut, pieces};
-ghost use Rattle.version_chain.specs.Chain.{HoldsChains};
+ghost use Rattle.version_chain.specs.Changes.{HasChain};
 ghost use Rattle.prepare_commit.specs.declared.items.ChainedItem.{ChainedItem};
-ghost use Rattle.prepare_commit.specs.Begun.{Holding, IsKeptSince, held_at, holding_of, holdings, no_place};
-ghost use Rattle.prepare_commit.specs.Layout.{chain_lists, chain_at, HaveOwnChains};
+ghost use Rattle.prepare_commit.specs.Begun.{Holding, held_at, holding_of, holdings, no_place};
+ghost use Rattle.prepare_commit.specs.Calls.{lists_of, versions_at, AreKeptSince};
+ghost use Rattle.prepare_commit.specs.Layout.{HaveOwnChains};
 ghost use Rattle.prepare_commit.specs.Remembered.{is_changed};
-ghost use Rattle.prepare_commit.specs.Spots.{begun_by};
 
 use crate::held::Held;
 use crate::items::ChainedItem;
@@ -26,12 +26,9 @@ pub(crate) fn held_items(
     versions: &Versions,
     last: &LastBase,
 ) -> Result<Held, AllocError>
-    requires stands { HoldsChains block.now versions.now.chains }
-    requires known { All (λ (i : ChainedItem). i.chain < length (chain_lists block.now versions.now.chains)) items.now.items }
-    requires spots { length last.now.spots.items ≡ length (chain_lists block.now versions.now.chains) }
-    requires long { length last.now.since ≡ length (chain_lists block.now versions.now.chains) }
-    requires kept { IsKeptSince (begun_by last.now) last.now.since items.now.items (chain_lists block.now versions.now.chains) }
-    ensures { IfOk result (λ held. held ≡ holdings items.now.items (chain_lists block.now versions.now.chains)) }
+    requires { AreKeptSince block.now versions.now items.now.items last.now }
+    ensures { IfOk result (λ held. held
+        ≡ holdings items.now.items (lists_of block.now versions.now)) }
 {
     let mut places = Vec::with_capacity(alloc, items.len())?;
     let mut entries = Vec::new(alloc);
@@ -64,11 +61,12 @@ fn put_chain(
     versions: &Versions,
     item: &ChainedItem,
 ) -> Result<(), AllocError>
-    requires stands { HoldsChains block.now versions.now.chains }
-    requires known { item.now.chain < length (chain_lists block.now versions.now.chains) }
+    requires chain { HasChain block.now versions.now.chains item.now.chain }
     requires cut { IsCut 0 ends.old.items (length found.old) }
     ensures cut { OnOk result (IsCut 0 ends.new.items (length found.new)) }
-    ensures chain { OnOk result (pieces found.new 0 ends.new.items ≡ pieces found.old 0 ends.old.items ++ chain_at (chain_lists block.now versions.now.chains) item.now.chain ∷ []) }
+    ensures chain { OnOk result (pieces found.new 0 ends.new.items
+        ≡ pieces found.old 0 ends.old.items
+        ++ versions_at block.now versions.now item.now.chain ∷ []) }
 {
     versions.pack_to(block, item.chain, found)?;
     ends.push(found.len())?;
@@ -86,7 +84,8 @@ pub(crate) fn set_spots(
     requires apart { HaveOwnChains items.now.items }
     ensures long { length spots.new.items ≡ length spots.old.items }
     ensures each { (nth : ℕ) → (d : ChainedItem) → nth < length items.now.items
-        → slice_index_or spots.new.items (slice_index_or items.now.items nth d).chain no_place ≡ slice_index_or places.now nth no_place }
+        → (let chain = (slice_index_or items.now.items nth d).chain in
+        slice_index_or spots.new.items chain no_place ≡ slice_index_or places.now nth no_place) }
 {
     for nth in 0..places.len() {
         let chain = items.get(nth).chain;
@@ -104,12 +103,9 @@ pub(crate) fn has_items(
     last: &LastBase,
     held: &Held,
 ) -> Result<bool, AllocError>
-    requires stands { HoldsChains block.now versions.now.chains }
-    requires known { All (λ (i : ChainedItem). i.chain < length (chain_lists block.now versions.now.chains)) items.now.items }
-    requires spots { length last.now.spots.items ≡ length (chain_lists block.now versions.now.chains) }
-    requires long { length last.now.since ≡ length (chain_lists block.now versions.now.chains) }
-    requires kept { IsKeptSince (begun_by last.now) last.now.since items.now.items (chain_lists block.now versions.now.chains) }
-    ensures { IfOk result (λ yes. IsTrue yes ↔ (holdings items.now.items (chain_lists block.now versions.now.chains) ≡ held.now)) }
+    requires { AreKeptSince block.now versions.now items.now.items last.now }
+    ensures { IfOk result (λ yes. IsTrue yes
+        ↔ (holdings items.now.items (lists_of block.now versions.now) ≡ held.now)) }
 {
     let (parts, places) = held.parts();
     if items.len() != places.len() {
@@ -134,7 +130,8 @@ fn is_known(last: &LastBase, item: &ChainedItem, place: EntryPosition, same: usi
     requires long { item.now.chain < length last.now.since }
     ensures part { IsTrue result → place.part < same }
     ensures free { IsTrue result → is_changed last.now.since item.now ≡ false }
-    ensures spot { IsTrue result → slice_index_or last.now.spots.items item.now.chain no_place ≡ place }
+    ensures spot { IsTrue result
+        → slice_index_or last.now.spots.items item.now.chain no_place ≡ place }
 {
     place.part < same
         && !last.since.has(item.chain)
@@ -157,11 +154,10 @@ fn has_item(
     parts: &PartList,
     place: EntryPosition,
 ) -> Result<bool, AllocError>
-    requires stands { HoldsChains block.now versions.now.chains }
-    requires known { item.now.chain < length (chain_lists block.now versions.now.chains) }
+    requires chain { HasChain block.now versions.now.chains item.now.chain }
     requires place { (h : Holding) × (held_at parts.now place ≡ Some h) }
     ensures { IfOk result (λ yes. (h : Holding) → held_at parts.now place ≡ Some h
-        → (IsTrue yes ↔ (holding_of (chain_lists block.now versions.now.chains) item.now ≡ h))) }
+        → (IsTrue yes ↔ (holding_of (lists_of block.now versions.now) item.now ≡ h))) }
 {
     if !is_entry(&item.entry, parts.entry(place)) {
         return Ok(false);

@@ -1,13 +1,13 @@
 //! What a base has, put into the parts of a cell that holds nothing.
 ghost use Rattle.std.specs.Prelude.{◌≡◌, ◌+◌, ◌<◌, ◌≤◌, ◌^◌, ℕ, List, [], ◌∷◌, All, Some, None, length, vec_capacity, IfOk};
 ghost use Rattle.std.specs.FinMap as map;
-ghost use Rattle.version_chain.specs.Chain.{HoldsChains, HasShare};
-ghost use Rattle.version_chain.specs.Sharing.{ChangesOwn};
+ghost use Rattle.version_chain.specs.Chain.{HoldsChains};
+ghost use Rattle.version_chain.specs.Changes.{HasChain};
 ghost use Rattle.prepare_commit.specs.Bases.{AreOrdered, IsBefore, AreNumbered, NameEach, IsTagOf, HasEntry};
 ghost use Rattle.prepare_commit.specs.Begun.{entries_in};
+ghost use Rattle.prepare_commit.specs.Calls.{lists_of, versions_at, ChangesVersions, HaveShare};
 ghost use Rattle.prepare_commit.specs.Content.{KnowsItems, version_at};
-ghost use Rattle.prepare_commit.specs.InBlock.{AreIn};
-ghost use Rattle.prepare_commit.specs.Layout.{chain_lists, chain_at, together, item_chains, entries_of, IsVersionOf, IsLaid};
+ghost use Rattle.prepare_commit.specs.Layout.{together, item_chains, entries_of, IsVersionOf, IsLaid};
 ghost use Rattle.prepare_commit.specs.Lists.{SameMembers};
 
 use crate::held::Held;
@@ -75,22 +75,21 @@ pub(crate) fn add_versions(
     versions: &VersionList,
     places: &[StampedPlace],
 )
-    requires lies { AreIn block.old held.old.chains held.old.is_swept }
-    requires share { HasShare block.old held.old.chains }
-    requires laid { IsLaid items.now.items (chain_lists block.old held.old.chains) }
-    requires within { length items.now.items ≤ length (chain_lists block.old held.old.chains) }
-    requires empty { together (item_chains items.now.items (chain_lists block.old held.old.chains)) ≡ [] }
+    requires share { HaveShare block.old held.old }
+    requires laid { IsLaid items.now.items (lists_of block.old held.old) }
+    requires within { length items.now.items ≤ length (lists_of block.old held.old) }
+    requires empty { together (item_chains items.now.items (lists_of block.old held.old)) ≡ [] }
     requires none { held.old.chains.used ≡ 0 }
     requires fits { length versions.now ≤ held.old.chains.share }
     requires ordered { AreOrdered IsBefore versions.now }
     requires each { NameEach places.now versions.now }
     requires known { All (λ v. HasEntry (entries_of items.now.items) v.prepared.key) versions.now }
-    ensures lies { AreIn block.new held.new.chains held.new.is_swept }
-    ensures own { ChangesOwn block.old block.new held.old.chains held.new.chains }
-    ensures laid { IsLaid items.now.items (chain_lists block.new held.new.chains) }
-    ensures members { SameMembers (together (item_chains items.now.items (chain_lists block.new held.new.chains))) versions.now }
+    ensures changed { ChangesVersions block.old held.old block.new held.new }
+    ensures laid { IsLaid items.now.items (lists_of block.new held.new) }
+    ensures members { SameMembers
+        (together (item_chains items.now.items (lists_of block.new held.new)))
+        versions.now }
     ensures used { held.new.chains.used ≡ length versions.now }
-    ensures as_many { length (chain_lists block.new held.new.chains) ≡ length (chain_lists block.old held.old.chains) }
 {
     for stamped in places {
         let place = stamped.place as usize;
@@ -105,20 +104,19 @@ fn add_version(
     held: &mut Versions,
     version: &Version,
 )
-    requires lies { AreIn block.old held.old.chains held.old.is_swept }
-    requires share { HasShare block.old held.old.chains }
-    requires laid { IsLaid items.now.items (chain_lists block.old held.old.chains) }
-    requires within { length items.now.items ≤ length (chain_lists block.old held.old.chains) }
+    requires share { HaveShare block.old held.old }
+    requires laid { IsLaid items.now.items (lists_of block.old held.old) }
+    requires within { length items.now.items ≤ length (lists_of block.old held.old) }
     requires room { held.old.chains.used < held.old.chains.share }
     requires known { HasEntry (entries_of items.now.items) version.now.prepared.key }
-    requires missing { version_at version.now.prepared.key version.now.prepared.stamp (together (item_chains items.now.items (chain_lists block.old held.old.chains))) ≡ None }
-    ensures lies { AreIn block.new held.new.chains held.new.is_swept }
-    ensures own { ChangesOwn block.old block.new held.old.chains held.new.chains }
-    ensures laid { IsLaid items.now.items (chain_lists block.new held.new.chains) }
-    ensures members { SameMembers (together (item_chains items.now.items (chain_lists block.new held.new.chains)))
-        (version.now ∷ together (item_chains items.now.items (chain_lists block.old held.old.chains))) }
+    requires missing { version_at version.now.prepared.key version.now.prepared.stamp
+        (together (item_chains items.now.items (lists_of block.old held.old))) ≡ None }
+    ensures changed { ChangesVersions block.old held.old block.new held.new }
+    ensures laid { IsLaid items.now.items (lists_of block.new held.new) }
+    ensures members { SameMembers
+        (together (item_chains items.now.items (lists_of block.new held.new)))
+        (version.now ∷ together (item_chains items.now.items (lists_of block.old held.old))) }
     ensures used { held.new.chains.used ≡ held.old.chains.used + 1 }
-    ensures as_many { length (chain_lists block.new held.new.chains) ≡ length (chain_lists block.old held.old.chains) }
 {
     let Ok(place) = items::search(items, &version.prepared.key) else {
         unreachable!()
@@ -134,14 +132,16 @@ pub(crate) fn index_latest(
     index: &mut TagIndex,
 )
     requires stands { HoldsChains block.now held.now.chains }
-    requires laid { IsLaid items.now.items (chain_lists block.now held.now.chains) }
-    requires within { length items.now.items ≤ length (chain_lists block.now held.now.chains) }
+    requires laid { IsLaid items.now.items (lists_of block.now held.now) }
+    requires within { length items.now.items ≤ length (lists_of block.now held.now) }
     requires room { length items.now.items ≤ index.old.room }
     requires empty { index.old.tags ≡ map.empty }
     ensures room { index.new.room ≡ index.old.room }
     ensures knows { KnowsItems index.new.tags (entries_of items.now.items) }
-    ensures right { (key : List ℕ) → (tag : List ℕ) → map.get index.new.tags key ≡ Some tag
-        → HasEntry (entries_of items.now.items) key × IsTagOf key (together (item_chains items.now.items (chain_lists block.now held.now.chains))) tag }
+    ensures right { let all = together
+        (item_chains items.now.items (lists_of block.now held.now)) in
+        (key : List ℕ) → (tag : List ℕ) → map.get index.new.tags key ≡ Some tag
+        → HasEntry (entries_of items.now.items) key × IsTagOf key all tag }
 {
     for place in 0..items.len() {
         let item = items.get(place);
@@ -155,10 +155,9 @@ pub(crate) fn index_latest(
 
 /// The tag of the latest committed version of a chain, empty where none is committed.
 fn latest_tag(block: &Block, held: &Versions, chain: u32) -> Tag
-    requires known { chain < length (chain_lists block.now held.now.chains) }
-    requires stands { HoldsChains block.now held.now.chains }
-    ensures { (key : List ℕ) → All (IsVersionOf key) (chain_at (chain_lists block.now held.now.chains) chain)
-        → IsTagOf key (chain_at (chain_lists block.now held.now.chains) chain) result }
+    requires { HasChain block.now held.now.chains chain }
+    ensures { (key : List ℕ) → All (IsVersionOf key) (versions_at block.now held.now chain)
+        → IsTagOf key (versions_at block.now held.now chain) result }
 {
     match held.latest(block, chain) {
         Some(latest) => latest.tag,

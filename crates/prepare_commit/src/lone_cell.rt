@@ -45,7 +45,8 @@ impl LoneCell {
     /// clients, and a block of `slots` cells. All memory is taken here; it takes time for each item, and touches no slot.
     /// The one error is that the allocation failed, as it is where there are more than `Block::MOST_CELLS` slots.
     pub fn open(alloc: Global, slots: u32, items: u32, clients: u32) -> Result<LoneCell, AllocError>
-        ensures room { IfOk result (λ cell. cell.room ≡ record { slots = slots; items = items; clients = clients }) }
+        ensures room { IfOk result (λ cell. cell.room
+            ≡ record { slots = slots; items = items; clients = clients }) }
         ensures empty { IfOk result (λ cell. StandsFor cell []) }
     {
         if slots > Block::MOST_CELLS {
@@ -71,7 +72,8 @@ impl LoneCell {
         requires { visits.old ≤ 2 ^ 61 }
         ensures serves { Serves self.old self.new (Call.Discard stamp) (Reply.Discard result) }
         ensures visits { stamp ≢ 0 → result ≢ DiscardReply.FullMarks
-            → visits.new ≡ visits.old + count_by (λ v. v.prepared.stamp == stamp) self.old.versions }
+            → visits.new
+            ≡ visits.old + count_by (λ v. v.prepared.stamp == stamp) self.old.versions }
     {
         self.cell.discard_counted(&mut self.block, stamp, visits)
     }

@@ -47,8 +47,11 @@ pub(crate) fn raise(marks: &mut Vec<Stamp>, clients: u32, stamp: Stamp) -> bool
     ensures order { IsInOrder nat_cmp mark_row marks.new.items }
     ensures room { clients ≤ vec_capacity marks.new }
     ensures few { vec_len marks.new ≤ clients }
-    ensures full { result ≡ not (not (is_some (map.get (marks_of marks.old.items) (client_of stamp))) && nat_le clients (map.len (marks_of marks.old.items))) }
-    ensures raised { IsTrue result → marks_of marks.new.items ≡ raised_mark (marks_of marks.old.items) stamp }
+    ensures full { result
+        ≡ not (not (is_some (map.get (marks_of marks.old.items) (client_of stamp)))
+        && nat_le clients (map.len (marks_of marks.old.items))) }
+    ensures raised { IsTrue result
+        → marks_of marks.new.items ≡ raised_mark (marks_of marks.old.items) stamp }
     ensures refused { result ≡ false → marks.new ≡ marks.old }
 {
     match search(marks, stamp.client()) {

@@ -61,7 +61,8 @@ impl BasePart {
     /// Puts the versions of an entry at the end of a list. The one error is that an allocation failed.
     fn put_to(&self, at: usize, list: &mut VersionList) -> Result<(), AllocError>
         requires { at < length self.now }
-        ensures { OnOk result ((h : Holding) → slice_get self.now at ≡ Some h → list.new ≡ list.old ++ h.versions) }
+        ensures { OnOk result ((h : Holding) → slice_get self.now at ≡ Some h
+            → list.new ≡ list.old ++ h.versions) }
     {
         self.chains.put_to(at, list)
     }
@@ -69,7 +70,8 @@ impl BasePart {
     /// Whether the versions of an entry are those of a list.
     fn is_list(&self, at: usize, list: &VersionList) -> bool
         requires { at < length self.now }
-        ensures { (h : Holding) → slice_get self.now at ≡ Some h → (IsTrue result ↔ (h.versions ≡ list.now)) }
+        ensures { (h : Holding) → slice_get self.now at ≡ Some h
+            → (IsTrue result ↔ (h.versions ≡ list.now)) }
     {
         self.chains.is_list(at, list)
     }
@@ -78,7 +80,8 @@ impl BasePart {
     fn is_chain(&self, at: usize, other: &BasePart, place: usize) -> bool
         requires own { at < length self.now }
         requires others { place < length other.now }
-        ensures { (h : Holding) → (k : Holding) → slice_get self.now at ≡ Some h → slice_get other.now place ≡ Some k
+        ensures { (h : Holding) → (k : Holding) → slice_get self.now at ≡ Some h
+            → slice_get other.now place ≡ Some k
             → (IsTrue result ↔ (h.versions ≡ k.versions)) }
     {
         self.chains.is_chain(at, &other.chains, place)
@@ -172,7 +175,8 @@ impl PartList {
         list: &mut VersionList,
     ) -> Result<(), AllocError>
         requires { (h : Holding) × (held_at self.now place ≡ Some h) }
-        ensures { OnOk result ((h : Holding) → held_at self.now place ≡ Some h → list.new ≡ list.old ++ h.versions) }
+        ensures { OnOk result ((h : Holding) → held_at self.now place ≡ Some h
+            → list.new ≡ list.old ++ h.versions) }
     {
         self.part(place.part).put_to(place.at, list)
     }
@@ -180,7 +184,8 @@ impl PartList {
     /// Whether the versions at a place are those of a list.
     pub(crate) fn is_list(&self, place: EntryPosition, list: &VersionList) -> bool
         requires { (h : Holding) × (held_at self.now place ≡ Some h) }
-        ensures { (h : Holding) → held_at self.now place ≡ Some h → (IsTrue result ↔ (h.versions ≡ list.now)) }
+        ensures { (h : Holding) → held_at self.now place ≡ Some h
+            → (IsTrue result ↔ (h.versions ≡ list.now)) }
     {
         self.part(place.part).is_list(place.at, list)
     }
@@ -194,7 +199,8 @@ impl PartList {
     ) -> bool
         requires own { (h : Holding) × (held_at self.now place ≡ Some h) }
         requires others { (h : Holding) × (held_at other.now theirs ≡ Some h) }
-        ensures { (h : Holding) → (k : Holding) → held_at self.now place ≡ Some h → held_at other.now theirs ≡ Some k
+        ensures { (h : Holding) → (k : Holding) → held_at self.now place ≡ Some h
+            → held_at other.now theirs ≡ Some k
             → (IsTrue result ↔ (h ≡ k)) }
     {
         is_entry(self.entry(place), other.entry(theirs))
@@ -205,7 +211,8 @@ impl PartList {
 
     /// How many parts at the front are found to be the same in another list. It compares their bytes.
     pub(crate) fn same(&self, other: &PartList) -> usize
-        ensures { (part : ℕ) → part < result → slice_index_or self.now part [] ≡ slice_index_or other.now part [] }
+        ensures { (part : ℕ) → part < result
+            → slice_index_or self.now part [] ≡ slice_index_or other.now part [] }
     {
         let most = self.len().min(other.len());
         for nth in 0..most {

@@ -79,8 +79,10 @@ impl Replica {
     /// it lies: it is the one after each log that leaves what is held, and this log with the call leaves what is held then.
     pub fn serve(&mut self, call: &Call, reply: &mut Option<Reply>)
         ensures room { self.new.room ≡ self.old.room }
-        ensures reply { IsSomeAnd reply.new (λ told. (log : Log) → Leaves self.old log → told ≡ reply_after self.old.room log call.now) }
-        ensures left { IsSomeAnd reply.new (λ told. (log : Log) → Leaves self.old log → Leaves self.new (record { call = call.now; reply = told } ∷ log)) }
+        ensures reply { IsSomeAnd reply.new (λ told. (log : Log) → Leaves self.old log
+            → told ≡ reply_after self.old.room log call.now) }
+        ensures left { IsSomeAnd reply.new (λ told. (log : Log) → Leaves self.old log
+            → Leaves self.new (record { call = call.now; reply = told } ∷ log)) }
     {
         self.cell.apply_into(&mut self.block, call, reply);
     }

@@ -1,16 +1,16 @@
 //! The versions of a cell, in the chains of its items.
-ghost use Rattle.std.specs.Prelude.{◌≡◌, ◌≢◌, ◌+◌, ◌-◌, ◌<◌, ◌≤◌, ◌==◌, ◌^◌, ℕ, List, [], ◌++◌, All, replicate, length, None, map, filter, slice_range, count_by, nat_le, IsTrue, if◌then◌else◌, option_copied, IfOk};
-ghost use Rattle.std.specs.FinMap.{contains_key};
+ghost use Rattle.std.specs.Prelude.{◌≡◌, ◌≢◌, ◌+◌, ◌<◌, ◌≤◌, ◌==◌, ◌^◌, ℕ, List, ◌++◌, All, length, None, map, filter, count_by, nat_le, slice_set, IsTrue, option_copied, true, IfOk};
 ghost use Rattle.prepare_commit.specs.declared.items.ChainedItem.{ChainedItem};
-ghost use Rattle.version_chain.specs.Chain.{Cells, is_of_tenant, HoldsChains, HasShare, at_stamp, first_record, without_open, Falls};
+ghost use Rattle.version_chain.specs.Chain.{HoldsChains, at_stamp, first_record, without_open};
+ghost use Rattle.version_chain.specs.Changes.{HasChain, IsRunOf, ListsExactly};
+ghost use Rattle.version_chain.specs.Heads.{no_versions};
 ghost use Rattle.version_chain.specs.Listed.{with_kept, Lists, IsSwept};
-ghost use Rattle.version_chain.specs.Sharing.{ChangesOwn};
 ghost use Rattle.plain_store.specs.Stamps.{kth_greatest};
-ghost use Rattle.prepare_commit.specs.Content.{marked_at, IsLatest, HasSameKeys, IsMoved};
+ghost use Rattle.prepare_commit.specs.Calls.{lists_of, versions_at, ChangesVersions, HasAt, HaveShare, KnowsHeld, MovesItems, NotesChanged};
+ghost use Rattle.prepare_commit.specs.Content.{marked_at, IsLatest};
 ghost use Rattle.prepare_commit.specs.InBlock.{AreIn};
-ghost use Rattle.prepare_commit.specs.Remembered.{AreNotedWhere};
 ghost use Rattle.prepare_commit.specs.Begun.{IsNotedAt};
-ghost use Rattle.prepare_commit.specs.Layout.{held_in, chain_lists, chain_at, with_chain, together, item_chains, committed_of, committed_version, IsVersionOf, InsertGives, IsPutIn, HaveAll};
+ghost use Rattle.prepare_commit.specs.Layout.{held_in, chain_lists, together, item_chains, committed_of, committed_version, IsVersionOf, InsertGives, IsPutIn, HaveAll};
 
 use crate::changed::ChangedChains;
 use crate::commit::commit;
@@ -40,9 +40,8 @@ impl Versions {
         chains: u32,
         tenant: u32,
     ) -> Result<Versions, AllocError>
-        ensures shape { IfOk result (λ v. (v.chains.tenant ≡ tenant) × (v.chains.share ≡ slots) × (v.chains.used ≡ 0)) }
-        ensures lies { IfOk result (λ v. (block : Cells) → count_by (is_of_tenant tenant) block ≡ 0 → AreIn block v.chains v.is_swept) }
-        ensures empty { IfOk result (λ v. (block : Cells) → held_in block v.chains ≡ record { share = slots; used = 0; chains = replicate chains [] }) }
+        ensures { let none = no_versions tenant slots chains in
+            IfOk result (λ v. v ≡ record { chains = none; is_swept = true }) }
     {
         Ok(Versions {
             chains: Chains::open(alloc, slots, chains, tenant)?,
@@ -52,28 +51,26 @@ impl Versions {
 
     /// The record of this stamp in a chain. It visits what a search for the stamp does.
     pub(crate) fn find<'b>(&self, block: &'b Block, chain: u32, stamp: Stamp) -> Option<&'b Record>
-        requires known { chain < length (chain_lists block.now self.now.chains) }
-        requires stands { HoldsChains block.now self.now.chains }
-        ensures { option_copied result ≡ at_stamp (chain_at (chain_lists block.now self.now.chains) chain) stamp }
+        requires { HasChain block.now self.now.chains chain }
+        ensures { option_copied result ≡ at_stamp (versions_at block.now self.now chain) stamp }
     {
         self.chains.find(block, chain, stamp)
     }
 
     /// The latest committed record of a chain. It visits this one alone.
     pub(crate) fn latest<'b>(&self, block: &'b Block, chain: u32) -> Option<&'b Record>
-        requires known { chain < length (chain_lists block.now self.now.chains) }
-        requires stands { HoldsChains block.now self.now.chains }
-        ensures { (key : List ℕ) → All (IsVersionOf key) (chain_at (chain_lists block.now self.now.chains) chain)
-            → IsLatest key (chain_at (chain_lists block.now self.now.chains) chain) (committed_version (option_copied result)) }
+        requires { HasChain block.now self.now.chains chain }
+        ensures { (key : List ℕ) → All (IsVersionOf key) (versions_at block.now self.now chain)
+            → IsLatest key (versions_at block.now self.now chain)
+            (committed_version (option_copied result)) }
     {
         self.chains.latest(block, chain)
     }
 
     /// The record of the greatest stamp in a chain, if it has any.
     pub(crate) fn first<'b>(&self, block: &'b Block, chain: u32) -> Option<&'b Record>
-        requires known { chain < length (chain_lists block.now self.now.chains) }
-        requires stands { HoldsChains block.now self.now.chains }
-        ensures { option_copied result ≡ first_record (chain_at (chain_lists block.now self.now.chains) chain) }
+        requires { HasChain block.now self.now.chains chain }
+        ensures { option_copied result ≡ first_record (versions_at block.now self.now chain) }
     {
         self.chains.first(block, chain)
     }
@@ -86,10 +83,8 @@ impl Versions {
         chain: u32,
         list: &mut VersionList,
     ) -> Result<(), AllocError>
-        requires known { chain < length (chain_lists block.now self.now.chains) }
-        requires stands { HoldsChains block.now self.now.chains }
-        ensures packed { IfOk result (λ _. list.new ≡ list.old ++ chain_at (chain_lists block.now self.now.chains) chain) }
-        ensures falls { Falls (chain_at (chain_lists block.now self.now.chains) chain) }
+        requires { HasChain block.now self.now.chains chain }
+        ensures { IfOk result (λ _. list.new ≡ list.old ++ versions_at block.now self.now chain) }
     {
         self.chains.pack_to(block, chain, list)
     }
@@ -97,12 +92,11 @@ impl Versions {
     /// Puts a record into a chain, not committed as yet. It visits what a search for the record's stamp does, and shifts
     /// the listed versions of greater stamps. Where no sweep followed a cut, it sweeps first.
     pub(crate) fn insert(&mut self, block: &mut Block, chain: u32, version: &Record) -> Insert
-        requires known { chain < length (chain_lists block.old self.old.chains) }
-        requires lies { AreIn block.old self.old.chains self.old.is_swept }
-        requires share { HasShare block.old self.old.chains }
-        ensures gives { InsertGives result (held_in block.old self.old.chains) (held_in block.new self.new.chains) chain version.now }
-        ensures lies { AreIn block.new self.new.chains self.new.is_swept }
-        ensures own { ChangesOwn block.old block.new self.old.chains self.new.chains }
+        requires known { chain < length (lists_of block.old self.old) }
+        requires share { HaveShare block.old self.old }
+        ensures gives { InsertGives result (held_in block.old self.old.chains)
+            (held_in block.new self.new.chains) chain version.now }
+        ensures changed { ChangesVersions block.old self.old block.new self.new }
         ensures not_added { result ≢ Insert.Added → block.new ≡ block.old }
     {
         sweep_unless(self.is_swept, block, &mut self.chains);
@@ -113,15 +107,15 @@ impl Versions {
     /// Puts a version with its mark into a chain, which has none of its stamp, while a slot is free. It visits what a
     /// search for the version's stamp does. Where no sweep followed a cut, it sweeps first.
     pub(crate) fn put(&mut self, block: &mut Block, chain: u32, version: &Version)
-        requires known { chain < length (chain_lists block.old self.old.chains) }
-        requires lies { AreIn block.old self.old.chains self.old.is_swept }
-        requires share { HasShare block.old self.old.chains }
+        requires known { chain < length (lists_of block.old self.old) }
+        requires share { HaveShare block.old self.old }
         requires room { self.old.chains.used < self.old.chains.share }
-        requires missing { at_stamp (chain_at (chain_lists block.old self.old.chains) chain) version.now.prepared.stamp ≡ None }
-        ensures put { IsPutIn (chain_lists block.old self.old.chains) (chain_lists block.new self.new.chains) chain version.now }
+        requires missing { at_stamp (versions_at block.old self.old chain)
+            version.now.prepared.stamp ≡ None }
+        ensures put { IsPutIn (lists_of block.old self.old) (lists_of block.new self.new) chain
+            version.now }
         ensures used { self.new.chains.used ≡ self.old.chains.used + 1 }
-        ensures lies { AreIn block.new self.new.chains self.new.is_swept }
-        ensures own { ChangesOwn block.old block.new self.old.chains self.new.chains }
+        ensures changed { ChangesVersions block.old self.old block.new self.new }
     {
         sweep_unless(self.is_swept, block, &mut self.chains);
         self.is_swept = true;
@@ -142,24 +136,24 @@ impl Versions {
         visits: &mut Visits,
     ) -> u32
         requires lies { AreIn block.old self.old.chains self.old.is_swept }
-        requires long { length changed.old ≡ length (chain_lists block.old self.old.chains) }
-        requires as_long { length since.old ≡ length (chain_lists block.old self.old.chains) }
+        requires long { length changed.old ≡ length (lists_of block.old self.old) }
+        requires as_long { length since.old ≡ length (lists_of block.old self.old) }
         requires few { self.old.chains.used < 2 ^ 32 }
         requires before { visits.old ≤ 2 ^ 61 }
-        requires known { (items : List ChainedItem) × HaveAll items (held_in block.old self.old.chains)
-            × All (λ (i : ChainedItem). IsTrue (contains_key index.old.tags i.entry.key)) items }
-        ensures lies { AreIn block.new self.new.chains self.new.is_swept }
-        ensures own { ChangesOwn block.old block.new self.old.chains self.new.chains }
-        ensures marked { held_in block.new self.new.chains ≡ record { share = self.old.chains.share; used = self.old.chains.used; chains = map (map (marked_at stamp)) (chain_lists block.old self.old.chains) } }
-        ensures count { (items : List ChainedItem) → HaveAll items (held_in block.old self.old.chains) → result ≡ count_by (λ v. v.prepared.stamp == stamp) (together (item_chains items (chain_lists block.old self.old.chains))) }
-        ensures room { index.new.room ≡ index.old.room }
-        ensures keys { HasSameKeys index.old.tags index.new.tags }
-        ensures moved { (items : List ChainedItem) → HaveAll items (held_in block.old self.old.chains)
-            → (let all = together (item_chains items (chain_lists block.new self.new.chains)) in IsMoved stamp all all index.old.tags index.new.tags) }
-        ensures long { length changed.new ≡ length changed.old }
-        ensures noted { AreNotedWhere changed.old changed.new (chain_lists block.old self.old.chains) (chain_lists block.new self.new.chains) }
-        ensures as_long { length since.new ≡ length since.old }
-        ensures since { AreNotedWhere since.old since.new (chain_lists block.old self.old.chains) (chain_lists block.new self.new.chains) }
+        requires known { KnowsHeld index.old (held_in block.old self.old.chains) }
+        ensures changed { ChangesVersions block.old self.old block.new self.new }
+        ensures marked { held_in block.new self.new.chains ≡ record {
+          share = self.old.chains.share;
+          used = self.old.chains.used;
+          chains = map (map (marked_at stamp)) (lists_of block.old self.old);
+        } }
+        ensures count { HasAt stamp (held_in block.old self.old.chains) result }
+        ensures moved { MovesItems stamp (held_in block.old self.old.chains)
+            (lists_of block.new self.new) index.old index.new }
+        ensures noted { NotesChanged changed.old changed.new
+            (lists_of block.old self.old) (lists_of block.new self.new) }
+        ensures since { NotesChanged since.old since.new
+            (lists_of block.old self.old) (lists_of block.new self.new) }
         ensures visits { visits.new ≡ visits.old + result }
     {
         sweep_unless(self.is_swept, block, &mut self.chains);
@@ -181,9 +175,8 @@ impl Versions {
     /// The `keep`-th greatest committed stamp of a chain, `0.0` where there are fewer. It visits the versions down to
     /// that one.
     pub(crate) fn kth_committed(&self, block: &Block, chain: u32, keep: Keep) -> Stamp
-        requires known { chain < length (chain_lists block.now self.now.chains) }
-        requires stands { HoldsChains block.now self.now.chains }
-        ensures { result ≡ kth_greatest keep (committed_of (chain_at (chain_lists block.now self.now.chains) chain)) }
+        requires { HasChain block.now self.now.chains chain }
+        ensures { result ≡ kth_greatest keep (committed_of (versions_at block.now self.now chain)) }
     {
         self.chains.kth_committed(block, chain, keep)
     }
@@ -191,14 +184,14 @@ impl Versions {
     /// Gives up the versions of a chain below a stamp, and answers how many they were. It visits the versions of the
     /// chain. Until a sweep, the list of the kept versions still names them.
     pub(crate) fn cut_below(&mut self, block: &mut Block, chain: u32, floor: Stamp) -> u32
-        requires known { chain < length (chain_lists block.old self.old.chains) }
+        requires known { chain < length (lists_of block.old self.old) }
         requires lies { AreIn block.old self.old.chains self.old.is_swept }
-        ensures lies { AreIn block.new self.new.chains self.new.is_swept }
-        ensures own { ChangesOwn block.old block.new self.old.chains self.new.chains }
-        ensures kept { chain_lists block.new self.new.chains ≡ (with_chain (held_in block.old self.old.chains) chain
-            (filter (λ v. nat_le floor v.prepared.stamp) (chain_at (chain_lists block.old self.old.chains) chain))).chains }
+        ensures changed { ChangesVersions block.old self.old block.new self.new }
+        ensures kept { lists_of block.new self.new ≡ slice_set (lists_of block.old self.old) chain
+            (filter (λ v. nat_le floor v.prepared.stamp) (versions_at block.old self.old chain)) }
         ensures fewer { self.new.chains.used + result ≡ self.old.chains.used }
-        ensures freed { result + length (chain_at (chain_lists block.new self.new.chains) chain) ≡ length (chain_at (chain_lists block.old self.old.chains) chain) }
+        ensures freed { result + length (versions_at block.new self.new chain)
+            ≡ length (versions_at block.old self.old chain) }
     {
         let freed = self.chains.cut_below(block, chain, floor);
         if freed == 0 {
@@ -220,17 +213,19 @@ impl Versions {
         visits: &mut Visits,
     ) -> u32
         requires lies { AreIn block.old self.old.chains self.old.is_swept }
-        requires as_long { length since.old ≡ length (chain_lists block.old self.old.chains) }
+        requires as_long { length since.old ≡ length (lists_of block.old self.old) }
         requires few { self.old.chains.used < 2 ^ 32 }
         requires before { visits.old ≤ 2 ^ 61 }
-        ensures lies { AreIn block.new self.new.chains self.new.is_swept }
-        ensures own { ChangesOwn block.old block.new self.old.chains self.new.chains }
-        ensures gone { chain_lists block.new self.new.chains ≡ map (without_open stamp) (chain_lists block.old self.old.chains) }
+        ensures changed { ChangesVersions block.old self.old block.new self.new }
+        ensures gone { lists_of block.new self.new
+            ≡ map (without_open stamp) (lists_of block.old self.old) }
         ensures fewer { self.new.chains.used + result ≡ self.old.chains.used }
-        ensures visits { (items : List ChainedItem) → HaveAll items (held_in block.old self.old.chains)
-            → visits.new ≡ visits.old + count_by (λ v. v.prepared.stamp == stamp) (together (item_chains items (chain_lists block.old self.old.chains))) }
-        ensures as_long { length since.new ≡ length since.old }
-        ensures since { AreNotedWhere since.old since.new (chain_lists block.old self.old.chains) (chain_lists block.new self.new.chains) }
+        ensures visits { (items : List ChainedItem)
+            → HaveAll items (held_in block.old self.old.chains)
+            → (let all = together (item_chains items (lists_of block.old self.old)) in
+            visits.new ≡ visits.old + count_by (λ v. v.prepared.stamp == stamp) all) }
+        ensures since { NotesChanged since.old since.new
+            (lists_of block.old self.old) (lists_of block.new self.new) }
     {
         sweep_unless(self.is_swept, block, &mut self.chains);
         self.is_swept = true;
@@ -243,9 +238,8 @@ impl Versions {
     /// once.
     pub(crate) fn sweep(&mut self, block: &Block)
         requires { AreIn block.now self.old.chains self.old.is_swept }
-        ensures lies { AreIn block.now self.new.chains self.new.is_swept }
-        ensures own { ChangesOwn block.now block.now self.old.chains self.new.chains }
-        ensures lists { chain_lists block.now self.new.chains ≡ chain_lists block.now self.old.chains }
+        ensures changed { ChangesVersions block.now self.old block.now self.new }
+        ensures lists { lists_of block.now self.new ≡ lists_of block.now self.old }
         ensures used { self.new.chains.used ≡ self.old.chains.used }
     {
         sweep_unless(self.is_swept, block, &mut self.chains);
@@ -257,8 +251,7 @@ impl Versions {
 fn sweep_unless(is_swept: bool, block: &Block, chains: &mut Chains)
     requires listed { Lists block.now chains.old }
     requires swept { IsTrue is_swept → IsSwept block.now chains.old }
-    ensures listed { Lists block.now chains.new }
-    ensures swept { IsSwept block.now chains.new }
+    ensures list { ListsExactly block.now chains.new }
     ensures rest { chains.new ≡ with_kept chains.old chains.new.kept }
 {
     if !is_swept {
@@ -276,12 +269,9 @@ fn note_at(
     since: &mut ChangedChains,
 )
     requires stands { HoldsChains block.now chains.now }
-    requires listed { Lists block.now chains.now }
-    requires swept { IsSwept block.now chains.now }
+    requires list { ListsExactly block.now chains.now }
     requires long { length since.old ≡ length chains.now.heads }
-    requires ordered { first ≤ end }
-    requires within { end ≤ length chains.now.kept }
-    requires together { slice_range chains.now.kept first end ≡ filter (λ k. k.stamp == stamp) chains.now.kept }
+    requires run { IsRunOf stamp chains.now.kept first end }
     ensures long { length since.new ≡ length since.old }
     ensures noted { IsNotedAt stamp since.old since.new (chain_lists block.now chains.now) }
 {

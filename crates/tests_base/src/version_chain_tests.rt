@@ -1,6 +1,5 @@
-ghost use Rattle.std.specs.Prelude.{◌<◌, length};
-ghost use Rattle.version_chain.specs.Chain.{HoldsChains, HasShare, SameShape};
-ghost use Rattle.version_chain.specs.Listed.{Lists, IsSwept};
+ghost use Rattle.version_chain.specs.Chain.{HasShare};
+ghost use Rattle.version_chain.specs.Changes.{HasChain, ListsExactly};
 
 use crate::words::{key, record, stamp, tag};
 use stamps::{Keep, Record, Stamp};
@@ -31,6 +30,7 @@ fn is_nth(found: Option<(&Record, bool)>, counter: u64, value: &str, wanted: boo
 }
 
 /// Whether this comes of a version that is put into chain 0.
+#[tactic(auto, using(version_chain::proofs::Changing::share_kept, version_chain::proofs::Changing::still_chain))]
 fn inserts(
     chains: &mut Chains,
     block: &mut Block,
@@ -38,16 +38,12 @@ fn inserts(
     value: &str,
     wanted: Insert,
 ) -> bool
-    requires known { 0 < length chains.old.heads }
-    requires stands { HoldsChains block.old chains.old }
+    requires chain { HasChain block.old chains.old 0 }
+    requires list { ListsExactly block.old chains.old }
     requires share { HasShare block.old chains.old }
-    requires listed { Lists block.old chains.old }
-    requires swept { IsSwept block.old chains.old }
-    ensures stands { HoldsChains block.new chains.new }
-    ensures shape { SameShape chains.old chains.new }
+    ensures chain { HasChain block.new chains.new 0 }
+    ensures list { ListsExactly block.new chains.new }
     ensures share { HasShare block.new chains.new }
-    ensures listed { Lists block.new chains.new }
-    ensures swept { IsSwept block.new chains.new }
 {
     match prepared(counter, value) {
         Some(version) => chains.insert(block, 0, version) == wanted,
@@ -57,16 +53,12 @@ fn inserts(
 
 /// Whether this comes of versions that are put into chain 0, of which three fit.
 fn fills(chains: &mut Chains, block: &mut Block) -> bool
-    requires known { 0 < length chains.old.heads }
-    requires stands { HoldsChains block.old chains.old }
+    requires chain { HasChain block.old chains.old 0 }
+    requires list { ListsExactly block.old chains.old }
     requires share { HasShare block.old chains.old }
-    requires listed { Lists block.old chains.old }
-    requires swept { IsSwept block.old chains.old }
-    ensures stands { HoldsChains block.new chains.new }
-    ensures shape { SameShape chains.old chains.new }
+    ensures chain { HasChain block.new chains.new 0 }
+    ensures list { ListsExactly block.new chains.new }
     ensures share { HasShare block.new chains.new }
-    ensures listed { Lists block.new chains.new }
-    ensures swept { IsSwept block.new chains.new }
 {
     let mut holds = inserts(chains, block, 5, "b", Insert::Added);
     holds &= inserts(chains, block, 9, "c", Insert::Added);
@@ -77,10 +69,9 @@ fn fills(chains: &mut Chains, block: &mut Block) -> bool
 }
 
 /// Whether the versions of 2.1 and 5.1 are there and marked, and those committed stand as they should.
+#[tactic(auto, using(version_chain::proofs::Changing::share_kept, version_chain::proofs::Changing::still_chain))]
 fn commits(chains: &mut Chains, block: &mut Block) -> Option<bool>
-    requires known { 0 < length chains.old.heads }
-    requires stands { HoldsChains block.old chains.old }
-    requires swept { IsSwept block.old chains.old }
+    requires { HasChain block.old chains.old 0 }
 {
     let mut holds = chains.latest(block, 0).is_none();
     holds &= chains.mark(block, 0, stamp(5)?);
@@ -95,6 +86,7 @@ fn commits(chains: &mut Chains, block: &mut Block) -> Option<bool>
 }
 
 #[test]
+#[tactic(auto, using(version_chain::proofs::Changing::share_kept, version_chain::proofs::Changing::still_chain))]
 fn versions_go_in_and_out(rt: HostRuntime) -> Result<(), Fail> {
     let mut block = Block::open(rt.alloc(), 3)?;
     let mut chains = Chains::open(rt.alloc(), 3, 1, 7)?;

@@ -22,6 +22,7 @@ fn is_marked(nth: Option<(&Record, bool)>, wanted: &Record) -> bool {
 }
 
 /// Whether a version goes into a chain and out of it, below a floor.
+#[tactic(auto, using(version_chain::proofs::Changing::share_kept, version_chain::proofs::Changing::still_chain))]
 fn is_chained(
     alloc: Global,
     version: Record,

@@ -1,14 +1,17 @@
 -- For `Chains::cut_below`. A chain is cut from its end.
 use Rattle.std.proofs.Common.{◌≡◌, ℕ, ◌+◌, ◌<◌, ◌≤◌, Bool, nat_lt, if◌then◌else◌, List, [], ◌∷◌, ◌++◌, length, Option, Some, None, IsSomeAnd, refl, sym, ap, subst, ◌∙◌, arith, append-nil}
 use Rattle.std.proofs.lemmas.Bool.{lt-ltb, le-ltb}
-use Rattle.version_arena.specs.Arena.{entry, live_count}
+use Rattle.version_arena.specs.Arena.{entry}
 use Rattle.version_chain.specs.declared.version.Version.{Version}
 use Rattle.version_chain.specs.Heads.{Heads}
-use Rattle.version_chain.specs.Chain.{Cells, HoldsChains, SameShape, chain_versions, not_below, IsInserted, OthersKept, OtherChainsKept}
+use Rattle.version_chain.specs.Chain.{Cells, HoldsChains, chain_versions, not_below, IsInserted}
+use Rattle.version_chain.specs.Changes.{ChangesChain, GivesUp, HaveOneMore}
+use Rattle.version_chain.specs.Discarded.{FreesOnly}
 use Rattle.version_chain.specs.Listed.{is_at_stamp, NoneCome}
 use Rattle.version_chain.specs.Place.{NoneBelow, StartsBelow, IsPlace}
+use Rattle.version_chain.proofs.Changing.{changes_next, changes_none, gives_none}
+use Rattle.version_chain.proofs.Discarding.{freed_nodes, none_come}
 use Rattle.version_chain.proofs.Falling.{length-inserted}
-use Rattle.version_chain.proofs.Others.{kept-same, kept-then}
 use Rattle.version_chain.proofs.Walks.{at_end, on_cell}
 
 not_below-keeps : (floor : ℕ) (version : Version) (rest : List Version) → floor ≤ version.prepared.stamp → not_below floor (version ∷ rest) ≡ version ∷ not_below floor rest
@@ -35,18 +38,13 @@ not_below-removed floor old new version inserted less = (
 -- how far the cut has come
 pub record Cut (old_cells cells : Cells) (old chains : Heads) (chain floor : ℕ) (last here : Option ℕ) : Type 0 where
   pub freed : ℕ
-  pub stands : HoldsChains cells chains
-  pub shape : SameShape old chains
-  pub used : chains.used + freed ≡ old.used
-  pub live : live_count cells + freed ≡ live_count old_cells
-  pub others : OthersKept old_cells cells old.tenant
-  pub other_chains : OtherChainsKept old_cells old cells chains chain
+  pub changed : ChangesChain old_cells old cells chains chain
+  pub given_up : GivesUp freed old_cells old cells chains
   pub place : IsPlace cells chains chain floor last here
   pub kept : not_below floor (chain_versions cells chains chain) ≡ not_below floor (chain_versions old_cells old chain)
   pub listed : chains.kept ≡ old.kept
   pub none_come : NoneCome old_cells cells old.tenant
   pub counted : freed + length (chain_versions cells chains chain) ≡ length (chain_versions old_cells old chain)
-  pub none : freed ≡ 0 → (cells ≡ old_cells) × (chains ≡ old)
 
 pub cut_done : (old_cells cells : Cells) (old chains : Heads) (chain floor : ℕ) (last here : Option ℕ) → Cut old_cells cells old chains chain floor last here → here ≡ None → chain_versions cells chains chain ≡ not_below floor (chain_versions old_cells old chain)
 cut_done old_cells cells old chains chain floor last here cut ended =
@@ -57,43 +55,33 @@ cut_done old_cells cells old chains chain floor last here cut ended =
 pub cut_begun : (cells : Cells) (chains : Heads) (chain floor : ℕ) (last here : Option ℕ) → HoldsChains cells chains → IsPlace cells chains chain floor last here → Cut cells cells chains chains chain floor last here
 cut_begun cells chains chain floor last here stands place = record {
   freed = 0;
-  stands = stands;
-  shape = record { tenant = refl; share = refl; long = refl };
-  used = omega arith;
-  live = omega arith;
-  others = kept-same cells chains.tenant;
-  other_chains = λ other inside different. refl;
+  changed = changes_none cells chains chain stands;
+  given_up = gives_none cells chains;
   place = place;
   kept = refl;
   listed = refl;
   none_come = λ slot stamp there. there;
   counted = omega arith;
-  none = λ e. (refl, refl);
 }
 
 module _ (old_cells cells next_cells : Cells) (old chains next_chains : Heads) (chain floor : ℕ) (last here next : Option ℕ) (slot : ℕ) (cut : Cut old_cells cells old chains chain floor last here) (at : here ≡ Some slot) where
-  pub cut_step : next_chains.kept ≡ chains.kept → NoneCome cells next_cells chains.tenant → HoldsChains next_cells next_chains → SameShape chains next_chains → OthersKept cells next_cells chains.tenant → OtherChainsKept cells chains next_cells next_chains chain
-      → IsSomeAnd (entry cells slot) (λ cell. IsInserted (chain_versions next_cells next_chains chain) (chain_versions cells chains chain) cell.0.version)
-      → (next_chains.used + 1 ≡ chains.used) × (live_count next_cells + 1 ≡ live_count cells) → IsPlace next_cells next_chains chain floor last next → Cut old_cells next_cells old next_chains chain floor last next
-  cut_step listed none_come stands shape others other_chains removed one_less place =
+  pub cut_step : ChangesChain cells chains next_cells next_chains chain → IsSomeAnd (entry cells slot) (λ cell. HaveOneMore next_cells next_chains cells chains chain cell.0.version) → FreesOnly cells next_cells slot → next_chains.kept ≡ chains.kept
+      → IsPlace next_cells next_chains chain floor last next → Cut old_cells next_cells old next_chains chain floor last next
+  cut_step changed removed freed listed place =
       let on = on_cell cells chains.tenant chain slot here cut.place.below cut.place.goes_on at in
-      let inserted : IsInserted (chain_versions next_cells next_chains chain) (chain_versions cells chains chain) on.version =
-      subst (λ e. IsSomeAnd e (λ cell. IsInserted (chain_versions next_cells next_chains chain) (chain_versions cells chains chain) cell.0.version)) on.found removed in
+      let more : HaveOneMore next_cells next_chains cells chains chain on.version = subst (λ e. IsSomeAnd e (λ cell. HaveOneMore next_cells next_chains cells chains chain cell.0.version)) on.found removed in
       let less : on.version.prepared.stamp < floor = subst (StartsBelow floor) on.is cut.place.less in
-      let left = not_below-removed floor (chain_versions cells chains chain) (chain_versions next_cells next_chains chain) on.version inserted less in
+      let left = not_below-removed floor (chain_versions cells chains chain) (chain_versions next_cells next_chains chain) on.version more.inserted less in
       let fewer = left.1 in
+      let whose = cut.changed.own.shape.tenant in
+      let none = none_come cells next_cells chains.tenant (freed_nodes cells next_cells slot freed) in
       record {
         freed = cut.freed + 1;
-        stands = stands;
-        shape = record { tenant = shape.tenant ∙ cut.shape.tenant; share = shape.share ∙ cut.shape.share; long = shape.long ∙ cut.shape.long };
-        used = omega (arith, one_less.0, cut.used);
-        live = omega (arith, one_less.1, cut.live);
-        others = kept-then old_cells cells next_cells old.tenant cut.others (subst (OthersKept cells next_cells) cut.shape.tenant others);
-        other_chains = λ other inside different. other_chains other (omega (arith, cut.shape.long)) different ∙ cut.other_chains other inside different;
+        changed = changes_next old_cells cells next_cells old chains next_chains chain cut.changed changed;
+        given_up = record { used = omega (arith, more.used, cut.given_up.used); none = λ e. absurd (omega (arith, e)) };
         place = place;
         kept = left.0 ∙ cut.kept;
         listed = listed ∙ cut.listed;
-        none_come = λ slot stamp there. cut.none_come slot stamp (ap (λ t. is_at_stamp t stamp (entry cells slot)) (sym cut.shape.tenant) ∙ none_come slot stamp (ap (λ t. is_at_stamp t stamp (entry next_cells slot)) cut.shape.tenant ∙ there));
-        counted = omega (arith, cut.counted);
-        none = λ e. absurd (omega (arith, e));
+        none_come = λ slot stamp there. cut.none_come slot stamp (ap (λ t. is_at_stamp t stamp (entry cells slot)) (sym whose) ∙ none slot stamp (ap (λ t. is_at_stamp t stamp (entry next_cells slot)) whose ∙ there));
+        counted = omega (arith, fewer, cut.counted);
       }

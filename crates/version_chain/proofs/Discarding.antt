@@ -2,16 +2,19 @@
 use Rattle.std.proofs.Common.{◌≡◌, ◌≢◌, inl, inr, ℕ, zero, suc, ◌+◌, ◌<◌, ◌≤◌, ◌==◌, ◌&&◌, not, Bool, true, false, cond, List, [], ◌∷◌, ◌++◌, filter, length, set, get_or, count_by, Option, Some, None, IsSome, refl, sym, ap, subst, ◌∙◌, arith, append_assoc}
 use Rattle.std.proofs.lemmas.Bool.{eq-eqb, eqb-true, cases_Bool, false_from_ne_true}
 use Rattle.std.proofs.lemmas.List.{get_or-set_same, get_or-set_other}
-use Rattle.version_arena.specs.Arena.{entry, next_beside, live_count, with_next as with_next_beside}
+use Rattle.version_arena.specs.Arena.{entry, next_beside, with_next as with_next_beside}
 use Rattle.version_chain.specs.declared.version.Node.{Node}
 use Rattle.version_chain.specs.declared.version.Version.{Version}
 use Rattle.version_chain.specs.declared.stamp_list.Kept.{Kept}
 use Rattle.version_chain.specs.Heads.{Heads, head}
-use Rattle.version_chain.specs.Chain.{Cells, IsPath, HoldsChains, HasShare, SameShape, OthersKept, OtherChainsKept, chain_versions, is_open_at, without_open}
-use Rattle.version_chain.specs.Listed.{is_at_stamp, is_named, node_at, node_in, NodesStay, is_open_node, Lists, IsSwept}
-use Rattle.version_chain.specs.Discarded.{IsSweptBut}
+use Rattle.version_chain.specs.Chain.{Cells, IsPath, HoldsChains, OtherChainsKept, chain_versions, is_open_at, without_open}
+use Rattle.version_chain.specs.Listed.{is_at_stamp, is_named, node_at, node_in, NodesStay, NoneCome, is_open_node, Lists, IsSwept}
+use Rattle.version_chain.specs.Sharing.{ChangesOwn}
+use Rattle.version_chain.specs.Changes.{GivesUp}
+use Rattle.version_chain.specs.Discarded.{DropsOpen, FreesOnly, IsSweptBut}
+use Rattle.version_chain.proofs.Changing.{gives_none, own_next, own_none}
 use Rattle.version_chain.proofs.Dropping.{stays}
-use Rattle.version_chain.proofs.Listing.{one_if, cons, both, count_le, first_of, second_of}
+use Rattle.version_chain.proofs.Listing.{one_if, cons, both, count_le, first_of, lists_left, second_of}
 use Rattle.version_chain.proofs.Places.{places, has_place}
 use Rattle.version_chain.proofs.Replacing.{same_or_not}
 use Rattle.version_chain.proofs.Slots.{placed}
@@ -19,14 +22,8 @@ use Rattle.version_chain.proofs.Writing.{live_within}
 
 -- ---- what a cell holds
 
-pub nodes_same : (cells : Cells) → NodesStay cells cells
-nodes_same cells slot = inr refl
-
-pub nodes_then : (first mid last : Cells) → NodesStay first mid → NodesStay mid last → NodesStay first last
-nodes_then first mid last one two slot = elim (two slot) [
-  | inl none ↦ inl none
-  | inr same ↦ elim (one slot) [ inl none ↦ inl (same ∙ none) | inr before ↦ inr (same ∙ before) ]
-]
+pub drops_none : (stamp : ℕ) (cells : Cells) (heads : Heads) → DropsOpen stamp cells heads cells heads
+drops_none stamp cells heads = record { nodes = λ slot. inr refl; rest = λ place shut. refl; list = refl }
 
 some_cell : (e : Option (Node × Option ℕ)) → IsSome e → (cell : Node × Option ℕ) × (e ≡ Some cell)
 some_cell None live = absurd (let g : false ≡ true = live in cc)
@@ -35,20 +32,18 @@ some_cell (Some cell) live = (cell, refl)
 within_live : (cells : Cells) (slot : ℕ) → IsSome (entry cells slot) → slot < length cells
 within_live cells slot live = let at = some_cell (entry cells slot) live in live_within cells slot at.0 at.1
 
-pub node_take : (cells : Cells) (here slot : ℕ) → slot ≢ here → node_in (set cells here None) slot ≡ node_in cells slot
+node_take : (cells : Cells) (here slot : ℕ) → slot ≢ here → node_in (set cells here None) slot ≡ node_in cells slot
 node_take cells here slot other = ap node_at (get_or-set_other cells here slot None None other)
 
-pub nodes_take : (cells : Cells) (here : ℕ) → here < length cells → NodesStay cells (set cells here None)
-nodes_take cells here within slot = elim (same_or_not slot here) [
-  | inl same ↦ inl (ap node_at (ap (entry (set cells here None)) same ∙ get_or-set_same cells here None None within))
-  | inr other ↦ inr (node_take cells here slot other)
-]
+-- a version leaves its cell
+pub freed_take : (cells : Cells) (here : ℕ) → here < length cells → FreesOnly cells (set cells here None) here
+freed_take cells here within = record { free = ap node_at (get_or-set_same cells here None None within); rest = node_take cells here }
 
 with_next_same : (e : Option (Node × Option ℕ)) (next : Option ℕ) → node_at (with_next_beside e next) ≡ node_at e
 with_next_same None next = refl
 with_next_same (Some cell) next = refl
 
-pub node_next : (cells : Cells) (last : ℕ) (next : Option ℕ) → IsSome (entry cells last) → (slot : ℕ) → node_in (set cells last (with_next_beside (entry cells last) next)) slot ≡ node_in cells slot
+node_next : (cells : Cells) (last : ℕ) (next : Option ℕ) → IsSome (entry cells last) → (slot : ℕ) → node_in (set cells last (with_next_beside (entry cells last) next)) slot ≡ node_in cells slot
 node_next cells last next live slot =
     let changed = with_next_beside (entry cells last) next in
     elim (same_or_not slot last) [
@@ -56,8 +51,34 @@ node_next cells last next live slot =
       | inr other ↦ ap node_at (get_or-set_other cells last slot changed None other)
     ]
 
-pub nodes_next : (cells : Cells) (last : ℕ) (next : Option ℕ) → IsSome (entry cells last) → NodesStay cells (set cells last (with_next_beside (entry cells last) next))
-nodes_next cells last next live slot = inr (node_next cells last next live slot)
+-- and then the slot after another cell is written
+pub freed_next : (old mid : Cells) (here last : ℕ) (next : Option ℕ) → IsSome (entry mid last) → FreesOnly old mid here → FreesOnly old (set mid last (with_next_beside (entry mid last) next)) here
+freed_next old mid here last next live freed = record {
+  free = node_next mid last next live here ∙ freed.free;
+  rest = λ place other. node_next mid last next live place ∙ freed.rest place other;
+}
+
+pub freed_nodes : (old new : Cells) (here : ℕ) → FreesOnly old new here → NodesStay old new
+freed_nodes old new here freed slot = elim (same_or_not slot here) [
+  | inl same ↦ inl (ap (node_in new) same ∙ freed.free)
+  | inr other ↦ inr (freed.rest slot other)
+]
+
+-- what a cell holds says whether it is of the tenant and stamp
+abbrev at_node : ℕ → ℕ → Option Node → Bool
+at_node tenant stamp None = false
+at_node tenant stamp (Some node) = (node.tenant == tenant) && (node.version.prepared.stamp == stamp)
+
+by_node : (tenant stamp : ℕ) (e : Option (Node × Option ℕ)) → is_at_stamp tenant stamp e ≡ at_node tenant stamp (node_at e)
+by_node tenant stamp None = refl
+by_node tenant stamp (Some cell) = refl
+
+-- where cells of the tenant at most go, none comes
+pub none_come : (old new : Cells) (tenant : ℕ) → NodesStay old new → NoneCome old new tenant
+none_come old new tenant nodes slot stamp there = elim (nodes slot) [
+  | inl none ↦ absurd (let g : false ≡ true = sym (by_node tenant stamp (entry new slot) ∙ ap (at_node tenant stamp) none) ∙ there in cc)
+  | inr same ↦ by_node tenant stamp (entry old slot) ∙ ap (at_node tenant stamp) (sym same) ∙ sym (by_node tenant stamp (entry new slot)) ∙ there
+]
 
 -- a slot whose version does not go is none of those that hold one to go
 pub other_place : (cells : Cells) (tenant stamp slot place : ℕ) (node : Node) → entry cells slot ≡ Some (node, next_beside cells slot) → node.tenant ≡ tenant → node.version.prepared.stamp ≡ stamp → node.version.committed ≡ false
@@ -133,31 +154,25 @@ each_left old new before after stamp chain others here other known = elim (same_
 -- ---- so many slots
 
 pub record SoDropped (start now : Cells) (old chains : Heads) (stamp j dropped : ℕ) : Type 0 where
+  pub own : ChangesOwn start now old chains
   pub stands : HoldsChains now chains
-  pub shape : SameShape old chains
-  pub share : HasShare start old → HasShare now chains
-  pub others : OthersKept start now old.tenant
   pub listed : Lists now chains
   pub list : chains.kept ≡ old.kept
   pub left : (chain : ℕ) → chain < length old.heads → without_open stamp (chain_versions now chains chain) ≡ without_open stamp (chain_versions start old chain)
   pub done : (i : ℕ) (k : Kept) → i < j → i < length (places old stamp) → k ≡ get_or (places old stamp) i k → is_open_node old.tenant stamp (node_in now k.slot) ≡ false
   pub still : (place : ℕ) → is_open_node old.tenant stamp (node_in start place) ≡ false → node_in now place ≡ node_in start place
-  pub fewer : (chains.used + dropped ≡ old.used) × (live_count now + dropped ≡ live_count start)
-  pub none : dropped ≡ 0 → (now ≡ start) × (chains ≡ old)
+  pub given_up : GivesUp dropped start old now chains
 
 pub none_dropped : (start : Cells) (old : Heads) (stamp : ℕ) → HoldsChains start old → Lists start old → SoDropped start start old old stamp 0 0
 none_dropped start old stamp stands listed = record {
+  own = own_none start old;
   stands = stands;
-  shape = record { tenant = refl; share = refl; long = refl };
-  share = λ share. share;
-  others = record { long = refl; cells = λ other slot different. refl };
   listed = listed;
   list = refl;
   left = λ chain known. refl;
   done = λ i k less within is. absurd (omega (arith, less));
   still = λ place shut. refl;
-  fewer = (omega arith, omega arith);
-  none = λ e. (refl, refl);
+  given_up = gives_none start old;
 }
 
 same_place : (ks : List Kept) (i : ℕ) (c d : Kept) → i < length ks → get_or ks i c ≡ get_or ks i d
@@ -166,44 +181,35 @@ same_place (k ∷ ks) zero c d within = refl
 same_place (k ∷ ks) (suc i) c d within = same_place ks i c d (omega arith)
 
 module _ (start now next : Cells) (old chains after : Heads) (stamp j dropped r : ℕ) (kept : Kept) (was : SoDropped start now old chains stamp j dropped) (within : j < length (places old stamp)) (is : kept ≡ get_or (places old stamp) j kept)
-    (stands : HoldsChains next after) (shape : SameShape chains after) (share : HasShare now chains → HasShare next after) (others : OthersKept now next chains.tenant)
+    (own : ChangesOwn now next chains after) (stands : HoldsChains next after)
     (left : (chain : ℕ) → chain < length chains.heads → without_open stamp (chain_versions next after chain) ≡ without_open stamp (chain_versions now chains chain))
-    (gone : is_open_node chains.tenant stamp (node_in next kept.slot) ≡ false) (fewer : (after.used + r ≡ chains.used) × (live_count next + r ≡ live_count now))
-    (listed : Lists now chains → Lists next after) (nodes : NodesStay now next)
-    (rest : (place : ℕ) → is_open_node chains.tenant stamp (node_in now place) ≡ false → node_in next place ≡ node_in now place) (list : after.kept ≡ chains.kept) (none : r ≡ 0 → (next ≡ now) × (after ≡ chains)) where
+    (gone : is_open_node chains.tenant stamp (node_in next kept.slot) ≡ false) (given_up : GivesUp r now chains next after) (dropping : DropsOpen stamp now chains next after) where
   pub one_dropped : SoDropped start next old after stamp (j + 1) (dropped + r)
   one_dropped = record {
+    own = own_next start now next old chains after was.own own;
     stands = stands;
-    shape = record {
-      tenant = shape.tenant ∙ was.shape.tenant;
-      share = shape.share ∙ was.shape.share;
-      long = shape.long ∙ was.shape.long;
-    };
-    share = λ had. share (was.share had);
-    others = record {
-      long = others.long ∙ was.others.long;
-      cells = λ other slot different. others.cells other slot (λ e. different (e ∙ was.shape.tenant)) ∙ was.others.cells other slot different;
-    };
-    listed = listed was.listed;
-    list = list ∙ was.list;
-    left = λ chain known. left chain (omega (arith, known, was.shape.long)) ∙ was.left chain known;
+    listed = lists_left now next chains after own.shape.tenant dropping.list (none_come now next chains.tenant dropping.nodes) was.listed;
+    list = dropping.list ∙ was.list;
+    left = λ chain known. left chain (omega (arith, known, was.own.shape.long)) ∙ was.left chain known;
     done = λ i k less there at. elim (same_or_not i j) [
       | inl same ↦
           let this : k ≡ kept = at ∙ ap (λ n. get_or (places old stamp) n k) same ∙ same_place (places old stamp) j k kept within ∙ sym is in
-          ap (λ (x : Kept). is_open_node old.tenant stamp (node_in next x.slot)) this ∙ ap (λ t. is_open_node t stamp (node_in next kept.slot)) (sym was.shape.tenant) ∙ gone
-      | inr other ↦ elim (nodes k.slot) [
+          ap (λ (x : Kept). is_open_node old.tenant stamp (node_in next x.slot)) this ∙ ap (λ t. is_open_node t stamp (node_in next kept.slot)) (sym was.own.shape.tenant) ∙ gone
+      | inr other ↦ elim (dropping.nodes k.slot) [
         | inl free ↦ ap (is_open_node old.tenant stamp) free
         | inr same ↦ ap (is_open_node old.tenant stamp) same ∙ was.done i k (let n = not_last i j less other in omega arith) there at
       ]
     ];
     still = λ place shut.
         let same = was.still place shut in
-        rest place (ap (λ t. is_open_node t stamp (node_in now place)) was.shape.tenant ∙ ap (is_open_node old.tenant stamp) same ∙ shut) ∙ same;
-    fewer = (omega (arith, fewer.0, was.fewer.0), omega (arith, fewer.1, was.fewer.1));
-    none = λ e.
-        let here = none (omega (arith, e)) in
-        let before = was.none (omega (arith, e)) in
-        (here.0 ∙ before.0, here.1 ∙ before.1);
+        dropping.rest place (ap (λ t. is_open_node t stamp (node_in now place)) was.own.shape.tenant ∙ ap (is_open_node old.tenant stamp) same ∙ shut) ∙ same;
+    given_up = record {
+      used = omega (arith, given_up.used, was.given_up.used);
+      none = λ e.
+          let here = given_up.none (omega (arith, e)) in
+          let before = was.given_up.none (omega (arith, e)) in
+          (here.0 ∙ before.0, here.1 ∙ before.1);
+    };
   }
     where
       not_last : (i j : ℕ) → i < j + 1 → i ≢ j → i < j
@@ -251,25 +257,16 @@ module _ (start now : Cells) (old chains : Heads) (stamp j dropped : ℕ) (was :
       let P : List Kept → Type 0 = λ ks. (at.0 < length ks) × (at.1 ≡ get_or ks at.0 at.1) in
       let here : P (places old stamp) = subst P (places_of chains old stamp was.list) (at.2, at.3) in
       let shut = was.done at.0 at.1 (let less = here.0 in omega (arith, less, end)) here.0 here.1 in
-      let still : is_open_node old.tenant stamp (node_in now at.1.slot) ≡ true = ap (λ n. is_open_node old.tenant stamp (node_in now n)) same ∙ ap (λ t. is_open_node t stamp (node_in now slot)) (sym was.shape.tenant) ∙ e in
+      let still : is_open_node old.tenant stamp (node_in now at.1.slot) ≡ true = ap (λ n. is_open_node old.tenant stamp (node_in now n)) same ∙ ap (λ t. is_open_node t stamp (node_in now slot)) (sym was.own.shape.tenant) ∙ e in
       let clash : false ≡ true = sym shut ∙ still in
       absurd (let g : false ≡ true = clash in cc))
 
   pub all_dropped : (chain : ℕ) → chain < length old.heads → chain_versions now chains chain ≡ without_open stamp (chain_versions start old chain)
   all_dropped chain known =
-      sym (shut_path now chains.tenant chain stamp all_shut (head chains chain) (chain_versions now chains chain) None (was.stands.chained chain (omega (arith, known, was.shape.long))))
+      sym (shut_path now chains.tenant chain stamp all_shut (head chains chain) (chain_versions now chains chain) None (was.stands.chained chain (omega (arith, known, was.own.shape.long))))
       ∙ was.left chain known
 
 -- ---- the list that is left
-
--- what a cell holds says whether it is of the tenant and stamp
-abbrev at_node : ℕ → ℕ → Option Node → Bool
-at_node tenant stamp None = false
-at_node tenant stamp (Some node) = (node.tenant == tenant) && (node.version.prepared.stamp == stamp)
-
-by_node : (tenant stamp : ℕ) (e : Option (Node × Option ℕ)) → is_at_stamp tenant stamp e ≡ at_node tenant stamp (node_at e)
-by_node tenant stamp None = refl
-by_node tenant stamp (Some cell) = refl
 
 abbrev stamp_in : Option (Node × Option ℕ) → ℕ
 stamp_in None = 0
@@ -296,7 +293,7 @@ swept_but start now old chains stamp j dropped was swept =
           let other : k.stamp ≢ stamp = λ same. absurd (let g : false ≡ true = ap not (sym (eq-eqb k.stamp stamp same)) ∙ first_of (not (k.stamp == stamp)) (not (is_named chains.tenant now k)) e in cc) in
           let same : node_in now k.slot ≡ node_in start k.slot = was.still k.slot (other_stamp old.tenant stamp k.stamp (entry start k.slot) f other) in
           let named : is_named chains.tenant now k ≡ true =
-          ap (λ t. is_named t now k) was.shape.tenant ∙ by_node old.tenant k.stamp (entry now k.slot) ∙ ap (at_node old.tenant k.stamp) same ∙ sym (by_node old.tenant k.stamp (entry start k.slot)) ∙ f in
+          ap (λ t. is_named t now k) was.own.shape.tenant ∙ by_node old.tenant k.stamp (entry now k.slot) ∙ ap (at_node old.tenant k.stamp) same ∙ sym (by_node old.tenant k.stamp (entry start k.slot)) ∙ f in
           absurd (let g : false ≡ true = ap not (sym named) ∙ second_of (not (k.stamp == stamp)) (not (is_named chains.tenant now k)) e in cc)
     ]
 

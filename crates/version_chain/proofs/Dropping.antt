@@ -7,8 +7,9 @@ use Rattle.version_chain.specs.declared.version.Node.{Node}
 use Rattle.version_chain.specs.declared.version.Version.{Version}
 use Rattle.version_chain.specs.Heads.{Heads}
 use Rattle.version_chain.specs.Chain.{Cells, HoldsChains, FallsBelow, Falls, chain_versions, is_open_at, without_open, IsInserted}
+use Rattle.version_chain.specs.Changes.{HaveOneMore}
 use Rattle.version_chain.specs.Place.{NoneBelow, StartsBelow, IsPlace}
-use Rattle.version_chain.proofs.Falling.{EachAbove, Falls-before, Falls-after, length-inserted}
+use Rattle.version_chain.proofs.Falling.{EachAbove, Falls-before, Falls-after}
 use Rattle.version_chain.proofs.Walks.{at_end, on_cell, read_cell}
 
 -- a version that stays
@@ -84,18 +85,15 @@ module _ (cells : Cells) (chains : Heads) (chain stamp : ℕ) (last here : Optio
 
 -- where it goes, the others are left
 module _ (cells next_cells : Cells) (chains next_chains : Heads) (chain stamp slot : ℕ) (node : Node) (stands : HoldsChains cells chains) (known : chain < length chains.heads) (found : entry cells slot ≡ Some (node, next_beside cells slot))
-    (removed : IsSomeAnd (entry cells slot) (λ cell. IsInserted (chain_versions next_cells next_chains chain) (chain_versions cells chains chain) cell.0.version)) where
+    (removed : IsSomeAnd (entry cells slot) (λ cell. HaveOneMore next_cells next_chains cells chains chain cell.0.version)) where
+  pub one_more : HaveOneMore next_cells next_chains cells chains chain node.version
+  one_more = subst (λ e. IsSomeAnd e (λ cell. HaveOneMore next_cells next_chains cells chains chain cell.0.version)) found removed
+
   inserted : IsInserted (chain_versions next_cells next_chains chain) (chain_versions cells chains chain) node.version
-  inserted = subst (λ e. IsSomeAnd e (λ cell. IsInserted (chain_versions next_cells next_chains chain) (chain_versions cells chains chain) cell.0.version)) found removed
+  inserted = one_more.inserted
 
   pub others_left : node.version.prepared.stamp ≡ stamp → node.version.committed ≡ false → chain_versions next_cells next_chains chain ≡ without_open stamp (chain_versions cells chains chain)
   others_left is unmarked =
       inserted.old_is
       ∙ sym (goes stamp inserted.above inserted.below node.version (subst Falls inserted.new_is (stands.falling chain known)) is unmarked)
       ∙ ap (without_open stamp) (sym inserted.new_is)
-
-  pub one_goes : 1 + length (chain_versions next_cells next_chains chain) ≡ length (chain_versions cells chains chain)
-  one_goes =
-      let one = ap length inserted.new_is in
-      let two = ap length inserted.old_is in
-      omega (arith, length-inserted inserted.above inserted.below node.version)

@@ -2,11 +2,12 @@
 use Rattle.std.proofs.Common.{◌≡◌, ◌≢◌, ℕ, ◌+◌, ◌<◌, ◌==◌, ◌&&◌, ◌⊎◌, inl, inr, Bool, cond, List, [], ◌∷◌, ◌++◌, length, set, Option, Some, None, refl, sym, ap, subst, ◌∙◌, arith, append_assoc, length-set}
 use Rattle.std.proofs.lemmas.Bool.{eq-eqb, cases_lt}
 use Rattle.std.proofs.lemmas.List.{get_or-set_same, get_or-set_other, set_past}
-use Rattle.version_arena.specs.Arena.{entry, live_count, with_next as with_next_beside}
+use Rattle.version_arena.specs.Arena.{entry, with_next as with_next_beside}
 use Rattle.version_chain.specs.declared.version.Node.{Node}
 use Rattle.version_chain.specs.declared.version.Version.{Version}
 use Rattle.version_chain.specs.Heads.{Heads, head, latest_slot}
-use Rattle.version_chain.specs.Chain.{Cells, IsPath, Falls, KeepsLatest, HoldsChains, chain_versions, at_stamp, IsInserted, cell_of, OthersKept, OtherChainsKept}
+use Rattle.version_chain.specs.Chain.{Cells, IsPath, Falls, KeepsLatest, HoldsChains, chain_versions, at_stamp, cell_of, OthersKept}
+use Rattle.version_chain.specs.Changes.{ChangesChain, HaveOneMore}
 use Rattle.version_chain.specs.Listed.{is_at_stamp, IsPutAt}
 use Rattle.version_chain.specs.Place.{NoneBelow, IsPlace, is_past}
 use Rattle.version_chain.proofs.Falling.{EachAbove, Falls-before, Falls-after, Falls-inserted, length-inserted, above_missing}
@@ -17,13 +18,14 @@ use Rattle.version_chain.proofs.Paths.{path-append}
 use Rattle.version_chain.proofs.Replacing.{same_or_not, Replaced, with_used, Stands-replaced, versions-replaced, others-replaced}
 use Rattle.version_chain.proofs.Writing.{path-put, path-write, avoids_chain, avoids_above, avoids_below, count-put, count-write, live_within, live-put, live-write}
 
+-- one cell more is live, and one more is used
+grown : (live old used : ℕ) → live ≡ old + 1 → live + used ≡ old + (used + 1)
+grown live old used more = omega arith
+
 -- what an insert leaves
 pub record Inserted (old_cells new_cells : Cells) (old new : Heads) (chain : ℕ) (version : Version) : Type 0 where
-  pub stands : HoldsChains new_cells new
-  pub others : OtherChainsKept old_cells old new_cells new chain
-  pub inserted : IsInserted (chain_versions old_cells old chain) (chain_versions new_cells new chain) version
-  pub kept : OthersKept old_cells new_cells old.tenant
-  pub live : live_count new_cells ≡ live_count old_cells + 1
+  pub changed : ChangesChain old_cells old new_cells new chain
+  pub added : HaveOneMore old_cells old new_cells new chain version
 
 module _ (cells : Cells) (chains : Heads) (chain slot : ℕ) (version : Version) (here : Option ℕ) (stands : HoldsChains cells chains) (known : chain < length chains.heads) (within : slot < length cells) (free : entry cells slot ≡ None)
     (room : chains.used < chains.share) (missing : at_stamp (chain_versions cells chains chain) version.prepared.stamp ≡ None)
@@ -74,11 +76,12 @@ module _ (cells : Cells) (chains : Heads) (chain slot : ℕ) (version : Version)
         counted = let more = ap length all in omega (arith, count-put cells chains.tenant slot (record { tenant = chains.tenant; chain = chain; version = version }) here within free refl);
       } in
       record {
-        stands = Stands-replaced cells put_cells chains new chain now stands known replaced (latest_put put_cells (set chains.heads chain (Some slot)) [] place.below here all replaced.falls (λ other. held_put cells slot _ chains.tenant other free) (get_or-set_same cells slot _ None within));
-        others = others-replaced cells put_cells chains new chain now stands known replaced;
-        inserted = record { above = []; below = place.below; old_is = all; new_is = versions-replaced cells put_cells chains new chain now stands known replaced };
-        kept = kept_put;
-        live = live-put cells slot _ within free;
+        changed = record {
+          own = record { shape = replaced.shape; others = kept_put; live = grown _ _ chains.used (live-put cells slot _ within free) };
+          stands = Stands-replaced cells put_cells chains new chain now stands known replaced (latest_put put_cells (set chains.heads chain (Some slot)) [] place.below here all replaced.falls (λ other. held_put cells slot _ chains.tenant other free) (get_or-set_same cells slot _ None within));
+          others = others-replaced cells put_cells chains new chain now stands known replaced;
+        };
+        added = record { inserted = record { above = []; below = place.below; old_is = all; new_is = versions-replaced cells put_cells chains new chain now stands known replaced }; used = refl };
       }
 
   -- where it stands after the cell at `last`
@@ -122,11 +125,16 @@ module _ (cells : Cells) (chains : Heads) (chain slot : ℕ) (version : Version)
             omega (arith, count-write put_cells chains.tenant last node node here (Some slot) last_within still refl refl, count-put cells chains.tenant slot (record { tenant = chains.tenant; chain = chain; version = version }) here within free refl);
       } in
       subst (λ cell. Inserted cells (set put_cells last cell) chains new chain version) (sym (ap (λ e. with_next_beside e (Some slot)) still)) record {
-        stands = Stands-replaced cells new_cells chains new chain now stands known replaced (latest_put new_cells chains.heads place.above place.below here place.all replaced.falls (λ other. held_then cells put_cells new_cells chains.tenant other (held_put cells slot _ chains.tenant other free) (held_write put_cells last chains.tenant chain above above here (Some slot) chains.tenant other still refl)) at_slot);
-        others = others-replaced cells new_cells chains new chain now stands known replaced;
-        inserted = record { above = place.above; below = place.below; old_is = place.all; new_is = versions-replaced cells new_cells chains new chain now stands known replaced };
-        kept = kept-then cells put_cells new_cells chains.tenant kept_put (kept-set put_cells chains.tenant last _ last_within (λ other different. ap (cell_of other) still ∙ none_of chains.tenant other node here refl different) (λ other different. none_of chains.tenant other node (Some slot) refl different));
-        live = live-write put_cells last _ _ last_within still ∙ live-put cells slot _ within free;
+        changed = record {
+          own = record {
+            shape = replaced.shape;
+            others = kept-then cells put_cells new_cells chains.tenant kept_put (kept-set put_cells chains.tenant last _ last_within (λ other different. ap (cell_of other) still ∙ none_of chains.tenant other node here refl different) (λ other different. none_of chains.tenant other node (Some slot) refl different));
+            live = grown _ _ chains.used (live-write put_cells last _ _ last_within still ∙ live-put cells slot _ within free);
+          };
+          stands = Stands-replaced cells new_cells chains new chain now stands known replaced (latest_put new_cells chains.heads place.above place.below here place.all replaced.falls (λ other. held_then cells put_cells new_cells chains.tenant other (held_put cells slot _ chains.tenant other free) (held_write put_cells last chains.tenant chain above above here (Some slot) chains.tenant other still refl)) at_slot);
+          others = others-replaced cells new_cells chains new chain now stands known replaced;
+        };
+        added = record { inserted = record { above = place.above; below = place.below; old_is = place.all; new_is = versions-replaced cells new_cells chains new chain now stands known replaced }; used = refl };
       }
 
 -- ---- the cell that a version is put into

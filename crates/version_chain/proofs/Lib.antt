@@ -1,3 +1,5 @@
+pub mod Answered
+pub mod Changing
 mod Committed
 mod Cutting
 mod Discarding
@@ -13,7 +15,7 @@ mod Marking
 pub mod MarkingListed
 mod Merging
 pub mod Neighbours
-mod Opening
+pub mod Opening
 mod Others
 mod Paths
 pub mod Picking

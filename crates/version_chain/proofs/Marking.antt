@@ -1,12 +1,13 @@
 -- For `Chains::mark_slot`. A version is marked as committed.
-use Rattle.std.proofs.Common.{◌≡◌, ◌≢◌, ℕ, ◌<◌, ◌≤◌, ◌||◌, Bool, true, cond, List, [], ◌∷◌, ◌++◌, length, map, set, Option, Some, None, refl, sym, ap, subst, ◌∙◌, arith, length-set}
+use Rattle.std.proofs.Common.{◌≡◌, ◌≢◌, ℕ, ◌+◌, ◌<◌, ◌≤◌, ◌||◌, Bool, true, cond, List, [], ◌∷◌, ◌++◌, length, map, set, Option, Some, None, refl, sym, ap, subst, ◌∙◌, arith, length-set}
 use Rattle.std.proofs.lemmas.Bool.{eq-eqb, ne_eqb}
 use Rattle.std.proofs.lemmas.List.{get_or-set_same, get_or-set_other}
-use Rattle.version_arena.specs.Arena.{entry, beside, next_beside, live_count}
+use Rattle.version_arena.specs.Arena.{entry, beside, next_beside}
 use Rattle.version_chain.specs.declared.version.Node.{Node}
 use Rattle.version_chain.specs.declared.version.Version.{Version}
 use Rattle.version_chain.specs.Heads.{Heads, head, latest_slot}
-use Rattle.version_chain.specs.Chain.{Cells, IsPath, FallsBelow, Falls, KeepsLatest, HoldsChains, chain_versions, at_stamp, marked_by, cell_of, OthersKept, OtherChainsKept}
+use Rattle.version_chain.specs.Changes.{ChangesChain}
+use Rattle.version_chain.specs.Chain.{Cells, IsPath, FallsBelow, Falls, KeepsLatest, HoldsChains, chain_versions, at_stamp, marked_by, cell_of}
 use Rattle.version_chain.specs.Listed.{with_latest}
 use Rattle.version_chain.specs.Place.{IsPlace, is_past}
 use Rattle.version_chain.proofs.Falling.{EachAbove, Falls-before, Falls-after, length-inserted}
@@ -68,11 +69,8 @@ Falls-committed (first ∷ before) version below falls = falls-committed first.p
 
 -- what a mark leaves
 pub record Marked (old_cells new_cells : Cells) (chains new : Heads) (chain stamp : ℕ) : Type 0 where
-  pub stands : HoldsChains new_cells new
-  pub others : OtherChainsKept old_cells chains new_cells new chain
+  pub changed : ChangesChain old_cells chains new_cells new chain
   pub now : chain_versions new_cells new chain ≡ map (marked_by stamp) (chain_versions old_cells chains chain)
-  pub kept : OthersKept old_cells new_cells chains.tenant
-  pub live : live_count new_cells ≡ live_count old_cells
 
 module _ (cells : Cells) (chains : Heads) (chain stamp : ℕ) (here : Option ℕ) (slot : ℕ) (node : Node) (place : IsPlace cells chains chain stamp (Some slot) here) (read : entry cells slot ≡ Some (node, next_beside cells slot))
     (stands : HoldsChains cells chains) (known : chain < length chains.heads) (is : node.version.prepared.stamp ≡ stamp)
@@ -124,11 +122,16 @@ module _ (cells : Cells) (chains : Heads) (chain stamp : ℕ) (here : Option ℕ
         held = λ other different. still other;
       } in
       let done : Marked cells new_cells chains after chain stamp = record {
-        stands = Stands-replaced cells new_cells chains after chain now stands known replaced latest;
-        others = others-replaced cells new_cells chains after chain now stands known replaced;
+        changed = record {
+          own = record {
+            shape = replaced.shape;
+            others = kept-set cells chains.tenant slot _ within (λ other different. ap (cell_of other) held ∙ none_of chains.tenant other old here refl different) (λ other different. none_of chains.tenant other new here refl different);
+            live = ap (λ n. n + chains.used) (live-write cells slot _ (new, here) within held);
+          };
+          stands = Stands-replaced cells new_cells chains after chain now stands known replaced latest;
+          others = others-replaced cells new_cells chains after chain now stands known replaced;
+        };
         now = versions-replaced cells new_cells chains after chain now stands known replaced ∙ sym (ap (map (marked_by stamp)) all ∙ marked-parts stamp last.before node.version place.below is each later);
-        kept = kept-set cells chains.tenant slot _ within (λ other different. ap (cell_of other) held ∙ none_of chains.tenant other old here refl different) (λ other different. none_of chains.tenant other new here refl different);
-        live = live-write cells slot _ (new, here) within held;
       } in
       let node_now : new ≡ record { tenant = node.tenant; chain = node.chain; version = as_committed node.version } = sym (ap (λ n. record { tenant = n.tenant; chain = n.chain; version = as_committed node.version }) last.node_is) in
       let next : here ≡ next_beside cells slot = sym (ap beside last.found) in

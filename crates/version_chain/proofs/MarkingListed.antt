@@ -1,12 +1,12 @@
 -- For `Chains::mark_slot` and `mark`. A version is marked where it stands.
-use Rattle.std.proofs.Common.{◌≡◌, inl, inr, ℕ, ◌<◌, ◌==◌, Bool, true, false, cond, length, set, Option, Some, None, is_some, IsSome, refl, sym, ap, subst, ◌∙◌, arith}
+use Rattle.std.proofs.Common.{◌≡◌, inl, inr, ℕ, ◌<◌, ◌==◌, Bool, true, false, cond, length, set, Option, Some, None, is_some, IsSome, refl, sym, ap, subst, ◌∙◌}
 use Rattle.std.proofs.lemmas.Bool.{eq-eqb, eqb-true}
 use Rattle.std.proofs.lemmas.List.{get_or-set_same, get_or-set_other}
 use Rattle.version_arena.specs.Arena.{entry, IsLive, next_beside}
 use Rattle.version_chain.specs.declared.version.Node.{Node}
 use Rattle.version_chain.specs.declared.stamp_list.Kept.{Kept}
 use Rattle.version_chain.specs.Heads.{Heads, latest_slot}
-use Rattle.version_chain.specs.Chain.{Cells, HoldsChains, HasShare, chain_versions, at_stamp, IsMarkedAt}
+use Rattle.version_chain.specs.Chain.{Cells, HoldsChains, chain_versions, at_stamp, IsMarkedAt}
 use Rattle.version_chain.specs.Listed.{is_at_stamp, is_named, chain_of, chain_in, with_latest, NoneMove}
 use Rattle.version_chain.specs.Place.{IsPlace, is_past}
 use Rattle.version_chain.proofs.Finding.{last_is, found_at}
@@ -62,7 +62,6 @@ module _ (old new : Cells) (slot : ℕ) (node : Node) (held : entry old slot ≡
 pub record MarkedSlot (old new : Cells) (chains after : Heads) (kept : Kept) (chain : ℕ) : Type 0 where
   pub known : chain < length chains.heads
   pub left : Marked old new chains after chain kept.stamp
-  pub share : HasShare old chains → HasShare new after
   pub stays : NoneMove old new chains.tenant
   pub place : chain ≡ chain_in old kept.slot
   pub places : (slot : ℕ) → chain_in new slot ≡ chain_in old slot
@@ -85,7 +84,6 @@ marks_slot old new chains kept chain mark place stands named rises rises_is =
     record {
       known = subst (λ n. n < length chains.heads) (sym chain_is) at.known;
       left = left;
-      share = λ share. (let live = left.live in let long = left.kept.long in omega (arith, share, live, long));
       stays = λ slot stamp.
           ap (λ (b : Cells). is_at_stamp chains.tenant stamp (entry b slot)) mark.new_is
           ∙ each_entry old new kept.slot node mark.held (λ e f. is_at_stamp chains.tenant stamp e ≡ is_at_stamp chains.tenant stamp f) refl (λ e. refl) slot;

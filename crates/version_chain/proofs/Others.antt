@@ -1,5 +1,5 @@
 -- For `Chains`: link, unlink, mark and cut_below. The cells of other tenants after a write.
-use Rattle.std.proofs.Common.{◌≡◌, ◌≢◌, ◌⊎◌, inl, inr, ℕ, ◌<◌, Bool, if◌then◌else◌, cond, length, set, Option, Some, None, refl, sym, ap, ◌∙◌, length-set}
+use Rattle.std.proofs.Common.{◌≡◌, ◌≢◌, ◌⊎◌, inl, inr, ℕ, ◌<◌, Bool, if◌then◌else◌, cond, length, set, Option, Some, None, sym, ap, ◌∙◌, length-set}
 use Rattle.std.proofs.lemmas.Bool.{ne_eqb}
 use Rattle.std.proofs.lemmas.List.{get_or-set_same, get_or-set_other}
 use Rattle.version_arena.specs.Arena.{entry}
@@ -13,9 +13,6 @@ ones tenant cell = cond (is_of_tenant tenant cell) 1 0
 
 pub none_of : (tenant other : ℕ) (node : Node) (next : Option ℕ) → node.tenant ≡ tenant → other ≢ tenant → cell_of other (Some (node, next)) ≡ None
 none_of tenant other node next whose different = ap (λ (b : Bool). if b then Some (node, next) else None) (ne_eqb node.tenant other (λ same. different (sym same ∙ whose)))
-
-pub kept-same : (cells : Cells) (tenant : ℕ) → OthersKept cells cells tenant
-kept-same cells tenant = record { long = refl; cells = λ other slot different. refl }
 
 pub kept-then : (first second third : Cells) (tenant : ℕ) → OthersKept first second tenant → OthersKept second third tenant → OthersKept first third tenant
 kept-then first second third tenant one two = record { long = two.long ∙ one.long; cells = λ other slot different. two.cells other slot different ∙ one.cells other slot different }

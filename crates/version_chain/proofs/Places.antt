@@ -1,13 +1,13 @@
 -- For the callers of `Chains` that go over the listed versions of a stamp. They are the versions of this stamp in the chains.
 use Rattle.std.proofs.Common.{◌≡◌, inl, inr, ℕ, zero, suc, ◌+◌, ◌-◌, ◌<◌, ◌≤◌, ◌==◌, ◌&&◌, not, Bool, true, false, cond, List, [], ◌∷◌, filter, map, length, length-drop, drop, get_or, count_by, sum_by, Option, Some, None, refl, sym, ap, subst, ◌∙◌, arith}
 use Rattle.std.proofs.lemmas.Bool.{eq-eqb, eqb-true, cases_Bool, false_from_ne_true}
-use Rattle.std.specs.Prelude.{slice_range}
 use Rattle.std.proofs.lemmas.List.{get_or-take, get_or-drop, length-take-le}
 use Rattle.std.proofs.lemmas.List.Sums.{sum_by-cons, length-filter, count_by-le-length}
 use Rattle.version_arena.specs.Arena.{entry}
 use Rattle.version_chain.specs.declared.version.Node.{Node}
 use Rattle.version_chain.specs.declared.version.Version.{Version}
 use Rattle.version_chain.specs.declared.stamp_list.Kept.{Kept}
+use Rattle.version_chain.specs.Changes.{IsRunOf}
 use Rattle.version_chain.specs.Heads.{Heads, head}
 use Rattle.version_chain.specs.Chain.{Cells, IsPath, HoldsChains, chain_versions, follow}
 use Rattle.version_chain.specs.Listed.{is_at_stamp, is_named, chain_of, chain_in, Lists, IsSwept}
@@ -153,15 +153,15 @@ places_few chains stamp =
     omega arith
 
 -- the versions of a stamp where they stand in the list
-module _ (chains : Heads) (stamp first end : ℕ) (ordered : first ≤ end) (within : end ≤ length chains.kept) (together : slice_range chains.kept first end ≡ places chains stamp) where
+module _ (chains : Heads) (stamp first end : ℕ) (run : IsRunOf stamp chains.kept first end) where
   pub places_long : length (places chains stamp) ≡ end - first
   places_long =
       let long = length-drop first chains.kept in
-      sym (ap (λ (xs : List Kept). length xs) together) ∙ length-take-le (end - first) (drop first chains.kept) (omega (arith, long))
+      sym (ap (λ (xs : List Kept). length xs) run.together) ∙ length-take-le (end - first) (drop first chains.kept) (omega (arith, long, run.ordered, run.within))
 
   pub place_in : (j : ℕ) (kept : Kept) → j < end - first → kept ≡ get_or chains.kept (first + j) kept → kept ≡ get_or (places chains stamp) j kept
   place_in j kept less is =
       is
       ∙ sym (get_or-drop first chains.kept j kept)
       ∙ sym (get_or-take (end - first) (drop first chains.kept) j kept less)
-      ∙ ap (λ (xs : List Kept). get_or xs j kept) together
+      ∙ ap (λ (xs : List Kept). get_or xs j kept) run.together

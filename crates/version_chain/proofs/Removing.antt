@@ -1,11 +1,12 @@
 -- For `Chains::unlink`. A version leaves a chain.
 use Rattle.std.proofs.Common.{◌≡◌, ◌≢◌, ℕ, ◌+◌, ◌<◌, List, [], ◌∷◌, ◌++◌, length, set, Option, Some, None, IsSome, is_some, refl, sym, ap, subst, ◌∙◌, arith, append_assoc, length-set}
 use Rattle.std.proofs.lemmas.List.{get_or-set_same, get_or-set_other}
-use Rattle.version_arena.specs.Arena.{entry, next_beside, live_count, with_next as with_next_beside}
+use Rattle.version_arena.specs.Arena.{entry, next_beside, with_next as with_next_beside}
 use Rattle.version_chain.specs.declared.version.Node.{Node}
 use Rattle.version_chain.specs.declared.version.Version.{Version}
 use Rattle.version_chain.specs.Heads.{Heads, head}
-use Rattle.version_chain.specs.Chain.{Cells, IsPath, FallsBelow, Falls, KeepsLatest, HoldsChains, chain_versions, IsInserted, cell_of, OthersKept, OtherChainsKept}
+use Rattle.version_chain.specs.Chain.{Cells, IsPath, FallsBelow, Falls, KeepsLatest, HoldsChains, chain_versions, cell_of, OthersKept}
+use Rattle.version_chain.specs.Changes.{ChangesChain, HaveOneMore}
 use Rattle.version_chain.specs.Place.{EndsAt, StartsBelow, IsPlace, KeepsLatestBut}
 use Rattle.version_chain.proofs.Falling.{Falls-before, Falls-after, Falls-removed, length-inserted, each_less}
 use Rattle.version_chain.proofs.Holding.{held_take, held_write, held_other, held_after}
@@ -23,12 +24,9 @@ read_here cells chains chain stamp last here slot node place at found = read_cel
 
 -- what a removal leaves
 pub record Removed (old_cells new_cells : Cells) (old new : Heads) (chain : ℕ) (version : Version) (above below : List Version) (last next : Option ℕ) : Type 0 where
-  pub stands : HoldsChains new_cells new
-  pub others : OtherChainsKept old_cells old new_cells new chain
-  pub removed : IsInserted (chain_versions new_cells new chain) (chain_versions old_cells old chain) version
+  pub changed : ChangesChain old_cells old new_cells new chain
+  pub removed : HaveOneMore new_cells new old_cells old chain version
   pub left : chain_versions new_cells new chain ≡ above ++ below
-  pub kept : OthersKept old_cells new_cells old.tenant
-  pub live : live_count new_cells + 1 ≡ live_count old_cells
   pub ends : EndsAt new_cells new.tenant chain (head new chain) above last next
   pub goes_on : IsPath new_cells new.tenant chain next below None
 
@@ -74,12 +72,13 @@ module _ (cells : Cells) (chains : Heads) (chain here : ℕ) (version : Version)
       } in
       let now = versions-replaced cells new_cells chains new chain below stands known replaced in
       record {
-        stands = Stands-replaced cells new_cells chains new chain below stands known replaced (latest_left new_cells (set chains.heads chain next) [] all (λ other. held_take cells here chains.tenant other) but);
-        others = others-replaced cells new_cells chains new chain below stands known replaced;
-        removed = record { above = []; below = below; old_is = now; new_is = all };
+        changed = record {
+          own = record { shape = replaced.shape; others = kept_take; live = let less = live-take cells here _ (live_within cells here _ held) held in omega (arith, less, fewer) };
+          stands = Stands-replaced cells new_cells chains new chain below stands known replaced (latest_left new_cells (set chains.heads chain next) [] all (λ other. held_take cells here chains.tenant other) but);
+          others = others-replaced cells new_cells chains new chain below stands known replaced;
+        };
+        removed = record { inserted = record { above = []; below = below; old_is = now; new_is = all }; used = sym fewer };
         left = now;
-        kept = kept_take;
-        live = live-take cells here _ (live_within cells here _ held) held;
         ends = (refl, begins);
         goes_on = rest;
       }
@@ -126,25 +125,27 @@ module _ (cells : Cells) (chains : Heads) (chain here : ℕ) (version : Version)
       } in
       let is = versions-replaced cells new_cells chains new chain now stands known replaced in
       subst (λ cell. Removed cells (set cells1 last cell) chains new chain version (before ++ above ∷ []) below (Some last) next) (sym (ap (λ e. with_next_beside e next) kept1)) record {
-        stands = Stands-replaced cells new_cells chains new chain now stands known replaced (latest_left new_cells chains.heads (before ++ above ∷ []) whole
-            (λ k. held_after cells cells1 new_cells here chains.tenant k (held_take cells here chains.tenant k) (held_write cells1 last chains.tenant chain above above (Some here) next chains.tenant k kept1 refl)) but);
-        others = others-replaced cells new_cells chains new chain now stands known replaced;
-        removed = record { above = before ++ above ∷ []; below = below; old_is = is; new_is = whole };
+        changed = record {
+          own = record {
+            shape = replaced.shape;
+            others = kept-then cells cells1 new_cells chains.tenant kept_take (kept-set cells1 chains.tenant last _ last_within (λ other different. ap (cell_of other) kept1 ∙ none_of chains.tenant other last_node (Some here) refl different) (λ other different. none_of chains.tenant other last_node next refl different));
+            live = (let same = live-write cells1 last _ (last_node, next) last_within kept1 in let one = live-take cells here _ (live_within cells here _ held) held in omega (arith, same, one, fewer));
+          };
+          stands = Stands-replaced cells new_cells chains new chain now stands known replaced (latest_left new_cells chains.heads (before ++ above ∷ []) whole
+              (λ k. held_after cells cells1 new_cells here chains.tenant k (held_take cells here chains.tenant k) (held_write cells1 last chains.tenant chain above above (Some here) next chains.tenant k kept1 refl)) but);
+          others = others-replaced cells new_cells chains new chain now stands known replaced;
+        };
+        removed = record { inserted = record { above = before ++ above ∷ []; below = below; old_is = is; new_is = whole }; used = sym fewer };
         left = is;
-        kept = kept-then cells cells1 new_cells chains.tenant kept_take (kept-set cells1 chains.tenant last _ last_within (λ other different. ap (cell_of other) kept1 ∙ none_of chains.tenant other last_node (Some here) refl different) (λ other different. none_of chains.tenant other last_node next refl different));
-        live = (let same = live-write cells1 last _ (last_node, next) last_within kept1 in let one = live-take cells here _ (live_within cells here _ held) held in omega arith);
         ends = (before, above, refl, first1, at_last);
         goes_on = rest;
       }
 
 -- what is left of a chain without a version
 pub record Unlinked (old_cells new_cells : Cells) (old new : Heads) (chain : ℕ) (version : Version) (stamp : ℕ) (last next : Option ℕ) : Type 0 where
-  pub stands : HoldsChains new_cells new
-  pub others : OtherChainsKept old_cells old new_cells new chain
-  pub removed : IsInserted (chain_versions new_cells new chain) (chain_versions old_cells old chain) version
+  pub changed : ChangesChain old_cells old new_cells new chain
+  pub removed : HaveOneMore new_cells new old_cells old chain version
   pub place : IsPlace new_cells new chain stamp last next
-  pub kept : OthersKept old_cells new_cells old.tenant
-  pub live : live_count new_cells + 1 ≡ live_count old_cells
 
 starts_later : (stamp : ℕ) (version : Version) (below : List Version) → StartsBelow stamp (version ∷ below) → FallsBelow version.prepared.stamp below → StartsBelow stamp below
 starts_later stamp version [] within falls = tt
@@ -161,11 +162,8 @@ module _ (cells : Cells) (chains : Heads) (chain stamp here : ℕ) (node : Node)
       let whole : chain_versions cells chains chain ≡ place.above ++ node.version ∷ below = place.all ∙ ap (λ vs. place.above ++ vs) is in
       let falls : FallsBelow node.version.prepared.stamp below = Falls-after place.above node.version below (subst Falls whole (stands.falling chain known)) in
       record {
-        stands = removed.stands;
-        others = removed.others;
+        changed = removed.changed;
         removed = removed.removed;
-        kept = removed.kept;
-        live = removed.live;
         place = record { above = place.above; below = below; all = removed.left; ends = removed.ends; goes_on = removed.goes_on; not_less = place.not_less; less = starts_later stamp node.version below (subst (StartsBelow stamp) is place.less) falls };
       }
 

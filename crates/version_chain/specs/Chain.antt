@@ -51,6 +51,10 @@ abbrev pub committed_records : List Version → List Record
 committed_records versions =
     map (λ (version : Version). version.prepared) (filter (λ (version : Version). version.committed) versions)
 
+-- the committed record of the greatest stamp in a chain
+abbrev pub latest_record : Cells → Heads → ℕ → Option Record
+latest_record cells chains chain = slice_get (committed_records (chain_versions cells chains chain)) 0
+
 -- the cell that is kept of a chain with these versions holds the latest committed one; where none is committed, none is
 -- kept
 abbrev pub KeepsLatest : Cells → ℕ → ℕ → List Version → Option ℕ → Type 0

@@ -1,10 +1,24 @@
--- The list of the kept versions while those of a stamp are dropped. No public clause cites this module.
-use Rattle.std.specs.Prelude.{◌≡◌, ℕ, ◌==◌, ◌&&◌, not, List, count_by}
+-- The cells and the list of the kept versions while those of a stamp are dropped. No public clause cites this module.
+use Rattle.std.specs.Prelude.{◌≡◌, ◌≢◌, ℕ, ◌==◌, ◌&&◌, not, false, List, count_by, None}
 use Rattle.version_chain.specs.declared.stamp_list.Kept.{Kept}
+use Rattle.version_chain.specs.Heads.{Heads}
 use Rattle.version_chain.specs.Chain.{Cells}
-use Rattle.version_chain.specs.Listed.{is_named}
+use Rattle.version_chain.specs.Listed.{is_named, node_in, is_open_node, NodesStay}
 
 -- each version of another stamp is held in the cell that the list names
 abbrev pub IsSweptBut : ℕ → ℕ → Cells → List Kept → Type 0
 IsSweptBut stamp tenant cells kept =
     count_by (λ (k : Kept). not (k.stamp == stamp) && not (is_named tenant cells k)) kept ≡ 0
+
+-- the version left the cell of this slot, and each other cell holds what it held
+pub record FreesOnly (old new : Cells) (slot : ℕ) : Type 0 where
+  pub free : node_in new slot ≡ None
+  pub rest : (place : ℕ) → place ≢ slot → node_in new place ≡ node_in old place
+
+-- at most versions of this stamp that are not committed left their cells, each other cell holds what it held, and the
+-- list names what it named
+pub record DropsOpen (stamp : ℕ) (old_cells : Cells) (old : Heads) (new_cells : Cells) (new : Heads) : Type 0 where
+  pub nodes : NodesStay old_cells new_cells
+  pub rest : (place : ℕ) → is_open_node old.tenant stamp (node_in old_cells place) ≡ false
+      → node_in new_cells place ≡ node_in old_cells place
+  pub list : new.kept ≡ old.kept

@@ -1,6 +1,6 @@
 -- Where the chains of a tenant begin and their latest committed versions stand, how many cells they may have, and the
 -- list of their versions.
-use Rattle.std.specs.Prelude.{ℕ, List, Option, None, slice_index_or}
+use Rattle.std.specs.Prelude.{ℕ, List, [], Option, None, replicate, slice_index_or}
 use Rattle.version_chain.specs.declared.stamp_list.Kept.{Kept}
 
 pub record Heads : Type 0 where
@@ -22,3 +22,15 @@ head chains chain = slice_index_or chains.heads chain None
 -- the slot of the latest committed version of a chain
 abbrev pub latest_slot : Heads → ℕ → Option ℕ
 latest_slot chains chain = slice_index_or chains.latest chain None
+
+-- so many chains of a tenant, which have no version
+abbrev pub no_versions : ℕ → ℕ → ℕ → Heads
+no_versions tenant share chains =
+    record {
+      tenant = tenant;
+      share = share;
+      used = 0;
+      heads = replicate chains None;
+      latest = replicate chains None;
+      kept = [];
+    }

@@ -65,7 +65,8 @@ impl ChainList {
     pub fn is_chain(&self, at: usize, other: &ChainList, place: usize) -> bool
         requires own { at < length self.now }
         requires others { place < length other.now }
-        ensures { IsTrue result ↔ (slice_index_or self.now at [] ≡ slice_index_or other.now place []) }
+        ensures { IsTrue result
+            ↔ (slice_index_or self.now at [] ≡ slice_index_or other.now place []) }
     {
         let (start, count) = part_at(&self.ends, at);
         let (from, many) = part_at(&other.ends, place);

@@ -1,10 +1,13 @@
 // The chains of one tenant.
-ghost use Rattle.std.specs.Prelude.{◌≡◌, ◌≢◌, ◌↔◌, ℕ, ◌+◌, ◌-◌, ◌^◌, ◌<◌, ◌≤◌, ◌==◌, ◌&&◌, if◌then◌else◌, List, replicate, IsTrue, IsSome, IsSomeAnd, true, false, [], ◌++◌, count_by, length, map, filter, slice_get, slice_range, slice_index_or, option_copied, Option, Some, None, IfOk};
-ghost use Rattle.version_arena.specs.Arena.{entry, live_count, next_beside};
+ghost use Rattle.std.specs.Prelude.{◌≡◌, ◌↔◌, ℕ, ◌+◌, ◌-◌, ◌^◌, ◌<◌, ◌≤◌, ◌==◌, ◌&&◌, if◌then◌else◌, List, replicate, IsTrue, IsSome, IsSomeAnd, true, false, ◌++◌, length, map, filter, slice_get, slice_index_or, option_copied, Option, Some, None, IfOk};
+ghost use Rattle.version_arena.specs.Arena.{entry, next_beside};
 ghost use Rattle.version_chain.specs.declared.version.Version.{Version};
-ghost use Rattle.version_chain.specs.Chain.{Cells, IsPath, KeepsLatest, is_of_tenant, HoldsChains, HasShare, SameShape, chain_versions, at_stamp, first_record, lent_version, committed_records, stamp_of, marked_by, not_below, without_open, IsInserted, OthersKept, OtherChainsKept};
-ghost use Rattle.version_chain.specs.Listed.{is_named, chain_in, with_kept, with_latest, Lists, IsSwept, IsPutAt, NoneCome, NoneMove, NodesStay, node_in, is_open_node};
-ghost use Rattle.version_chain.specs.Discarded.{IsSweptBut};
+ghost use Rattle.version_chain.specs.Chain.{IsPath, KeepsLatest, HoldsChains, HasShare, chain_versions, at_stamp, first_record, latest_record, lent_version, committed_records, stamp_of, marked_by, not_below, without_open};
+ghost use Rattle.version_chain.specs.Changes.{HasChain, HasRoomFor, ListsExactly, ChangesChain, EachChainIs, GivesUp, HaveOneMore, InsertAnswers, IsRunOf, MarksOnly, Unchanged};
+ghost use Rattle.version_chain.specs.Discarded.{DropsOpen, FreesOnly, IsSweptBut};
+ghost use Rattle.version_chain.specs.Heads.{no_versions};
+ghost use Rattle.version_chain.specs.Listed.{is_named, chain_in, with_kept, Lists, IsPutAt, node_in, is_open_node};
+ghost use Rattle.version_chain.specs.Sharing.{ChangesOwn};
 
 use crate::kept_list::KeptList;
 use crate::shared_block::Block;
@@ -72,18 +75,11 @@ impl Model for Chains {
 
 impl Chains {
     ghost use Rattle.version_chain.specs.Place.{IsPlace, IsNear, is_near_node, least_of, slot_after, IsLiveSlot, KeepsLatestBut, is_past, is_at, versions_from};
-    ghost use Rattle.version_chain.specs.declared.chains.Insert.TheVariants.{Added, Same, Other, Full};
 
     /// So many empty chains of a tenant, which may have `cells` cells, in a block with no version of this tenant. It
     /// takes time for each chain, and memory for each chain and each cell. The one error is that this allocation failed.
     pub fn open(alloc: Global, cells: u32, chains: u32, tenant: u32) -> Result<Chains, AllocError>
-        ensures shape { IfOk result (λ opened. (opened.tenant ≡ tenant) × (opened.share ≡ cells) × (length opened.heads ≡ chains)) }
-        ensures none_used { IfOk result (λ opened. opened.used ≡ 0) }
-        ensures stands { IfOk result (λ opened. (block : Cells) → count_by (is_of_tenant tenant) block ≡ 0 → HoldsChains block opened) }
-        ensures listed { IfOk result (λ opened. opened.kept ≡ []) }
-        ensures lists { IfOk result (λ opened. (block : Cells) → count_by (is_of_tenant tenant) block ≡ 0 → Lists block opened) }
-        ensures swept { IfOk result (λ opened. (block : Cells) → IsSwept block opened) }
-        ensures empty { IfOk result (λ opened. (block : Cells) → (chain : ℕ) → chain < chains → chain_versions block opened chain ≡ []) }
+        ensures { IfOk result (λ opened. opened ≡ no_versions tenant cells chains) }
     {
         Ok(Chains {
             heads: no_slots(alloc, chains)?,
@@ -104,8 +100,7 @@ impl Chains {
 
     /// The record of this stamp in a chain, if there is one. It visits what a search for the stamp does.
     pub fn find<'b>(&self, block: &'b Block, chain: u32, stamp: Stamp) -> Option<&'b Record>
-        requires known { chain < length self.now.heads }
-        requires stands { HoldsChains block.now self.now }
+        requires { HasChain block.now self.now chain }
         ensures { option_copied result ≡ at_stamp (chain_versions block.now self.now chain) stamp }
     {
         let (last, _) = self.seek(block, chain, stamp);
@@ -114,8 +109,7 @@ impl Chains {
 
     // The last slot whose stamp is not below this one, and the slot after it.
     fn seek(&self, block: &Block, chain: u32, stamp: Stamp) -> (Option<Slot>, Option<Slot>)
-        requires known { chain < length self.now.heads }
-        requires stands { HoldsChains block.now self.now }
+        requires { HasChain block.now self.now chain }
         ensures { IsPlace block.now self.now chain stamp result.0 result.1 }
     {
         let bound = Bound::From(stamp);
@@ -125,8 +119,7 @@ impl Chains {
     // The last slot of a chain that is within a bound, and the slot after it. It visits the versions of the chain down to
     // there, or, where these are many, some of them beside the listed versions from the bound up to the next one of the chain.
     fn seek_within(&self, block: &Block, chain: u32, bound: &Bound) -> (Option<Slot>, Option<Slot>)
-        requires known { chain < length self.now.heads }
-        requires stands { HoldsChains block.now self.now }
+        requires { HasChain block.now self.now chain }
         ensures { IsPlace block.now self.now chain (least_of bound.now) result.0 result.1 }
     {
         let near = self.near(block, chain, bound);
@@ -137,8 +130,7 @@ impl Chains {
     // Behind the first few versions it looks alternately at one of the chain, from the head down, and at one of the list, from
     // the bound up. The first of the listed ones that stands in the chain is the last within the bound.
     fn near(&self, block: &Block, chain: u32, bound: &Bound) -> Option<Slot>
-        requires known { chain < length self.now.heads }
-        requires stands { HoldsChains block.now self.now }
+        requires { HasChain block.now self.now chain }
         ensures { IsNear block.now self.now chain (least_of bound.now) result }
     {
         if !self.is_far(block, chain, bound) {
@@ -166,8 +158,7 @@ impl Chains {
 
     // Whether the first few versions of a chain are all within a bound.
     fn is_far(&self, block: &Block, chain: u32, bound: &Bound) -> bool
-        requires known { chain < length self.now.heads }
-        requires stands { HoldsChains block.now self.now }
+        requires { HasChain block.now self.now chain }
     {
         let mut here = self.heads[chain as usize];
         for _step in 0..FEW {
@@ -184,7 +175,8 @@ impl Chains {
 
     // Whether the cell of a slot holds a version of this chain that is within a bound.
     fn is_near(&self, block: &Block, chain: u32, bound: &Bound, slot: Slot) -> bool
-        ensures { result ≡ is_near_node self.now.tenant chain (least_of bound.now) (node_in block.now slot) }
+        ensures { result ≡ is_near_node self.now.tenant chain (least_of bound.now)
+            (node_in block.now slot) }
     {
         if !block.is_live(slot) {
             return false;
@@ -202,8 +194,7 @@ impl Chains {
         bound: &Bound,
         near: Option<Slot>,
     ) -> (Option<Slot>, Option<Slot>)
-        requires known { chain < length self.now.heads }
-        requires stands { HoldsChains block.now self.now }
+        requires chain { HasChain block.now self.now chain }
         requires near { IsNear block.now self.now chain (least_of bound.now) near }
         ensures { IsPlace block.now self.now chain (least_of bound.now) result.0 result.1 }
     {
@@ -239,8 +230,7 @@ impl Chains {
         stamp: Stamp,
         last: Option<Slot>,
     ) -> Option<&'b Record>
-        requires known { chain < length self.now.heads }
-        requires stands { HoldsChains block.now self.now }
+        requires chain { HasChain block.now self.now chain }
         requires place { (here : Option ℕ) × IsPlace block.now self.now chain stamp last here }
         ensures { option_copied result ≡ at_stamp (chain_versions block.now self.now chain) stamp }
     {
@@ -256,26 +246,13 @@ impl Chains {
     /// many cells are free as it may still use, and that a sweep followed each cut. It visits what a search for the
     /// record's stamp does, and shifts the listed versions of greater stamps.
     pub fn insert_from(&mut self, block: &mut Block, chain: u32, added: &Record) -> Insert
-        requires known { chain < length self.old.heads }
-        requires stands { HoldsChains block.old self.old }
+        requires chain { HasChain block.old self.old chain }
+        requires list { ListsExactly block.old self.old }
         requires share { HasShare block.old self.old }
-        requires listed { Lists block.old self.old }
-        requires swept { IsSwept block.old self.old }
-        ensures stands { HoldsChains block.new self.new }
-        ensures shape { SameShape self.old self.new }
-        ensures share { HasShare block.new self.new }
-        ensures listed { Lists block.new self.new }
-        ensures swept { IsSwept block.new self.new }
-        ensures others { OthersKept block.old block.new self.old.tenant }
-        ensures chains { OtherChainsKept block.old self.old block.new self.new chain }
-        ensures added { result ≡ Added → IsInserted (chain_versions block.old self.old chain) (chain_versions block.new self.new chain) (record { prepared = added.now; committed = false }) }
-        ensures one_more { result ≡ Added → (self.new.used ≡ self.old.used + 1) × (live_count block.new ≡ live_count block.old + 1) }
-        ensures not_added { result ≢ Added → (block.new ≡ block.old) × (self.new ≡ self.old) }
-
-        // Which one it is.
-        ensures same { result ≡ Same ↔ (at_stamp (chain_versions block.old self.old chain) added.now.stamp ≡ Some added.now) }
-        ensures other { result ≡ Other ↔ IsSomeAnd (at_stamp (chain_versions block.old self.old chain) added.now.stamp) (λ found. found ≢ added.now) }
-        ensures full { result ≡ Full ↔ (at_stamp (chain_versions block.old self.old chain) added.now.stamp ≡ None) × (self.old.used ≡ self.old.share) }
+        ensures changed { ChangesChain block.old self.old block.new self.new chain }
+        ensures list { ListsExactly block.new self.new }
+        ensures answer { InsertAnswers result
+            block.old self.old block.new self.new chain added.now }
     {
         let stamp = stamp_of(added);
         let (last, here) = self.seek(block, chain, stamp);
@@ -296,26 +273,12 @@ impl Chains {
 
     /// Does what `insert_from` does, with a record that is given.
     pub fn insert(&mut self, block: &mut Block, chain: u32, added: Record) -> Insert
-        requires known { chain < length self.old.heads }
-        requires stands { HoldsChains block.old self.old }
+        requires chain { HasChain block.old self.old chain }
+        requires list { ListsExactly block.old self.old }
         requires share { HasShare block.old self.old }
-        requires listed { Lists block.old self.old }
-        requires swept { IsSwept block.old self.old }
-        ensures stands { HoldsChains block.new self.new }
-        ensures shape { SameShape self.old self.new }
-        ensures share { HasShare block.new self.new }
-        ensures listed { Lists block.new self.new }
-        ensures swept { IsSwept block.new self.new }
-        ensures others { OthersKept block.old block.new self.old.tenant }
-        ensures chains { OtherChainsKept block.old self.old block.new self.new chain }
-        ensures added { result ≡ Added → IsInserted (chain_versions block.old self.old chain) (chain_versions block.new self.new chain) (record { prepared = added; committed = false }) }
-        ensures one_more { result ≡ Added → (self.new.used ≡ self.old.used + 1) × (live_count block.new ≡ live_count block.old + 1) }
-        ensures not_added { result ≢ Added → (block.new ≡ block.old) × (self.new ≡ self.old) }
-
-        // Which one it is.
-        ensures same { result ≡ Same ↔ (at_stamp (chain_versions block.old self.old chain) added.stamp ≡ Some added) }
-        ensures other { result ≡ Other ↔ IsSomeAnd (at_stamp (chain_versions block.old self.old chain) added.stamp) (λ found. found ≢ added) }
-        ensures full { result ≡ Full ↔ (at_stamp (chain_versions block.old self.old chain) added.stamp ≡ None) × (self.old.used ≡ self.old.share) }
+        ensures changed { ChangesChain block.old self.old block.new self.new chain }
+        ensures list { ListsExactly block.new self.new }
+        ensures answer { InsertAnswers result block.old self.old block.new self.new chain added }
     {
         self.insert_from(block, chain, &added)
     }
@@ -324,22 +287,12 @@ impl Chains {
     /// tenant's share. The condition is also that of `insert`. It visits what a search for the version's stamp does, and
     /// shifts the listed versions of greater stamps.
     pub fn put(&mut self, block: &mut Block, chain: u32, version: &Version)
-        requires known { chain < length self.old.heads }
-        requires stands { HoldsChains block.old self.old }
-        requires share { HasShare block.old self.old }
-        requires listed { Lists block.old self.old }
-        requires swept { IsSwept block.old self.old }
-        requires room { self.old.used < self.old.share }
-        requires missing { at_stamp (chain_versions block.old self.old chain) version.now.prepared.stamp ≡ None }
-        ensures stands { HoldsChains block.new self.new }
-        ensures shape { SameShape self.old self.new }
-        ensures share { HasShare block.new self.new }
-        ensures listed { Lists block.new self.new }
-        ensures swept { IsSwept block.new self.new }
-        ensures others { OthersKept block.old block.new self.old.tenant }
-        ensures chains { OtherChainsKept block.old self.old block.new self.new chain }
-        ensures added { IsInserted (chain_versions block.old self.old chain) (chain_versions block.new self.new chain) version.now }
-        ensures one_more { (self.new.used ≡ self.old.used + 1) × (live_count block.new ≡ live_count block.old + 1) }
+        requires chain { HasChain block.old self.old chain }
+        requires list { ListsExactly block.old self.old }
+        requires room { HasRoomFor block.old self.old chain version.now.prepared.stamp }
+        ensures changed { ChangesChain block.old self.old block.new self.new chain }
+        ensures list { ListsExactly block.new self.new }
+        ensures added { HaveOneMore block.old self.old block.new self.new chain version.now }
     {
         let (last, here) = self.seek(block, chain, stamp_of(&version.prepared));
         self.enter(
@@ -362,23 +315,14 @@ impl Chains {
         last: Option<Slot>,
         here: Option<Slot>,
     )
-        requires known { chain < length self.old.heads }
-        requires stands { HoldsChains block.old self.old }
-        requires share { HasShare block.old self.old }
-        requires listed { Lists block.old self.old }
-        requires swept { IsSwept block.old self.old }
-        requires room { self.old.used < self.old.share }
+        requires chain { HasChain block.old self.old chain }
+        requires list { ListsExactly block.old self.old }
+        requires room { HasRoomFor block.old self.old chain prepared.now.stamp }
         requires place { IsPlace block.old self.old chain prepared.now.stamp last here }
-        requires missing { at_stamp (chain_versions block.old self.old chain) prepared.now.stamp ≡ None }
-        ensures stands { HoldsChains block.new self.new }
-        ensures shape { SameShape self.old self.new }
-        ensures share { HasShare block.new self.new }
-        ensures listed { Lists block.new self.new }
-        ensures swept { IsSwept block.new self.new }
-        ensures others { OthersKept block.old block.new self.old.tenant }
-        ensures chains { OtherChainsKept block.old self.old block.new self.new chain }
-        ensures added { IsInserted (chain_versions block.old self.old chain) (chain_versions block.new self.new chain) (record { prepared = prepared.now; committed = committed }) }
-        ensures one_more { (self.new.used ≡ self.old.used + 1) × (live_count block.new ≡ live_count block.old + 1) }
+        ensures changed { ChangesChain block.old self.old block.new self.new chain }
+        ensures list { ListsExactly block.new self.new }
+        ensures added { HaveOneMore block.old self.old block.new self.new chain
+            (record { prepared = prepared.now; committed = committed }) }
     {
         let stamp = stamp_of(prepared);
         let slot = self.link(block, chain, prepared, committed, last, here);
@@ -395,20 +339,14 @@ impl Chains {
         last: Option<Slot>,
         here: Option<Slot>,
     ) -> Slot
-        requires known { chain < length self.old.heads }
-        requires stands { HoldsChains block.old self.old }
-        requires share { HasShare block.old self.old }
-        requires room { self.old.used < self.old.share }
+        requires chain { HasChain block.old self.old chain }
+        requires room { HasRoomFor block.old self.old chain prepared.now.stamp }
         requires place { IsPlace block.old self.old chain prepared.now.stamp last here }
-        requires missing { at_stamp (chain_versions block.old self.old chain) prepared.now.stamp ≡ None }
-        ensures stands { HoldsChains block.new self.new }
-        ensures shape { SameShape self.old self.new }
-        ensures others { OthersKept block.old block.new self.old.tenant }
-        ensures chains { OtherChainsKept block.old self.old block.new self.new chain }
+        ensures changed { ChangesChain block.old self.old block.new self.new chain }
         ensures put { IsPutAt block.old block.new self.old.tenant prepared.now.stamp result }
         ensures kept { self.new.kept ≡ self.old.kept }
-        ensures linked { IsInserted (chain_versions block.old self.old chain) (chain_versions block.new self.new chain) (record { prepared = prepared.now; committed = committed }) }
-        ensures one_more { (self.new.used ≡ self.old.used + 1) × (live_count block.new ≡ live_count block.old + 1) }
+        ensures added { HaveOneMore block.old self.old block.new self.new chain
+            (record { prepared = prepared.now; committed = committed }) }
     {
         let rises = self.rises(block, chain, stamp_of(prepared), committed);
         let node = Node {
@@ -434,9 +372,7 @@ impl Chains {
     /// Where the versions of a stamp begin and end in the list of the kept ones, in which they stand side by side. It finds
     /// them by a binary search.
     pub fn places_at(&self, stamp: Stamp) -> (usize, usize)
-        ensures ordered { result.0 ≤ result.1 }
-        ensures within { result.1 ≤ length self.now.kept }
-        ensures together { slice_range self.now.kept result.0 result.1 ≡ filter (λ k. k.stamp == stamp) self.now.kept }
+        ensures { IsRunOf stamp self.now.kept result.0 result.1 }
     {
         self.kept.places(stamp)
     }
@@ -461,18 +397,16 @@ impl Chains {
 
     // Whether a version is committed and its stamp above those of the committed versions of a chain.
     fn rises(&self, block: &Block, chain: u32, stamp: Stamp, committed: bool) -> bool
-        requires known { chain < length self.now.heads }
-        requires stands { HoldsChains block.now self.now }
-        ensures { result ≡ (committed && is_past (slice_get (committed_records (chain_versions block.now self.now chain)) 0) stamp) }
+        requires { HasChain block.now self.now chain }
+        ensures { result ≡ (committed && is_past (latest_record block.now self.now chain) stamp) }
     {
         committed && self.is_past(block, chain, stamp)
     }
 
     // Whether this stamp is above those of the committed versions of a chain.
     fn is_past(&self, block: &Block, chain: u32, stamp: Stamp) -> bool
-        requires known { chain < length self.now.heads }
-        requires stands { HoldsChains block.now self.now }
-        ensures { result ≡ is_past (slice_get (committed_records (chain_versions block.now self.now chain)) 0) stamp }
+        requires { HasChain block.now self.now chain }
+        ensures { result ≡ is_past (latest_record block.now self.now chain) stamp }
     {
         match self.latest(block, chain) {
             Some(latest) => latest.stamp < stamp,
@@ -483,18 +417,14 @@ impl Chains {
     /// Marks the version of a stamp in a chain as committed, and answers whether the chain has one; it may have been marked
     /// before. Where it has none, nothing changes. It visits what a search for the stamp does, and then what `mark_slot` does.
     pub fn mark(&mut self, block: &mut Block, chain: u32, stamp: Stamp) -> bool
-        requires known { chain < length self.old.heads }
-        requires stands { HoldsChains block.old self.old }
-        ensures stands { HoldsChains block.new self.new }
-        ensures share { HasShare block.old self.old → HasShare block.new self.new }
-        ensures rest { self.new ≡ with_latest self.old self.new.latest }
-        ensures stays { NoneMove block.old block.new self.old.tenant }
-        ensures others { OthersKept block.old block.new self.old.tenant }
-        ensures chains { OtherChainsKept block.old self.old block.new self.new chain }
-        ensures marked { chain_versions block.new self.new chain ≡ map (marked_by stamp) (chain_versions block.old self.old chain) }
-        ensures found { IsTrue result ↔ IsSome (at_stamp (chain_versions block.old self.old chain) stamp) }
-        ensures missing { result ≡ false → (block.new ≡ block.old) × (self.new ≡ self.old) }
-        ensures live { live_count block.new ≡ live_count block.old }
+        requires { HasChain block.old self.old chain }
+        ensures changed { ChangesChain block.old self.old block.new self.new chain }
+        ensures only { MarksOnly block.old self.old block.new self.new }
+        ensures marked { chain_versions block.new self.new chain
+            ≡ map (marked_by stamp) (chain_versions block.old self.old chain) }
+        ensures found { IsTrue result
+            ↔ IsSome (at_stamp (chain_versions block.old self.old chain) stamp) }
+        ensures missing { result ≡ false → Unchanged block.old self.old block.new self.new }
     {
         let (last, _) = self.seek(block, chain, stamp);
         let Some(slot) = last else {
@@ -512,18 +442,14 @@ impl Chains {
     pub fn mark_slot(&mut self, block: &mut Block, kept: Kept) -> u32
         requires stands { HoldsChains block.old self.old }
         requires named { is_named self.old.tenant block.old kept ≡ true }
-        ensures stands { HoldsChains block.new self.new }
-        ensures share { HasShare block.old self.old → HasShare block.new self.new }
-        ensures rest { self.new ≡ with_latest self.old self.new.latest }
-        ensures stays { NoneMove block.old block.new self.old.tenant }
-        ensures others { OthersKept block.old block.new self.old.tenant }
         ensures known { result < length self.old.heads }
         ensures place { result ≡ chain_in block.old kept.slot }
         ensures places { (slot : ℕ) → chain_in block.new slot ≡ chain_in block.old slot }
-        ensures chains { OtherChainsKept block.old self.old block.new self.new result }
-        ensures marked { chain_versions block.new self.new result ≡ map (marked_by kept.stamp) (chain_versions block.old self.old result) }
+        ensures changed { ChangesChain block.old self.old block.new self.new result }
+        ensures only { MarksOnly block.old self.old block.new self.new }
+        ensures marked { chain_versions block.new self.new result
+            ≡ map (marked_by kept.stamp) (chain_versions block.old self.old result) }
         ensures found { IsSome (at_stamp (chain_versions block.old self.old result) kept.stamp) }
-        ensures live { live_count block.new ≡ live_count block.old }
     {
         let chain = block.get(kept.slot).chain;
         let rises = self.is_past(block, chain, kept.stamp);
@@ -534,9 +460,8 @@ impl Chains {
 
     /// The committed record of the greatest stamp in a chain, if any is committed. It visits this one alone.
     pub fn latest<'b>(&self, block: &'b Block, chain: u32) -> Option<&'b Record>
-        requires known { chain < length self.now.heads }
-        requires stands { HoldsChains block.now self.now }
-        ensures { option_copied result ≡ slice_get (committed_records (chain_versions block.now self.now chain)) 0 }
+        requires { HasChain block.now self.now chain }
+        ensures { option_copied result ≡ latest_record block.now self.now chain }
     {
         let slot = self.latest[chain as usize]?;
         Some(&block.get(slot).version.prepared)
@@ -545,9 +470,9 @@ impl Chains {
     /// The stamp of the committed version before which `keep - 1` others stand in a chain, the latest first; `0.0` where
     /// fewer are committed. It visits the versions down to that one.
     pub fn kth_committed(&self, block: &Block, chain: u32, keep: Keep) -> Stamp
-        requires known { chain < length self.now.heads }
-        requires stands { HoldsChains block.now self.now }
-        ensures { result ≡ stamp_of (slice_get (committed_records (chain_versions block.now self.now chain)) (keep - 1)) }
+        requires { HasChain block.now self.now chain }
+        ensures { let committed = committed_records (chain_versions block.now self.now chain) in
+            result ≡ stamp_of (slice_get committed (keep - 1)) }
     {
         match self.nth_committed(block, chain, keep.get() - 1) {
             Some(found) => found.stamp,
@@ -557,9 +482,9 @@ impl Chains {
 
     // The committed record before which so many others stand.
     fn nth_committed<'b>(&self, block: &'b Block, chain: u32, index: u8) -> Option<&'b Record>
-        requires known { chain < length self.now.heads }
-        requires stands { HoldsChains block.now self.now }
-        ensures { option_copied result ≡ slice_get (committed_records (chain_versions block.now self.now chain)) index }
+        requires { HasChain block.now self.now chain }
+        ensures { let committed = committed_records (chain_versions block.now self.now chain) in
+            option_copied result ≡ slice_get committed index }
     {
         let mut left = index;
         let mut here = self.heads[chain as usize];
@@ -579,8 +504,7 @@ impl Chains {
 
     /// The record of the greatest stamp in a chain, if it has any. It visits this one alone.
     pub fn first<'b>(&self, block: &'b Block, chain: u32) -> Option<&'b Record>
-        requires known { chain < length self.now.heads }
-        requires stands { HoldsChains block.now self.now }
+        requires { HasChain block.now self.now chain }
         ensures { option_copied result ≡ first_record (chain_versions block.now self.now chain) }
     {
         let slot = self.heads[chain as usize]?;
@@ -590,8 +514,7 @@ impl Chains {
     /// The version at a place of a chain, from 0, the latest first: its record, and whether it is committed. `None` past the
     /// chain's end. It visits the versions down to that one.
     pub fn nth<'b>(&self, block: &'b Block, chain: u32, index: u32) -> Option<(&'b Record, bool)>
-        requires known { chain < length self.now.heads }
-        requires stands { HoldsChains block.now self.now }
+        requires { HasChain block.now self.now chain }
         ensures { lent_version result ≡ slice_get (chain_versions block.now self.now chain) index }
     {
         let mut left = index;
@@ -615,9 +538,9 @@ impl Chains {
         chain: u32,
         list: &mut VersionList,
     ) -> Result<(), AllocError>
-        requires known { chain < length self.now.heads }
-        requires stands { HoldsChains block.now self.now }
-        ensures { IfOk result (λ _. list.new ≡ list.old ++ chain_versions block.now self.now chain) }
+        requires { HasChain block.now self.now chain }
+        ensures { IfOk result (λ _. list.new
+            ≡ list.old ++ chain_versions block.now self.now chain) }
     {
         let mut here = self.heads[chain as usize];
         while let Some(slot) = here {
@@ -631,18 +554,14 @@ impl Chains {
     /// Gives up the versions of a chain below a stamp, whether they are committed or not, frees their cells, and
     /// answers how many they were; the list of the kept versions still names them. It visits all versions of the chain.
     pub fn cut_below(&mut self, block: &mut Block, chain: u32, floor: Stamp) -> u32
-        requires known { chain < length self.old.heads }
-        requires stands { HoldsChains block.old self.old }
-        ensures stands { HoldsChains block.new self.new }
-        ensures shape { SameShape self.old self.new }
-        ensures share { HasShare block.old self.old → HasShare block.new self.new }
-        ensures others { OthersKept block.old block.new self.old.tenant }
-        ensures chains { OtherChainsKept block.old self.old block.new self.new chain }
-        ensures kept { chain_versions block.new self.new chain ≡ not_below floor (chain_versions block.old self.old chain) }
-        ensures freed { result + length (chain_versions block.new self.new chain) ≡ length (chain_versions block.old self.old chain) }
-        ensures fewer { (self.new.used + result ≡ self.old.used) × (live_count block.new + result ≡ live_count block.old) }
+        requires { HasChain block.old self.old chain }
+        ensures changed { ChangesChain block.old self.old block.new self.new chain }
+        ensures kept { chain_versions block.new self.new chain
+            ≡ not_below floor (chain_versions block.old self.old chain) }
+        ensures freed { result + length (chain_versions block.new self.new chain)
+            ≡ length (chain_versions block.old self.old chain) }
+        ensures given_up { GivesUp result block.old self.old block.new self.new }
         ensures listed { Lists block.old self.old → Lists block.new self.new }
-        ensures none { result ≡ 0 → (block.new ≡ block.old) × (self.new ≡ self.old) }
     {
         let used = self.used;
         let (last, first) = self.seek(block, chain, floor);
@@ -662,20 +581,16 @@ impl Chains {
     /// listed versions of greater stamps. At most 2^61 were counted before.
     pub fn discard_at(&mut self, block: &mut Block, stamp: Stamp, visits: &mut Visits) -> u32
         requires stands { HoldsChains block.old self.old }
-        requires listed { Lists block.old self.old }
-        requires swept { IsSwept block.old self.old }
+        requires list { ListsExactly block.old self.old }
         requires few { self.old.used < 2 ^ 32 }
         requires before { visits.old ≤ 2 ^ 61 }
+        ensures own { ChangesOwn block.old block.new self.old self.new }
         ensures stands { HoldsChains block.new self.new }
-        ensures shape { SameShape self.old self.new }
-        ensures share { HasShare block.old self.old → HasShare block.new self.new }
-        ensures others { OthersKept block.old block.new self.old.tenant }
-        ensures kept { (chain : ℕ) → chain < length self.old.heads → chain_versions block.new self.new chain ≡ without_open stamp (chain_versions block.old self.old chain) }
-        ensures fewer { (self.new.used + result ≡ self.old.used) × (live_count block.new + result ≡ live_count block.old) }
-        ensures listed { Lists block.new self.new }
-        ensures swept { IsSwept block.new self.new }
-        ensures none { result ≡ 0 → (block.new ≡ block.old) × (self.new ≡ self.old) }
-        ensures visits { visits.new ≡ visits.old + length (filter (λ k. k.stamp == stamp) self.old.kept) }
+        ensures list { ListsExactly block.new self.new }
+        ensures kept { EachChainIs (without_open stamp) block.old self.old block.new self.new }
+        ensures given_up { GivesUp result block.old self.old block.new self.new }
+        ensures visits { visits.new
+            ≡ visits.old + length (filter (λ k. k.stamp == stamp) self.old.kept) }
     {
         let dropped = self.discard_each(block, stamp, visits);
         if dropped == 0 {
@@ -688,20 +603,17 @@ impl Chains {
     // Does what `discard_at` does, but for the list of the kept versions, which still names those that it gave up.
     fn discard_each(&mut self, block: &mut Block, stamp: Stamp, visits: &mut Visits) -> u32
         requires stands { HoldsChains block.old self.old }
-        requires listed { Lists block.old self.old }
-        requires swept { IsSwept block.old self.old }
+        requires list { ListsExactly block.old self.old }
         requires few { self.old.used < 2 ^ 32 }
         requires before { visits.old ≤ 2 ^ 61 }
+        ensures own { ChangesOwn block.old block.new self.old self.new }
         ensures stands { HoldsChains block.new self.new }
-        ensures shape { SameShape self.old self.new }
-        ensures share { HasShare block.old self.old → HasShare block.new self.new }
-        ensures others { OthersKept block.old block.new self.old.tenant }
-        ensures kept { (chain : ℕ) → chain < length self.old.heads → chain_versions block.new self.new chain ≡ without_open stamp (chain_versions block.old self.old chain) }
-        ensures fewer { (self.new.used + result ≡ self.old.used) × (live_count block.new + result ≡ live_count block.old) }
         ensures listed { Lists block.new self.new }
         ensures swept { IsSweptBut stamp self.new.tenant block.new self.new.kept }
-        ensures none { result ≡ 0 → (block.new ≡ block.old) × (self.new ≡ self.old) }
-        ensures visits { visits.new ≡ visits.old + length (filter (λ k. k.stamp == stamp) self.old.kept) }
+        ensures kept { EachChainIs (without_open stamp) block.old self.old block.new self.new }
+        ensures given_up { GivesUp result block.old self.old block.new self.new }
+        ensures visits { visits.new
+            ≡ visits.old + length (filter (λ k. k.stamp == stamp) self.old.kept) }
     {
         let mut dropped = 0;
         let (first, end) = self.places_at(stamp);
@@ -715,19 +627,15 @@ impl Chains {
 
     // Gives up the version in a slot, where it is one of this stamp and not committed, and answers how many it gave up.
     fn discard_slot(&mut self, block: &mut Block, stamp: Stamp, slot: Slot) -> u32
-        requires stands { HoldsChains block.old self.old }
+        requires { HoldsChains block.old self.old }
+        ensures own { ChangesOwn block.old block.new self.old self.new }
         ensures stands { HoldsChains block.new self.new }
-        ensures shape { SameShape self.old self.new }
-        ensures share { HasShare block.old self.old → HasShare block.new self.new }
-        ensures others { OthersKept block.old block.new self.old.tenant }
-        ensures left { (chain : ℕ) → chain < length self.old.heads → without_open stamp (chain_versions block.new self.new chain) ≡ without_open stamp (chain_versions block.old self.old chain) }
+        ensures left { (chain : ℕ) → chain < length self.old.heads
+            → without_open stamp (chain_versions block.new self.new chain)
+            ≡ without_open stamp (chain_versions block.old self.old chain) }
         ensures gone { is_open_node self.old.tenant stamp (node_in block.new slot) ≡ false }
-        ensures fewer { (self.new.used + result ≡ self.old.used) × (live_count block.new + result ≡ live_count block.old) }
-        ensures listed { Lists block.old self.old → Lists block.new self.new }
-        ensures nodes { NodesStay block.old block.new }
-        ensures rest { (place : ℕ) → is_open_node self.old.tenant stamp (node_in block.old place) ≡ false → node_in block.new place ≡ node_in block.old place }
-        ensures list { self.new.kept ≡ self.old.kept }
-        ensures none { result ≡ 0 → (block.new ≡ block.old) × (self.new ≡ self.old) }
+        ensures given_up { GivesUp result block.old self.old block.new self.new }
+        ensures dropped { DropsOpen stamp block.old self.old block.new self.new }
     {
         if !is_held(block, self.tenant, &Kept { stamp, slot }) {
             return 0;
@@ -739,21 +647,12 @@ impl Chains {
     // Gives up the version of this stamp in a chain, where it is not committed, frees its cell, and answers how
     // many it gave up, which is 1 or 0; the list of the kept versions still names it.
     fn discard(&mut self, block: &mut Block, chain: u32, stamp: Stamp) -> u32
-        requires known { chain < length self.old.heads }
-        requires stands { HoldsChains block.old self.old }
-        ensures stands { HoldsChains block.new self.new }
-        ensures shape { SameShape self.old self.new }
-        ensures share { HasShare block.old self.old → HasShare block.new self.new }
-        ensures others { OthersKept block.old block.new self.old.tenant }
-        ensures chains { OtherChainsKept block.old self.old block.new self.new chain }
-        ensures kept { chain_versions block.new self.new chain ≡ without_open stamp (chain_versions block.old self.old chain) }
-        ensures freed { result + length (chain_versions block.new self.new chain) ≡ length (chain_versions block.old self.old chain) }
-        ensures fewer { (self.new.used + result ≡ self.old.used) × (live_count block.new + result ≡ live_count block.old) }
-        ensures listed { Lists block.old self.old → Lists block.new self.new }
-        ensures nodes { NodesStay block.old block.new }
-        ensures rest { (place : ℕ) → is_open_node self.old.tenant stamp (node_in block.old place) ≡ false → node_in block.new place ≡ node_in block.old place }
-        ensures list { self.new.kept ≡ self.old.kept }
-        ensures none { result ≡ 0 → (block.new ≡ block.old) × (self.new ≡ self.old) }
+        requires { HasChain block.old self.old chain }
+        ensures changed { ChangesChain block.old self.old block.new self.new chain }
+        ensures kept { chain_versions block.new self.new chain
+            ≡ without_open stamp (chain_versions block.old self.old chain) }
+        ensures given_up { GivesUp result block.old self.old block.new self.new }
+        ensures dropped { DropsOpen stamp block.old self.old block.new self.new }
     {
         let (last, here) = self.seek_above(block, chain, stamp);
         let Some(slot) = here else {
@@ -769,8 +668,7 @@ impl Chains {
 
     // The last slot whose stamp is above this one, and the slot after it.
     fn seek_above(&self, block: &Block, chain: u32, stamp: Stamp) -> (Option<Slot>, Option<Slot>)
-        requires known { chain < length self.now.heads }
-        requires stands { HoldsChains block.now self.now }
+        requires { HasChain block.now self.now chain }
         ensures { IsPlace block.now self.now chain (stamp + 1) result.0 result.1 }
     {
         let bound = Bound::Above(stamp);
@@ -779,20 +677,15 @@ impl Chains {
 
     // Takes the version at `here`, which stands after `last`, out of its chain and frees its cell.
     fn unlink(&mut self, block: &mut Block, chain: u32, last: Option<Slot>, here: Slot)
-        requires known { chain < length self.old.heads }
-        requires stands { HoldsChains block.old self.old }
+        requires chain { HasChain block.old self.old chain }
         requires place { (stamp : ℕ) × IsPlace block.old self.old chain stamp last (Some here) }
-        ensures stands { HoldsChains block.new self.new }
-        ensures shape { SameShape self.old self.new }
-        ensures others { OthersKept block.old block.new self.old.tenant }
-        ensures chains { OtherChainsKept block.old self.old block.new self.new chain }
-        ensures removed { IsSomeAnd (entry block.old here) (λ cell. IsInserted (chain_versions block.new self.new chain) (chain_versions block.old self.old chain) cell.0.version) }
-        ensures one_less { (self.new.used + 1 ≡ self.old.used) × (live_count block.new + 1 ≡ live_count block.old) }
-        ensures none_come { NoneCome block.old block.new self.old.tenant }
-        ensures nodes { NodesStay block.old block.new }
-        ensures rest { (place : ℕ) → place ≢ here → node_in block.new place ≡ node_in block.old place }
+        ensures changed { ChangesChain block.old self.old block.new self.new chain }
+        ensures removed { IsSomeAnd (entry block.old here)
+            (λ cell. HaveOneMore block.new self.new block.old self.old chain cell.0.version) }
+        ensures freed { FreesOnly block.old block.new here }
         ensures listed { self.new.kept ≡ self.old.kept }
-        ensures place { (stamp : ℕ) → IsPlace block.old self.old chain stamp last (Some here) → IsPlace block.new self.new chain stamp last (next_beside block.old here) }
+        ensures place { (stamp : ℕ) → IsPlace block.old self.old chain stamp last (Some here)
+            → IsPlace block.new self.new chain stamp last (next_beside block.old here) }
     {
         let next = block.next(here);
         let latest = self.latest_without(block, chain, here);
@@ -808,9 +701,9 @@ impl Chains {
     // The slot of the latest committed version of a chain, once the version at `here` is gone from it. It visits these
     // two, and where they are one, those below it down to the next that is committed.
     fn latest_without(&self, block: &Block, chain: u32, here: Slot) -> Option<Slot>
-        requires known { chain < length self.now.heads }
-        requires stands { HoldsChains block.now self.now }
-        requires place { (stamp : ℕ) × (last : Option ℕ) × IsPlace block.now self.now chain stamp last (Some here) }
+        requires chain { HasChain block.now self.now chain }
+        requires place { (stamp : ℕ) × (last : Option ℕ)
+            × IsPlace block.now self.now chain stamp last (Some here) }
         ensures { KeepsLatestBut block.now self.now chain here result }
     {
         let stamp = stamp_of(&block.get(here).version.prepared);
@@ -822,9 +715,8 @@ impl Chains {
 
     // Whether this stamp is that of the latest committed version of a chain.
     fn is_latest(&self, block: &Block, chain: u32, stamp: Stamp) -> bool
-        requires known { chain < length self.now.heads }
-        requires stands { HoldsChains block.now self.now }
-        ensures { result ≡ is_at (slice_get (committed_records (chain_versions block.now self.now chain)) 0) stamp }
+        requires { HasChain block.now self.now chain }
+        ensures { result ≡ is_at (latest_record block.now self.now chain) stamp }
     {
         match self.latest(block, chain) {
             Some(latest) => latest.stamp == stamp,
@@ -834,8 +726,10 @@ impl Chains {
 
     // The slot of the first committed version from a slot of a chain on. It visits the versions down to that one.
     fn committed_from(&self, block: &Block, chain: u32, from: Option<Slot>) -> Option<Slot>
-        requires { (rest : List Version) × IsPath block.now self.now.tenant chain from rest None × (length rest ≤ length block.now) }
-        ensures { KeepsLatest block.now self.now.tenant chain (versions_from block.now from) result }
+        requires { (rest : List Version) × IsPath block.now self.now.tenant chain from rest None
+            × (length rest ≤ length block.now) }
+        ensures { KeepsLatest block.now self.now.tenant chain
+            (versions_from block.now from) result }
     {
         let mut here = from;
         while let Some(slot) = here {
@@ -850,11 +744,7 @@ impl Chains {
     /// Takes the versions that were cut out of the list of the kept ones. It goes over that list once.
     pub fn sweep(&mut self, block: &Block)
         requires { Lists block.now self.old }
-        ensures listed { Lists block.now self.new }
-        ensures swept { IsSwept block.now self.new }
-        ensures stands { HoldsChains block.now self.old → HoldsChains block.now self.new }
-        ensures shape { SameShape self.old self.new }
-        ensures share { HasShare block.now self.old → HasShare block.now self.new }
+        ensures list { ListsExactly block.now self.new }
         ensures rest { self.new ≡ with_kept self.old self.new.kept }
     {
         self.kept.sweep(block, self.tenant);

@@ -57,7 +57,8 @@ impl KeptList {
     pub(crate) fn insert(&mut self, stamp: Stamp, slot: Slot)
         requires { length self.old.kept < self.old.room }
         ensures room { self.new.room ≡ self.old.room }
-        ensures inserted { IsListedInto self.old.kept self.new.kept (record { stamp = stamp; slot = slot }) }
+        ensures inserted { IsListedInto self.old.kept self.new.kept
+            (record { stamp = stamp; slot = slot }) }
     {
         make_room(&mut self.main, &mut self.late);
         if is_late(&self.main, &self.late, stamp) {
@@ -71,7 +72,8 @@ impl KeptList {
     pub(crate) fn places(&self, stamp: Stamp) -> (usize, usize)
         ensures ordered { result.0 ≤ result.1 }
         ensures within { result.1 ≤ length self.now.kept }
-        ensures together { slice_range self.now.kept result.0 result.1 ≡ filter (λ k. k.stamp == stamp) self.now.kept }
+        ensures together { slice_range self.now.kept result.0 result.1
+            ≡ filter (λ k. k.stamp == stamp) self.now.kept }
     {
         let (first, end) = self.late.places(stamp);
         if first == end {
@@ -96,7 +98,8 @@ impl KeptList {
 
     /// The versions within a bound, found by a binary search in each list.
     pub(crate) fn upward(&self, bound: &Bound) -> Upward<'_>
-        ensures { result.main.now ++ result.late.now ≡ filter (λ k. not (nat_lt k.stamp (least_of bound.now))) self.now.kept }
+        ensures { result.main.now ++ result.late.now
+            ≡ filter (λ k. not (nat_lt k.stamp (least_of bound.now))) self.now.kept }
     {
         Upward {
             main: self.main.within(bound),
@@ -134,7 +137,9 @@ fn make_room(main: &mut StampList, late: &mut StampList)
     ensures late_room { late.new.room ≡ late.old.room }
     ensures free { length late.new.kept < late.new.room }
     ensures apart { AreApart main.new.kept late.new.kept }
-    ensures same { (test : Kept → Bool) → count_by test main.new.kept + count_by test late.new.kept ≡ count_by test main.old.kept + count_by test late.old.kept }
+    ensures same { (test : Kept → Bool)
+        → count_by test main.new.kept + count_by test late.new.kept
+        ≡ count_by test main.old.kept + count_by test late.old.kept }
 {
     if late.is_full() {
         main.take_all(late);

@@ -49,7 +49,8 @@ impl Block {
     /// Puts a version into a free cell, before the one in the slot `next`, and answers its slot. Where all cells are live
     /// it hands it back, and nothing changes.
     pub(crate) fn put(&mut self, node: Node, next: Option<Slot>) -> Result<Slot, Node>
-        ensures was_free { IfOk result (λ slot. (slot < length self.old) × (entry self.old slot ≡ None)) }
+        ensures was_free { IfOk result (λ slot. (slot < length self.old)
+            × (entry self.old slot ≡ None)) }
         ensures put { IfOk result (λ slot. self.new ≡ slice_set self.old slot (Some (node, next))) }
         ensures full { OnErr result (live_count self.old ≡ length self.old) }
         ensures succeeds { live_count self.old < length self.old → IsOk result }

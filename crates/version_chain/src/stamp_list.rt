@@ -56,7 +56,8 @@ impl StampList {
     pub(crate) fn insert(&mut self, stamp: Stamp, slot: Slot)
         requires { length self.old.kept < self.old.room }
         ensures room { self.new.room ≡ self.old.room }
-        ensures inserted { IsListedInto self.old.kept self.new.kept (record { stamp = stamp; slot = slot }) }
+        ensures inserted { IsListedInto self.old.kept self.new.kept
+            (record { stamp = stamp; slot = slot }) }
     {
         let place = place_above(&self.kept, stamp);
         insert_within(&mut self.kept, place, Kept { stamp, slot });
@@ -100,7 +101,9 @@ impl StampList {
         ensures room { self.new.room ≡ self.old.room }
         ensures other_room { other.new.room ≡ other.old.room }
         ensures taken { other.new.kept ≡ [] }
-        ensures merged { (test : Kept → Bool) → count_by test self.new.kept ≡ count_by test self.old.kept + count_by test other.old.kept }
+        ensures merged { (test : Kept → Bool)
+            → count_by test self.new.kept
+            ≡ count_by test self.old.kept + count_by test other.old.kept }
     {
         let front = self.kept.len();
         append_within(&mut self.kept, &other.kept);
@@ -113,7 +116,8 @@ impl StampList {
         ensures ordered { result.0 ≤ result.1 }
         ensures within { result.1 ≤ length self.now.kept }
         ensures few { result.1 < 2 ^ 63 }
-        ensures together { slice_range self.now.kept result.0 result.1 ≡ filter (λ k. k.stamp == stamp) self.now.kept }
+        ensures together { slice_range self.now.kept result.0 result.1
+            ≡ filter (λ k. k.stamp == stamp) self.now.kept }
     {
         let first = self.kept.partition_point(|kept| kept.stamp < stamp);
         (first, end_of_run(&self.kept, first, stamp))
@@ -129,7 +133,8 @@ impl StampList {
 
     /// The versions within a bound, found by a binary search.
     pub(crate) fn within(&self, bound: &Bound) -> &[Kept]
-        ensures { result.now ≡ filter (λ k. not (nat_lt k.stamp (least_of bound.now))) self.now.kept }
+        ensures { result.now
+            ≡ filter (λ k. not (nat_lt k.stamp (least_of bound.now))) self.now.kept }
     {
         let first = self.kept.partition_point(|kept| bound.excludes(kept.stamp));
         &self.kept[first..]
@@ -218,7 +223,8 @@ fn merge_back(list: &mut [Kept], front: usize, run: &[Kept])
     requires front { Ascends (take front list.old) }
     requires run { Ascends run.now }
     ensures ascends { Ascends list.new }
-    ensures merged { (test : Kept → Bool) → count_by test list.new ≡ count_by test (take front list.old) + count_by test run.now }
+    ensures merged { (test : Kept → Bool)
+        → count_by test list.new ≡ count_by test (take front list.old) + count_by test run.now }
 {
     let mut left = front;
     let mut unplaced = run.len();
@@ -237,8 +243,10 @@ fn merge_back(list: &mut [Kept], front: usize, run: &[Kept])
 // Whether there is a last one of so many versions at the front of a list, and its stamp is above this one.
 fn ends_above(list: &[Kept], left: usize, stamp: Stamp) -> bool
     requires { left ≤ length list.now }
-    ensures above { IsTrue result → (0 < left) × ((d : Kept) → stamp < (slice_index_or list.now (left - 1) d).stamp) }
-    ensures not_above { result ≡ false → 0 < left → (d : Kept) → (slice_index_or list.now (left - 1) d).stamp ≤ stamp }
+    ensures above { IsTrue result
+        → (0 < left) × ((d : Kept) → stamp < (slice_index_or list.now (left - 1) d).stamp) }
+    ensures not_above { result ≡ false → 0 < left → (d : Kept)
+        → (slice_index_or list.now (left - 1) d).stamp ≤ stamp }
 {
     if left == 0 {
         return false;

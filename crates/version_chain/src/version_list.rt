@@ -97,7 +97,8 @@ impl VersionList {
     pub fn has_part(&self, at: usize, other: &VersionList, from: usize, count: usize) -> bool
         requires own { at + count ≤ length self.now }
         requires others { from + count ≤ length other.now }
-        ensures { IsTrue result ↔ (take count (drop at self.now) ≡ take count (drop from other.now)) }
+        ensures { IsTrue result
+            ↔ (take count (drop at self.now) ≡ take count (drop from other.now)) }
     {
         self.list.has_part(at, &other.list, from, count)
     }

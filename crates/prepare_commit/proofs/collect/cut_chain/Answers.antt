@@ -1,6 +1,5 @@
 use Rattle.std.proofs.Common.{◌≡◌, ◌<◌, ℕ, is_some, inl, inr, List, [], ◌∷◌, Some, None, map, length, get_or, All, refl, ap, sym, subst, ◌∙◌, arith}
 use Rattle.std.proofs.lemmas.Bool.{both_ways}
-use Rattle.std.proofs.lemmas.List.{length-set}
 use Rattle.std.proofs.lemmas.List.Elements.{All-head}
 use Rattle.stamps.specs.Record.{Record}
 use Rattle.version_chain.specs.declared.version.Version.{Version}
@@ -9,15 +8,16 @@ use Rattle.version_chain.specs.Chain.{Cells, HoldsChains, first_record}
 use Rattle.stamps.specs.Key.{key_cmp}
 use Rattle.secondary_index.specs.Ordered.{StandsAt, BelongsAt}
 use Rattle.prepare_commit.specs.declared.items.ChainedItem.{ChainedItem}
-use Rattle.prepare_commit.specs.Layout.{entries_of, item_row, held_in, chain_lists, chain_at, item_chains, kept_chain, IsVersionOf, HaveAll}
+use Rattle.prepare_commit.specs.Layout.{entries_of, item_row, held_in, chain_lists, chain_at, item_chains, IsVersionOf, HaveAll}
 use Rattle.prepare_commit.specs.Remembered.{raised_where, kept_where}
 use Rattle.prepare_commit.proofs.AllChains.{ItsItem, item_of}
+use Rattle.prepare_commit.proofs.Chaining.{has_chain}
 use Rattle.prepare_commit.proofs.CollectedChains.{paired, collected_where, parted_where, none_there, cut_where}
 use Rattle.prepare_commit.proofs.EachPlace.{used_is}
 use Rattle.prepare_commit.proofs.OwnChains.{keys_apart, own_chain, no_entry, entry_is}
 use Rattle.prepare_commit.specs.Content.{entry_at}
 use Rattle.version_chain.proofs.Replacing.{same_or_not}
-use Rattle.prepare_commit.proofs.Owning.{own_none}
+use Rattle.version_chain.proofs.Changing.{own_none}
 use Rattle.prepare_commit.proofs.collect.cut_chain.Goals as goal
 use Rattle.prepare_commit.proofs.collect.cut_chain.Goals.{After-cut_item, In_default}
 
@@ -61,25 +61,25 @@ module _ (block : Cells) (heads : Heads) (items : List ChainedItem) (chain : ℕ
   in_range : owner.i.chain < length (chain_lists block heads)
   in_range = let given = have.laid.given owner.k owner.i owner.within in omega (arith, given, ap (λ (x : ChainedItem). x.chain) owner.is, have.within)
 
-pub first-requires-clause-stands : goal.first-requires-clause-stands
-first-requires-clause-stands c = c.requires.lies.stands
+pub first-requires : goal.first-requires
+first-requires c = has_chain c.args.block.now c.args.versions.now.chains c.args.chain c.requires.held.lies.stands c.requires.known
 
 pub search-requires : goal.search-requires
-search-requires c = c.requires.have.laid.in_order
+search-requires c = c.requires.held.have.laid.in_order
 
 pub unreachable-requires : goal.unreachable-requires
 unreachable-requires c =
-    is_there c.args.block.now c.args.versions.now.chains c.args.items.now.items c.args.chain c.in-Some.first.now c.requires.lies.stands c.requires.have c.in-Some.ensures c.first-2.inside.key c.in_default-search.field-0 (ap (λ (r : Record). r.key) c.first-2.view_is) c.in_default-search.ensures
+    is_there c.args.block.now c.args.versions.now.chains c.args.items.now.items c.args.chain c.in-Some.first.now c.requires.held.lies.stands c.requires.held.have c.in-Some.ensures c.first-2.inside.key c.in_default-search.field-0 (ap (λ (r : Record). r.key) c.first-2.view_is) c.in_default-search.ensures
 
 -- the item, and where it stands
 abbrev its : (c : After-cut_item) → ItsItem c.args.items.now.items c.args.chain
-its c = owner c.args.block.now c.args.versions.now.chains c.args.items.now.items c.args.chain c.in-Some.first.now c.requires.lies.stands c.requires.have c.in-Some.ensures
+its c = owner c.args.block.now c.args.versions.now.chains c.args.items.now.items c.args.chain c.in-Some.first.now c.requires.held.lies.stands c.requires.held.have c.in-Some.ensures
 
 place_is : (c : After-cut_item) → (its c).i ≡ get_or c.args.items.now.items c.in-Ok.place (its c).i
-place_is c = is_place c.args.block.now c.args.versions.now.chains c.args.items.now.items c.args.chain c.in-Some.first.now c.requires.lies.stands c.requires.have c.in-Some.ensures c.first-2.inside.key c.in-Ok.place (ap (λ (r : Record). r.key) c.first-2.view_is) c.in-Ok.ensures
+place_is c = is_place c.args.block.now c.args.versions.now.chains c.args.items.now.items c.args.chain c.in-Some.first.now c.requires.held.lies.stands c.requires.held.have c.in-Some.ensures c.first-2.inside.key c.in-Ok.place (ap (λ (r : Record). r.key) c.first-2.view_is) c.in-Ok.ensures
 
 there : (c : After-cut_item) → (its c).i.chain < length (chain_lists c.args.block.now c.args.versions.now.chains)
-there c = in_range c.args.block.now c.args.versions.now.chains c.args.items.now.items c.args.chain c.in-Some.first.now c.requires.lies.stands c.requires.have c.in-Some.ensures
+there c = in_range c.args.block.now c.args.versions.now.chains c.args.items.now.items c.args.chain c.in-Some.first.now c.requires.held.lies.stands c.requires.held.have c.in-Some.ensures
 
 both : (c : After-cut_item) → (c.cut_item.new.items.items ≡ map (raised_where c.args.chain c.args.keep (chain_lists c.args.block.now c.args.versions.now.chains)) c.args.items.now.items)
     × (item_chains c.cut_item.new.items.items (chain_lists c.cut_item.new.block c.cut_item.new.versions.chains) ≡ map (kept_where c.args.chain c.args.keep (chain_lists c.args.block.now c.args.versions.now.chains)) c.args.items.now.items)
@@ -89,20 +89,13 @@ both c =
     let its = its c in
     let cut = c.cut_item.ensures in
     parted_where c.args.chain c.args.keep _ _ _ _ ((λ j. paired (cut.raised its.i (place_is c) j) (cut.kept its.i (place_is c) j))
-    ∙ cut_where c.args.keep items chains c.in-Ok.place its.i c.in-Ok.ensures.within (place_is c) c.requires.have.laid (there c)
+    ∙ cut_where c.args.keep items chains c.in-Ok.place its.i c.in-Ok.ensures.within (place_is c) c.requires.held.have.laid (there c)
     ∙ ap (λ n. map (collected_where n c.args.keep) (paired items chains)) its.chain_is)
 
-pub returns-clause-raised : goal.returns-clause-raised
-returns-clause-raised c = (both (goal.at.returns-clause-raised c).After-cut_item).0
-
-pub returns-clause-kept : goal.returns-clause-kept
-returns-clause-kept c = (both (goal.at.returns-clause-kept c).After-cut_item).1
-
-pub returns-clause-long : goal.returns-clause-long
-returns-clause-long c =
-    let at = (goal.at.returns-clause-long c).After-cut_item in
-    let chains = chain_lists c.args.block.now c.args.versions.now.chains in
-    ap length (c.cut_item.ensures.kept (its at).i (place_is at)) ∙ length-set chains (its at).i.chain (kept_chain c.args.keep chains (its at).i)
+pub returns : goal.returns
+returns c =
+    let at = (goal.at.returns c).After-cut_item in
+    record { left = c.cut_item.ensures.left; raised = (both at).0; kept = (both at).1 }
 
 -- a chain without versions
 stays : (c : In_default) → (c.args.items.now.items ≡ map (raised_where c.args.chain c.args.keep (chain_lists c.args.block.now c.args.versions.now.chains)) c.args.items.now.items)
@@ -111,11 +104,11 @@ stays c =
     let chains = chain_lists c.args.block.now c.args.versions.now.chains in
     parted_where c.args.chain c.args.keep _ _ _ _ (none_there c.args.keep c.args.items.now.items chains c.args.chain (no_first (chain_at chains c.args.chain) c.in_default.ensures))
 
-pub returns-in_default-clause-raised : goal.returns-in_default-clause-raised
-returns-in_default-clause-raised c = (stays (goal.at.returns-in_default-clause-raised c).In_default).0
-
-pub returns-in_default-clause-kept : goal.returns-in_default-clause-kept
-returns-in_default-clause-kept c = (stays (goal.at.returns-in_default-clause-kept c).In_default).1
-
-pub returns-in_default-clause-own : goal.returns-in_default-clause-own
-returns-in_default-clause-own c = own_none c.args.block.now c.args.versions.now.chains
+pub returns-in_default : goal.returns-in_default
+returns-in_default c =
+    let at = (goal.at.returns-in_default c).In_default in
+    record {
+      left = record { held = c.requires.held; own = own_none c.args.block.now c.args.versions.now.chains; room = refl; fewer = omega arith };
+      raised = (stays at).0;
+      kept = (stays at).1;
+    }

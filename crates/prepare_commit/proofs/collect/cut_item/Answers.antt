@@ -3,22 +3,23 @@ use Rattle.std.proofs.lemmas.List.{get_or-set_same, get_or_default, length-set}
 use Rattle.version_chain.specs.declared.version.Version.{Version}
 use Rattle.prepare_commit.specs.declared.items.ChainedItem.{ChainedItem}
 use Rattle.prepare_commit.specs.Layout.{chain_lists, chain_at, together, item_chains, raised_item, kept_chain}
+use Rattle.prepare_commit.proofs.Chaining.{has_chain}
 use Rattle.prepare_commit.proofs.CollectedChains.{laid_cut, long_cut}
 use Rattle.prepare_commit.proofs.collect.cut_item.Goals as goal
 use Rattle.prepare_commit.proofs.collect.cut_item.Goals.{After-get, After-cut_below}
 
 there : (c : After-get) → c.get.result.now.chain < length (chain_lists c.args.block.now c.args.versions.now.chains)
 there c =
-    let given = c.requires.have.laid.given c.args.place c.get.result.now c.requires.within in
-    omega (arith, given, ap (λ (x : ChainedItem). x.chain) c.get.ensures, c.requires.have.within)
+    let given = c.requires.held.have.laid.given c.args.place c.get.result.now c.requires.within in
+    omega (arith, given, ap (λ (x : ChainedItem). x.chain) c.get.ensures, c.requires.held.have.within)
 
 pub raised_item-item-requires : goal.raised_item-item-requires
-raised_item-item-requires c = record { known = there (goal.at.raised_item-item-requires c).After-get; stands = c.requires.lies.stands }
+raised_item-item-requires c = has_chain c.args.block.now c.args.versions.now.chains c.get.result.now.chain c.requires.held.lies.stands (there (goal.at.raised_item-item-requires c).After-get)
 
 pub cut_below-requires : goal.cut_below-requires
 cut_below-requires c = record {
   known = subst (λ (x : ChainedItem). x.chain < length (chain_lists c.args.block.now c.args.versions.now.chains)) (sym c.raised_item-item.ensures) (there (goal.at.cut_below-requires c).After-get);
-  lies = c.requires.lies;
+  lies = c.requires.held.lies;
 }
 
 -- the items and the chains that are left
@@ -48,15 +49,19 @@ returns c =
     let long = ap (λ n. length (chain_at lists n)) chain_is in
     let both : length (together (item_chains c.set.new.self.items (chain_lists c.cut_below.new.block c.cut_below.new.self.chains))) ≡ length (together (item_chains (set items c.args.place (raised_item c.args.keep lists i)) (set lists i.chain kept))) = λ j. length (together (item_chains (are.0 j) (are.1 j))) in
     record {
-      lies = cut.lies;
-      own = cut.own;
-      have = record {
-        laid = rw (are.0, are.1) (laid_cut c.args.keep items lists c.args.place i c.requires.within c.get.ensures c.requires.have.laid less);
-        within = omega (arith, c.set.ensures.len, c.requires.have.within, ap length are.1, length-set lists i.chain kept);
-        counted = omega (arith, cut.fewer, cut.freed, c.requires.have.counted, short, long, both, long_cut c.args.keep items lists c.args.place i c.requires.within c.get.ensures c.requires.have.laid less);
+      left = record {
+        held = record {
+          lies = cut.changed.lies;
+          have = record {
+            laid = rw (are.0, are.1) (laid_cut c.args.keep items lists c.args.place i c.requires.within c.get.ensures c.requires.held.have.laid less);
+            within = omega (arith, c.set.ensures.len, c.requires.held.have.within, ap length are.1, length-set lists i.chain kept);
+            counted = omega (arith, cut.fewer, cut.freed, c.requires.held.have.counted, short, long, both, long_cut c.args.keep items lists c.args.place i c.requires.within c.get.ensures c.requires.held.have.laid less);
+          };
+        };
+        own = cut.changed.own;
+        room = c.set.ensures.room;
+        fewer = cut.fewer;
       };
       raised = λ j is. (left at j is).0;
       kept = λ j is. (left at j is).1;
-      room = c.set.ensures.room;
-      fewer = cut.fewer;
     }

@@ -1,4 +1,4 @@
-use Rattle.std.proofs.Common.{true, sym, ◌∙◌}
+use Rattle.std.proofs.Common.{sym, ◌∙◌}
 use Rattle.std.proofs.lemmas.Bool.{eqb-true, both_ways}
 use Rattle.prepare_commit.proofs.Noting.{same_last}
 use Rattle.prepare_commit.proofs.collect.note_collected.Goals as goal

@@ -17,21 +17,21 @@ own : (c : After-mark_slot-chain) → All (IsVersionOf c.requires.known.0) (chai
 own c = subst (λ n. All (IsVersionOf c.requires.known.0) (chain_versions c.args.block.now c.args.chains.now n)) (sym c.mark_slot-chain.ensures.place) c.requires.known.1
 
 in_range : (c : After-mark_slot-chain) → c.mark_slot-chain.result < length c.mark_slot-chain.new.self.heads
-in_range c = subst (λ (h : Heads). c.mark_slot-chain.result < length h.heads) (sym c.mark_slot-chain.ensures.rest) c.mark_slot-chain.ensures.known
+in_range c = subst (λ (h : Heads). c.mark_slot-chain.result < length h.heads) (sym c.mark_slot-chain.ensures.only.rest) c.mark_slot-chain.ensures.known
 
 -- what is reported is the latest
 latest : (c : After-mark_slot-chain) (key : List ℕ) → All (IsVersionOf key) (chain_versions c.args.block.now c.args.chains.now c.mark_slot-chain.result)
     → (o : Option Record) → o ≡ slice_get (committed_records (chain_versions c.mark_slot-chain.new.block c.mark_slot-chain.new.self c.mark_slot-chain.result)) 0
     → IsLatest key (chain_versions c.mark_slot-chain.new.block c.mark_slot-chain.new.self c.mark_slot-chain.result) (committed_version o)
-latest c key all o is = latest_marked c.args.kept.stamp key _ _ c.mark_slot-chain.ensures.marked all (c.mark_slot-chain.ensures.stands.falling c.mark_slot-chain.result (in_range c)) o is
+latest c key all o is = latest_marked c.args.kept.stamp key _ _ c.mark_slot-chain.ensures.marked all (c.mark_slot-chain.ensures.changed.stands.falling c.mark_slot-chain.result (in_range c)) o is
 
 in_index : (c : After-mark_slot-chain) (u : Record) → Some u ≡ slice_get (committed_records (chain_versions c.mark_slot-chain.new.block c.mark_slot-chain.new.self c.mark_slot-chain.result)) 0 → contains_key c.args.index.now.tags u.key ≡ true
 in_index c u is =
     let known = c.requires.known in
     ap (contains_key c.args.index.now.tags) (latest_key c.args.kept.stamp known.0 _ _ c.mark_slot-chain.ensures.marked (own c) (record { prepared = u; committed = true }) (latest c known.0 (own c) (Some u) is)) ∙ known.2
 
-pub latest-requires-clause-known : goal.latest-requires-clause-known
-latest-requires-clause-known c = in_range (goal.at.latest-requires-clause-known c).After-mark_slot-chain
+pub latest-requires : goal.latest-requires
+latest-requires c = record { known = in_range (goal.at.latest-requires c).After-mark_slot-chain; stands = c.mark_slot-chain.ensures.changed.stands }
 
 pub note-requires : goal.note-requires
 note-requires c = omega (arith, c.mark_slot-chain.ensures.known, c.requires.long)
@@ -59,6 +59,9 @@ returns-in-Some-clause-moved c = rw (← c.mark_slot-chain.ensures.place) (λ ke
 
 pub returns-in-Some-clause-known : goal.returns-in-Some-clause-known
 returns-in-Some-clause-known c = rw (← c.mark_slot-chain.ensures.place) c.mark_slot-chain.ensures.known
+
+pub returns-in-Some-clause-changed : goal.returns-in-Some-clause-changed
+returns-in-Some-clause-changed c = rw (← c.mark_slot-chain.ensures.place) c.mark_slot-chain.ensures.changed
 
 pub returns-in-Some-clause-noted : goal.returns-in-Some-clause-noted
 returns-in-Some-clause-noted c = rw (← c.mark_slot-chain.ensures.place) c.note.ensures

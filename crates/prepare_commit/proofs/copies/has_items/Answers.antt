@@ -6,10 +6,17 @@ use Rattle.prepare_commit.specs.Remembered.{is_changed}
 use Rattle.prepare_commit.specs.Spots.{begun_by}
 use Rattle.std.proofs.lemmas.Bool.{both_ways}
 use Rattle.std.proofs.lemmas.List.{take_more}
+use Rattle.prepare_commit.proofs.Chaining.{has_chain}
 use Rattle.prepare_commit.proofs.Holding.{holdings_at, holdings_more}
 use Rattle.prepare_commit.proofs.Places.{as_many, lies_there, known_there}
 use Rattle.prepare_commit.proofs.copies.has_items.Goals as goal
 use Rattle.prepare_commit.proofs.copies.has_items.Goals.{else-not-is_known-via-then-not-is_known+in_ok-has_item+else-not-branch, else-not-is_known-via-else-not-is_known}
+
+pub has_item-requires-clause-chain : goal.has_item-requires-clause-chain
+has_item-requires-clause-chain c =
+    let i = c.get-item.result.now in
+    let known = c.requires.known c.loop-nth.nth i (omega (arith, c.loop-nth-test.true, c.if-len-places.false, c.len.ensures)) in
+    has_chain c.args.block.now c.args.versions.now.chains i.chain c.requires.stands (omega (arith, known, ap (λ (j : ChainedItem). j.chain) c.get-item.ensures))
 
 pub has_item-requires-clause-place : goal.has_item-requires-clause-place
 has_item-requires-clause-place c =

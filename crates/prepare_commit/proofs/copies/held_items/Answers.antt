@@ -9,6 +9,7 @@ use Rattle.prepare_commit.specs.Remembered.{is_changed}
 use Rattle.prepare_commit.specs.Spots.{begun_by}
 use Rattle.packed.specs.Cuts.{pieces}
 use Rattle.packed.proofs.Pieces.{as_many}
+use Rattle.prepare_commit.proofs.Chaining.{has_chain}
 use Rattle.prepare_commit.proofs.Places.{put_new, put_old, beside_long, beside_more}
 use Rattle.std.proofs.lemmas.List.{get_or_default, length_push}
 use Rattle.prepare_commit.proofs.Holding.{holdings_more}
@@ -17,6 +18,12 @@ use Rattle.prepare_commit.proofs.copies.held_items.Goals.{then-has+in_ok-push+in
 
 pub of-requires-2 : goal.of-requires-2
 of-requires-2 c = ap (λ (cs : List (List Version)). length cs) c.of.ensures ∙ as_many c.loop-nth.found 0 c.loop-nth.ends.items ∙ c.loop-nth.invariant.1
+
+pub put_chain-requires-clause-chain : goal.put_chain-requires-clause-chain
+put_chain-requires-clause-chain c =
+    let i = c.get-item.result.now in
+    let known = c.requires.known c.loop-nth.nth i (omega (arith, c.loop-nth-test.true, c.len-nth-end.ensures)) in
+    has_chain c.args.block.now c.args.versions.now.chains i.chain c.requires.stands (omega (arith, known, ap (λ (j : ChainedItem). j.chain) c.get-item.ensures))
 
 pub loop-nth-preserved : goal.loop-nth-preserved
 loop-nth-preserved c =

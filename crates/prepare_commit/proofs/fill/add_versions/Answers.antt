@@ -1,17 +1,18 @@
-use Rattle.std.proofs.Common.{◌≡◌, ◌<◌, get_or, count_by, length, ap, sym, ◌∙◌, subst, refl, arith}
+use Rattle.std.proofs.Common.{◌≡◌, ◌<◌, get_or, count_by, length, ap, sym, ◌∙◌, subst, arith}
 use Rattle.std.proofs.lemmas.List.{take_all}
 use Rattle.std.proofs.lemmas.Option.{get_or_from_slice_get}
 use Rattle.version_chain.specs.declared.version.Version.{Version}
 use Rattle.prepare_commit.specs.Bases.{HasEntry}
 use Rattle.prepare_commit.specs.Layout.{chain_lists, together, item_chains, entries_of}
+use Rattle.prepare_commit.proofs.Chaining.{lists_long}
 use Rattle.prepare_commit.proofs.Filling.{named, named_next, named_long, names_many, no_version, ordered_apart, members_apart, next_is_missing, next_members}
-use Rattle.prepare_commit.proofs.Owning.{own_none, own_next, share_kept}
+use Rattle.version_chain.proofs.Changing.{own_none, own_next, share_kept}
 use Rattle.prepare_commit.proofs.fill.add_versions.Goals as goal
 use Rattle.prepare_commit.proofs.fill.add_versions.Goals.{After-stamped-item, After-version}
 
 pub loop-stamped-init : goal.loop-stamped-init
 loop-stamped-init c =
-    (c.requires.lies, own_none c.args.block.now c.args.held.now.chains, c.requires.laid, λ d test. ap (count_by test) c.requires.empty, c.requires.none, refl)
+    (c.requires.share.lies, own_none c.args.block.now c.args.held.now.chains, c.requires.laid, λ d test. ap (count_by test) c.requires.empty, c.requires.none)
 
 below : (c : After-stamped-item) → c.stamped-item.result.place < length c.args.versions.now
 below c = let less = c.requires.each.within c.loop-stamped.stamped-index c.stamped-item.result c.loop-stamped-test.true in subst (λ p. p.place < length c.args.versions.now) (sym c.stamped-item.is) less
@@ -36,10 +37,9 @@ add_version-requires c =
     let so_far = c.loop-stamped.invariant in
     let v = c.version.result in
     record {
-      lies = so_far.0;
-      share = share_kept _ _ _ _ so_far.1 c.requires.share;
+      share = record { lies = so_far.0; share = share_kept _ _ _ _ so_far.1 c.requires.share.share };
       laid = so_far.2;
-      within = omega (arith, c.requires.within, so_far.5);
+      within = omega (arith, c.requires.within, lists_long _ _ _ _ so_far.1);
       room = omega (arith, so_far.4, c.loop-stamped-test.true, names_many c.args.versions.now c.args.places.now c.requires.each, c.requires.fits, so_far.1.shape.share);
       known = subst (λ (v : Version). HasEntry (entries_of c.args.items.now.items) v.prepared.key) (sym (found at)) (c.requires.known c.stamped-item.result.place v (below (goal.at.add_version-requires c).After-stamped-item));
       missing =
@@ -51,13 +51,15 @@ pub loop-stamped-preserved : goal.loop-stamped-preserved
 loop-stamped-preserved c =
     let at = (goal.at.loop-stamped-preserved c).After-version in
     let done = c.add_version.ensures in (
-      done.lies,
-      own_next c.args.block.now c.loop-stamped.block c.add_version.new.block c.args.held.now.chains c.loop-stamped.held.chains c.add_version.new.held.chains c.loop-stamped.invariant.1 done.own,
+      done.changed.lies,
+      own_next c.args.block.now c.loop-stamped.block c.add_version.new.block c.args.held.now.chains c.loop-stamped.held.chains c.add_version.new.held.chains c.loop-stamped.invariant.1 done.changed.own,
       done.laid,
       λ d. next_members (named d c.args.versions.now c.args.places.now) (together (item_chains c.args.items.now.items (chain_lists c.loop-stamped.block c.loop-stamped.held.chains))) c.loop-stamped.stamped-index (within d at) (c.loop-stamped.invariant.3 d) c.version.result (next d at) (together (item_chains c.args.items.now.items (chain_lists c.add_version.new.block c.add_version.new.held.chains))) done.members,
       omega (arith, done.used, c.loop-stamped.invariant.4),
-      done.as_many ∙ c.loop-stamped.invariant.5,
     )
+
+pub returns-clause-changed : goal.returns-clause-changed
+returns-clause-changed c = record { lies = c.loop-stamped.invariant.0; own = c.loop-stamped.invariant.1 }
 
 pub returns-clause-members : goal.returns-clause-members
 returns-clause-members c test =

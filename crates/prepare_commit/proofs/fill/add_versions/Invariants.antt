@@ -1,4 +1,4 @@
-use Rattle.std.proofs.Common.{◌≡◌, take, length}
+use Rattle.std.proofs.Common.{◌≡◌, take}
 use Rattle.version_chain.specs.declared.version.Version.{Version}
 use Rattle.version_chain.specs.Sharing.{ChangesOwn}
 use Rattle.prepare_commit.specs.InBlock.{AreIn}
@@ -14,4 +14,3 @@ invariant-loop-stamped l =
     × IsLaid l.items.items (chain_lists l.block l.held.chains)
     × ((d : Version) → SameMembers (together (item_chains l.items.items (chain_lists l.block l.held.chains))) (take l.stamped-index (named d l.versions l.places)))
     × (l.held.chains.used ≡ l.stamped-index)
-    × (length (chain_lists l.block l.held.chains) ≡ length (chain_lists l.fn.block l.fn.held.chains))

@@ -4,6 +4,7 @@ use Rattle.secondary_index.specs.Index.{Tags}
 use Rattle.prepare_commit.specs.declared.items.ChainedItem.{ChainedItem}
 use Rattle.prepare_commit.specs.Content.{KnowsItems}
 use Rattle.prepare_commit.specs.Layout.{chain_lists, together, item_chains, entries_of}
+use Rattle.prepare_commit.proofs.Chaining.{has_chain}
 use Rattle.prepare_commit.proofs.Filling.{right_none, right_more, knows_more, knows_few}
 use Rattle.prepare_commit.proofs.Moving.{knows_none}
 use Rattle.prepare_commit.proofs.OwnChains.{own_chain}
@@ -16,10 +17,10 @@ loop-place-init c = (
   right_none (entries_of c.args.items.now.items) (together (item_chains c.args.items.now.items (chain_lists c.args.block.now c.args.held.now.chains))) c.args.index.now.tags c.requires.empty,
 )
 
-pub latest_tag-requires-clause-known : goal.latest_tag-requires-clause-known
-latest_tag-requires-clause-known c =
+pub latest_tag-requires : goal.latest_tag-requires
+latest_tag-requires c =
     let given = c.requires.laid.given c.loop-place.place c.get-item.result.now (omega (arith, c.loop-place-test.true, c.len-place-end.ensures)) in
-    omega (arith, given, c.requires.within, ap (λ (i : ChainedItem). i.chain) c.get-item.ensures)
+    has_chain c.args.block.now c.args.held.now.chains c.get-item.result.now.chain c.requires.stands (omega (arith, given, c.requires.within, ap (λ (i : ChainedItem). i.chain) c.get-item.ensures))
 
 pub set_numbered-requires : goal.set_numbered-requires
 set_numbered-requires c =

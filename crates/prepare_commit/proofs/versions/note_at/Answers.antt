@@ -20,17 +20,17 @@ pub loop-place-init : goal.loop-place-init
 loop-place-init c = (refl, λ chain. sym (or-false (get_or c.args.since.now chain false)))
 
 within : (c : After-kept_in) → c.loop-place.place < length (places c.args.chains.now c.args.stamp)
-within c = omega (arith, c.loop-place-test.true, (places_long c.args.chains.now c.args.stamp c.args.first c.args.end c.requires.ordered c.requires.within c.requires.together))
+within c = omega (arith, c.loop-place-test.true, (places_long c.args.chains.now c.args.stamp c.args.first c.args.end c.requires.run))
 
 is : (c : After-kept_in) → c.kept_in.result ≡ get_or (places c.args.chains.now c.args.stamp) c.loop-place.place c.kept_in.result
 is c =
-    place_in c.args.chains.now c.args.stamp c.args.first c.args.end c.requires.ordered c.requires.within c.requires.together c.loop-place.place c.kept_in.result c.loop-place-test.true
+    place_in c.args.chains.now c.args.stamp c.args.first c.args.end c.requires.run c.loop-place.place c.kept_in.result c.loop-place-test.true
     c.kept_in.ensures
 
 pub chain_of-requires-clause-named : goal.chain_of-requires-clause-named
 chain_of-requires-clause-named c =
     let at = (goal.at.chain_of-requires-clause-named c).After-kept_in in
-    place_named c.args.block.now c.args.chains.now c.args.stamp _ _ (within at) (is at) c.requires.swept
+    place_named c.args.block.now c.args.chains.now c.args.stamp _ _ (within at) (is at) c.requires.list.swept
 
 pub note-requires : goal.note-requires
 note-requires c = omega (arith, c.chain_of.ensures.known, c.loop-place.invariant.0, c.requires.long)
@@ -48,7 +48,7 @@ loop-place-preserved c =
 pub returns-clause-noted : goal.returns-clause-noted
 returns-clause-noted c chain free =
     let all = places c.args.chains.now c.args.stamp in
-    let end : length all ≤ c.loop-place.place = omega (arith, c.loop-place-test.false, (places_long c.args.chains.now c.args.stamp c.args.first c.args.end c.requires.ordered c.requires.within c.requires.together)) in
+    let end : length all ≤ c.loop-place.place = omega (arith, c.loop-place-test.false, (places_long c.args.chains.now c.args.stamp c.args.first c.args.end c.requires.run)) in
     let both = or_parts (get_or c.args.since.now chain false) (is_done c.args.block.now all c.loop-place.place chain) (sym (c.loop-place.invariant.1 chain) ∙ free) in
     let test = λ (v : Version). v.prepared.stamp == c.args.stamp in (
       both.0,
@@ -58,7 +58,7 @@ returns-clause-noted c chain free =
             ∙ elim (cases_lt 0 (count_by test (chain_versions c.args.block.now c.args.chains.now chain))) [
               | inl more ↦
                   let test = λ (k : Kept). chain_in c.args.block.now k.slot == chain in
-                  let there = counted test all (chain_placed c.args.block.now c.args.chains.now c.requires.stands c.requires.listed c.args.stamp chain known more) in
+                  let there = counted test all (chain_placed c.args.block.now c.args.chains.now c.requires.stands c.requires.list.listed c.args.stamp chain known more) in
                   let any = any_is test all there.0 there.1 there.2 in
                   absurd (both_ways (is_done c.args.block.now all c.loop-place.place chain) both.1 (ap (list_any test) (take_all c.loop-place.place all end) ∙ any))
               | inr none ↦ omega (arith, none)

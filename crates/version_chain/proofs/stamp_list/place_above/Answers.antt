@@ -1,4 +1,4 @@
-use Rattle.std.proofs.Common.{◌≡◌, nat_le, rules, arith}
+use Rattle.std.proofs.Common.{nat_le, rules}
 use Rattle.std.proofs.lemmas.List.Sorted.{IsPartitionPoint-from_clause, IsPartitionedBy-leb}
 use Rattle.version_chain.specs.declared.stamp_list.Kept.{Kept}
 use Rattle.version_chain.proofs.StampParts.{all_at_most}

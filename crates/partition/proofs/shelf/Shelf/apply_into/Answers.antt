@@ -25,12 +25,10 @@ within c = omega (arith, c.requires, ap (λ (s : ShelfCells). length s.cells) c.
 was : (c : After-index_mut-cell) → slice_get c.self.inside.cells.items c.args.tenant ≡ Some c.index_mut-cell.result.now
 was c = slice_get_read c.self.inside.cells.items (length c.self.inside.cells.items) c.args.tenant _ refl (within c) c.index_mut-cell.ensures.value
 
-pub apply_into-requires-clause-lies : goal.apply_into-requires-clause-lies
-apply_into-requires-clause-lies c = c.self.invariant.0.lie c.args.tenant _ (was (goal.at.apply_into-requires-clause-lies c).After-index_mut-cell)
-
-pub apply_into-requires-clause-share : goal.apply_into-requires-clause-share
-apply_into-requires-clause-share c =
-    share_of c.self.inside.block c.self.inside.cells.items c.args.tenant _ c.self.invariant.0 (was (goal.at.apply_into-requires-clause-share c).After-index_mut-cell)
+pub apply_into-requires : goal.apply_into-requires
+apply_into-requires c =
+    let at = was (goal.at.apply_into-requires c).After-index_mut-cell in
+    record { lies = c.self.invariant.0.lie c.args.tenant _ at; share = share_of c.self.inside.block c.self.inside.cells.items c.args.tenant _ c.self.invariant.0 at }
 
 -- the tenants share the block behind the call
 next : (c : After-apply_into) → AreInBlock c.apply_into.new.block (set c.self.inside.cells.items c.args.tenant c.apply_into.new.self)

@@ -11,7 +11,7 @@ use Rattle.prepare_commit.specs.Bases.{Frozen, base_of}
 use Rattle.prepare_commit.specs.Content.{Content}
 use Rattle.prepare_commit.specs.InBlock.{Parts, content_in}
 use Rattle.prepare_commit.specs.Marks.{marks_of}
-use Rattle.prepare_commit.proofs.Owning.{own_none}
+use Rattle.version_chain.proofs.Changing.{own_none}
 use Rattle.partition.specs.Shelf.{ShelfCells, contents, IsBaseAt, HasLogAt}
 use Rattle.partition.proofs.OneCell.{slice_get-mapped, cell_there, cell_room, stands_there, in_block_next}
 use Rattle.partition.proofs.shelf.Shelf.base.Goals as goal

@@ -29,15 +29,17 @@ returns c =
     let heads = c.commit.new.self.chains in
     let few = c.self.invariant.0 in
     record {
-      lies = record {
-        versions = done.lies;
-        remembers = λ keep e. settled_noted keep c.self.inside.changed c.commit.new.changed _ _ (chain_lists c.commit.new.block heads) done.noted (lies.remembers keep e);
-        since = kept_noted (begun_by c.self.inside.last_base) c.self.inside.last_base.since c.commit.new.since _ _ (chain_lists c.commit.new.block heads) done.since lies.since;
-        holds = commit_holds _ _ _ heads _ _ _ lies few done.marked done.count done.room done.keys done.moved;
+      served = record {
+        lies = record {
+          versions = done.changed.lies;
+          remembers = λ keep e. settled_noted keep c.self.inside.changed c.commit.new.changed _ _ (chain_lists c.commit.new.block heads) done.noted.noted (lies.remembers keep e);
+          since = kept_noted (begun_by c.self.inside.last_base) c.self.inside.last_base.since c.commit.new.since _ _ (chain_lists c.commit.new.block heads) done.since.noted lies.since;
+          holds = commit_holds _ _ _ heads _ _ _ lies few done.marked done.count done.moved;
+        };
+        own = rw (← c.self.view_is) done.changed.own;
+        serves = rw (← c.self.view_is) (commit_is_served _ _ _ heads _ _ _ lies few done.marked done.count done.moved);
       };
-      own = rw (← c.self.view_is) done.own;
-      serves = rw (← c.self.view_is) (commit_is_served _ _ _ heads _ _ _ lies few done.marked done.count done.room done.keys done.moved);
-      initial = commit_initial _ _ _ heads _ _ _ lies few done.marked done.count done.room done.keys done.moved;
-      nothing = λ none. commit_nothing _ _ _ heads _ _ _ lies few done.marked done.count done.room done.keys done.moved none ∙ ap (content_in c.args.block.now) c.self.view_is;
+      initial = commit_initial _ _ _ heads _ _ _ lies few done.marked done.count done.moved;
+      nothing = λ none. commit_nothing _ _ _ heads _ _ _ lies few done.marked done.count done.moved none ∙ ap (content_in c.args.block.now) c.self.view_is;
       visits = done.visits;
     }

@@ -13,6 +13,7 @@ use Rattle.prepare_commit.specs.Marks.{marks_of}
 use Rattle.prepare_commit.specs.Spots.{begun_by}
 use Rattle.prepare_commit.specs.InBlock.{Parts}
 use Rattle.prepare_commit.specs.Bases.{Frozen, Leaves, AreOrdered, IsEntryBefore, IsNew}
+use Rattle.prepare_commit.proofs.Chaining.{lists_long}
 use Rattle.prepare_commit.proofs.Filling.{new_inside, not_yet, numbered_laid, nothing_together, versions_known, filled_versions, filled_holds, filled_stands}
 use Rattle.prepare_commit.proofs.ItemByItem.{all_written}
 use Rattle.prepare_commit.proofs.Since.{kept_noted_all}
@@ -87,8 +88,10 @@ pub add_versions-requires : goal.add_versions-requires
 add_versions-requires c =
     let at = (goal.at.add_versions-requires c).After-add_items in
     record {
-      lies = (new at).lies c.args.block.now (subst (λ (p : Parts). count_by (is_of_tenant p.chains.tenant) c.args.block.now ≡ 0) (sym c.self.view_is) c.requires.none);
-      share = subst (λ (p : Parts). HasShare c.args.block.now p.chains) (sym c.self.view_is) c.requires.share;
+      share = record {
+        lies = (new at).lies c.args.block.now (subst (λ (p : Parts). count_by (is_of_tenant p.chains.tenant) c.args.block.now ≡ 0) (sym c.self.view_is) c.requires.none);
+        share = subst (λ (p : Parts). HasShare c.args.block.now p.chains) (sym c.self.view_is) c.requires.share;
+      };
       laid = numbered_laid (items at) (lists at) (none at) (subst (AreOrdered IsEntryBefore) (sym (entries_are at)) c.base.invariant.1.entries_ordered) c.add_items.ensures.chains;
       within = few at;
       empty = nothing_together (items at) (lists at) (none at);
@@ -104,9 +107,9 @@ index_latest-requires c =
     let at = (goal.at.index_latest-requires c).After-add_items in
     let put = c.add_versions.ensures in
     record {
-      stands = put.lies.stands;
+      stands = put.changed.lies.stands;
       laid = put.laid;
-      within = omega (arith, few at, put.as_many);
+      within = omega (arith, few at, lists_long _ _ _ _ put.changed.own);
       room = omega (arith, few at, long at, ap (λ (i : Index). i.room) (new at).index);
       empty = ap (λ (i : Index). i.tags) (new at).index;
     }
@@ -130,25 +133,25 @@ returns c =
     let heads = c.add_versions.new.held.chains in
     let index = c.index_latest.new.index in
     let room = (new at).room_is in
-    let within : length (items at) ≤ length (chain_lists block heads) = omega (arith, few at, put.as_many) in
+    let within : length (items at) ≤ length (chain_lists block heads) = omega (arith, few at, lists_long _ _ _ _ put.changed.own) in
     let base = (held at).versions in
     let members = subst (λ vs. SameMembers (together (item_chains (items at) (chain_lists block heads))) vs) (versions_are at) put.members in
     let used = put.used ∙ ap length (versions_are at) in
-    let versions = filled_versions block heads (items at) base put.laid within members put.lies.stands c.base.invariant.1.versions_ordered in
+    let versions = filled_versions block heads (items at) base put.laid within members put.changed.lies.stands c.base.invariant.1.versions_ordered in
     let marks = c.add_marks.ensures.added ∙ c.deref.ensures.value in
     record {
       room = room ∙ ap (λ (b : Frozen). b.room) c.base.view_is;
-      own = subst (λ (p : Parts). ChangesOwn c.args.block.now block p.chains heads) c.self.view_is put.own;
+      own = subst (λ (p : Parts). ChangesOwn c.args.block.now block p.chains heads) c.self.view_is put.changed.own;
       used = used ∙ ap (λ (b : Frozen). length b.versions) c.base.view_is;
       lies = record {
-        versions = put.lies;
+        versions = put.changed.lies;
         remembers = λ keep e. not_yet keep (sym (new at).not_collected ∙ e);
         since = kept_noted_all (begun_by c.self.inside.last_base) c.note_all.new.self (items at) (chain_lists block heads)
             (λ chain less. c.note_all.ensures.noted chain (omega (arith, less, c.note_all.ensures.long)))
             (λ k d w. (let given = put.laid.given k d w in omega (arith, given, few at, long at, c.note_all.ensures.long, c.self.invariant.8, ap (λ (r : Room). r.items) room)));
         holds =
             filled_holds block heads (items at) base put.laid within members c.self.inside.slots c.self.inside.items index used (omega (arith, c.base.invariant.1.slots, ap (λ (r : Room). r.slots) room))
-            (put.own.shape.share ∙ (new at).share ∙ sym (ap (λ (r : Room). r.slots) room)) (put.as_many ∙ long at ∙ sym (ap (λ (r : Room). r.items) room)) c.index_latest.ensures.knows
+            (put.changed.own.shape.share ∙ (new at).share ∙ sym (ap (λ (r : Room). r.slots) room)) (lists_long _ _ _ _ put.changed.own ∙ long at ∙ sym (ap (λ (r : Room). r.items) room)) c.index_latest.ensures.knows
             (c.index_latest.ensures.room ∙ ap (λ (i : Index). i.room) (new at).index ∙ sym (ap (λ (r : Room). r.items) room));
       };
       holds = (λ i. record { room = room i; versions = versions i; entries = entries_are at i; marks = marks i }) ∙ c.base.view_is;

@@ -1,4 +1,4 @@
-use Rattle.prepare_commit.proofs.Owning.{share_kept}
+use Rattle.version_chain.proofs.Changing.{share_kept}
 use Rattle.prepare_commit.proofs.lone_cell.LoneCell.apply.Goals as goal
 
 pub apply-requires : goal.apply-requires

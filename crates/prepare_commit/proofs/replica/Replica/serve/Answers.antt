@@ -3,9 +3,12 @@ use Rattle.std.specs.Prelude.{IsSomeAnd}
 use Rattle.plain_store.specs.Log.{Log}
 use Rattle.plain_store.specs.Replies.{reply_after}
 use Rattle.prepare_commit.specs.Bases.{Frozen, Leaves, base_of}
-use Rattle.prepare_commit.proofs.Owning.{share_kept}
+use Rattle.version_chain.proofs.Changing.{share_kept}
 use Rattle.prepare_commit.proofs.Served.{has_stood, told_after, left_after}
 use Rattle.prepare_commit.proofs.replica.Replica.serve.Goals as goal
+
+pub apply_into-requires : goal.apply_into-requires
+apply_into-requires c = record { lies = c.self.invariant.0; share = c.self.invariant.1 }
 
 pub invariant_of-self : goal.invariant_of-self
 invariant_of-self c = (

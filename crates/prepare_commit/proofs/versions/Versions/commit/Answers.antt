@@ -25,12 +25,9 @@ pub note_at-requires : goal.note_at-requires
 note_at-requires c =
     let done = c.sweep_unless.ensures in
     record {
-      ordered = c.places_at-first.ensures.ordered;
-      within = c.places_at-first.ensures.within;
-      together = c.places_at-first.ensures.together;
       stands = still_stands c.args.block.now c.args.self.now.chains c.sweep_unless.new.chains done.rest c.requires.lies.stands;
-      listed = done.listed;
-      swept = done.swept;
+      list = done.list;
+      run = c.places_at-first.ensures;
       long = c.requires.as_long ∙ chains_long c.args.block.now c.args.self.now.chains ∙ sym (ap (λ (h : Heads). length h.heads) done.rest);
     }
 
@@ -39,12 +36,9 @@ commit-requires c =
     let done = c.sweep_unless.ensures in
     let known = c.requires.known in
     record {
-      ordered = c.places_at-first.ensures.ordered;
-      within = c.places_at-first.ensures.within;
-      together = c.places_at-first.ensures.together;
       stands = still_stands c.args.block.now c.args.self.now.chains c.sweep_unless.new.chains done.rest c.requires.lies.stands;
-      listed = done.listed;
-      swept = done.swept;
+      list = done.list;
+      run = c.places_at-first.ensures;
       few = omega (arith, c.requires.few, ap (λ (h : Heads). h.used) done.rest);
       long = c.requires.long ∙ chains_long c.args.block.now c.args.self.now.chains ∙ sym (ap (λ (h : Heads). length h.heads) done.rest);
       before = c.requires.before;
@@ -63,12 +57,10 @@ returns c =
     let seen = view at in
     let test = λ (v : Version). v.prepared.stamp == c.args.stamp in
     record {
-      lies = record { stands = done.stands; listed = done.listed; swept = λ _. done.swept };
-      own = own_after block start heads rest c.commit.new.block after (record {
-        shape = record { tenant = ap (λ (h : Heads). h.tenant) done.rest; share = ap (λ (h : Heads). h.share) done.rest; long = ap (λ (h : Heads). length h.heads) done.rest };
-        others = done.others;
-        live = omega (arith, done.live, ap (λ (h : Heads). h.used) done.rest);
-      });
+      changed = record {
+        lies = record { stands = done.stands; listed = done.list.listed; swept = λ _. done.list.swept };
+        own = own_after block start heads rest c.commit.new.block after done.own;
+      };
       marked =
           let lists = done.marked ∙ ap (λ (h : Chained). map (map (marked_at c.args.stamp)) h.chains) seen in
           let share = ap (λ (h : Heads). h.share) done.rest ∙ ap (λ (h : Chained). h.share) seen in
@@ -77,13 +69,15 @@ returns c =
       count = λ items all.
           done.count ∙ ap (λ (h : Chained). sum_by (count_by test) h.chains) seen
           ∙ sym (count_all items (held_in block start) all (used_is block start c.requires.lies.stands) test);
-      room = done.room;
-      keys = done.keys;
-      moved = λ items all. done.moved items (have at items all);
-      long = done.long;
-      noted = λ chain free. (let both = done.noted chain free in (both.0, both.1 ∙ ap (λ (h : Chained). chain_at h.chains chain) seen));
-      as_long = c.note_at.ensures.long;
-      since = λ chain free.
-          (let both = noted_marked c.args.stamp _ _ _ _ c.note_at.ensures.noted done.marked chain free in (both.0, both.1 ∙ ap (λ (h : Chained). chain_at h.chains chain) seen));
+      moved = record { room = done.moved.room; keys = done.moved.keys; moved = λ items all. done.moved.moved items (have at items all) };
+      noted = record {
+        long = done.noted.long;
+        noted = λ chain free. (let both = done.noted.noted chain free in (both.0, both.1 ∙ ap (λ (h : Chained). chain_at h.chains chain) seen));
+      };
+      since = record {
+        long = c.note_at.ensures.long;
+        noted = λ chain free.
+            (let both = noted_marked c.args.stamp _ _ _ _ c.note_at.ensures.noted done.marked chain free in (both.0, both.1 ∙ ap (λ (h : Chained). chain_at h.chains chain) seen));
+      };
       visits = done.visits;
     }

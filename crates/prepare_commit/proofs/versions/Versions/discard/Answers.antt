@@ -18,12 +18,9 @@ pub note_at-requires : goal.note_at-requires
 note_at-requires c =
     let done = c.sweep_unless.ensures in
     record {
-      ordered = c.places_at-first.ensures.ordered;
-      within = c.places_at-first.ensures.within;
-      together = c.places_at-first.ensures.together;
       stands = still_stands c.args.block.now c.args.self.now.chains c.sweep_unless.new.chains done.rest c.requires.lies.stands;
-      listed = done.listed;
-      swept = done.swept;
+      list = done.list;
+      run = c.places_at-first.ensures;
       long = c.requires.as_long ∙ chains_long c.args.block.now c.args.self.now.chains ∙ sym (ap (λ (h : Heads). length h.heads) done.rest);
     }
 
@@ -32,8 +29,7 @@ discard_at-requires c =
     let done = c.sweep_unless.ensures in
     record {
       stands = still_stands c.args.block.now c.args.self.now.chains c.sweep_unless.new.chains done.rest c.requires.lies.stands;
-      listed = done.listed;
-      swept = done.swept;
+      list = done.list;
       few = omega (arith, c.requires.few, ap (λ (h : Heads). h.used) done.rest);
       before = c.requires.before;
     }
@@ -48,19 +44,23 @@ returns c =
     let seen : held_in block heads ≡ held_in block start = ap (held_in block) swept.rest in
     let test = λ (v : Version). v.prepared.stamp == c.args.stamp in
     record {
-      lies = record { stands = done.stands; listed = done.listed; swept = λ _. done.swept };
-      own = own_after block start heads swept.rest c.discard_at.new.block c.discard_at.new.self (record { shape = done.shape; others = done.others; live = omega (arith, done.fewer.0, done.fewer.1) });
+      changed = record {
+        lies = record { stands = done.stands; listed = done.list.listed; swept = λ _. done.list.swept };
+        own = own_after block start heads swept.rest c.discard_at.new.block c.discard_at.new.self done.own;
+      };
       gone =
-          chains_each block c.discard_at.new.block heads c.discard_at.new.self (without_open c.args.stamp) done.shape.long done.kept
+          chains_each block c.discard_at.new.block heads c.discard_at.new.self (without_open c.args.stamp) done.own.shape.long done.kept
           ∙ ap (λ (h : Chained). map (without_open c.args.stamp) h.chains) seen;
-      fewer = omega (arith, done.fewer.0, ap (λ (h : Heads). h.used) swept.rest);
+      fewer = omega (arith, done.given_up.used, ap (λ (h : Heads). h.used) swept.rest);
       visits = λ items all.
           done.visits
-          ∙ ap (λ n. c.args.visits.now + n) (places_count block heads c.args.stamp (still_stands block start heads swept.rest c.requires.lies.stands) swept.listed swept.swept
+          ∙ ap (λ n. c.args.visits.now + n) (places_count block heads c.args.stamp (still_stands block start heads swept.rest c.requires.lies.stands) swept.list.listed swept.list.swept
           ∙ ap (λ (h : Chained). sum_by (count_by test) h.chains) seen
           ∙ sym (count_all items (held_in block start) all (used_is block start c.requires.lies.stands) test));
-      as_long = c.note_at.ensures.long;
-      since = λ chain free.
-          (let both = noted_gone c.args.stamp _ _ _ _ c.note_at.ensures.noted (chains_each block c.discard_at.new.block heads c.discard_at.new.self (without_open c.args.stamp) done.shape.long done.kept) chain free in
-          (both.0, both.1 ∙ ap (λ (h : Chained). chain_at h.chains chain) seen));
+      since = record {
+        long = c.note_at.ensures.long;
+        noted = λ chain free.
+            (let both = noted_gone c.args.stamp _ _ _ _ c.note_at.ensures.noted (chains_each block c.discard_at.new.block heads c.discard_at.new.self (without_open c.args.stamp) done.own.shape.long done.kept) chain free in
+            (both.0, both.1 ∙ ap (λ (h : Chained). chain_at h.chains chain) seen));
+      };
     }

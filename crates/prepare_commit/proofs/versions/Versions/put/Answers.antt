@@ -9,7 +9,7 @@ use Rattle.prepare_commit.proofs.versions.Versions.put.Goals as goal
 use Rattle.prepare_commit.proofs.versions.Versions.put.Goals.{After-sweep_unless}
 
 pub sweep_unless-requires : goal.sweep_unless-requires
-sweep_unless-requires c = record { listed = c.requires.lies.listed; swept = c.requires.lies.swept }
+sweep_unless-requires c = record { listed = c.requires.share.lies.listed; swept = c.requires.share.lies.swept }
 
 -- the chain that it goes into
 known : (c : After-sweep_unless) → c.args.chain < length (chain_lists c.args.block.now c.sweep_unless.new.chains)
@@ -23,15 +23,15 @@ put-requires c =
     let heads : Heads = c.sweep_unless.new.chains in
     let done = c.sweep_unless.ensures in
     record {
-      known = within block heads c.args.chain (known at_start);
-      stands = still_stands block start heads done.rest c.requires.lies.stands;
-      share = still_shared block start heads done.rest c.requires.share;
-      listed = done.listed;
-      swept = done.swept;
-      room = omega (arith, c.requires.room, ap (λ (h : Heads). h.used) done.rest, ap (λ (h : Heads). h.share) done.rest);
-      missing =
-          ap (λ (vs : List Version). at_stamp vs c.args.version.now.prepared.stamp) (sym (at block heads c.args.chain (known at_start)) ∙ ap (λ (h : Heads). chain_at (chain_lists block h) c.args.chain) done.rest)
-          ∙ c.requires.missing;
+      chain = record { known = within block heads c.args.chain (known at_start); stands = still_stands block start heads done.rest c.requires.share.lies.stands };
+      list = done.list;
+      room = record {
+        share = still_shared block start heads done.rest c.requires.share.share;
+        room = omega (arith, c.requires.room, ap (λ (h : Heads). h.used) done.rest, ap (λ (h : Heads). h.share) done.rest);
+        missing =
+            ap (λ (vs : List Version). at_stamp vs c.args.version.now.prepared.stamp) (sym (at block heads c.args.chain (known at_start)) ∙ ap (λ (h : Heads). chain_at (chain_lists block h) c.args.chain) done.rest)
+            ∙ c.requires.missing;
+      };
     }
 
 pub returns : goal.returns
@@ -46,10 +46,12 @@ returns c =
     record {
       put = subst (λ (h : Heads). IsPutIn (chain_lists block h) (chain_lists c.put.new.block c.put.new.self) c.args.chain c.args.version.now) rest (
         left,
-        rw (at block heads c.args.chain in_range) put.added,
-        chains_set block c.put.new.block heads c.put.new.self c.args.chain left put.shape.long put.chains (within block heads c.args.chain in_range) refl,
+        rw (at block heads c.args.chain in_range) put.added.inserted,
+        chains_set block c.put.new.block heads c.put.new.self c.args.chain left put.changed.own.shape.long put.changed.others (within block heads c.args.chain in_range) refl,
       );
-      used = omega (arith, put.one_more.0, ap (λ (h : Heads). h.used) rest);
-      lies = record { stands = put.stands; listed = put.listed; swept = λ _. put.swept };
-      own = own_after block start heads rest c.put.new.block c.put.new.self (record { shape = put.shape; others = put.others; live = omega (arith, put.one_more.0, put.one_more.1) });
+      used = omega (arith, put.added.used, ap (λ (h : Heads). h.used) rest);
+      changed = record {
+        lies = record { stands = put.changed.stands; listed = put.list.listed; swept = λ _. put.list.swept };
+        own = own_after block start heads rest c.put.new.block c.put.new.self put.changed.own;
+      };
     }

@@ -1,7 +1,8 @@
 use Rattle.std.proofs.Common.{ap}
 use Rattle.version_chain.specs.Heads.{Heads}
 use Rattle.prepare_commit.specs.Layout.{chain_lists}
-use Rattle.prepare_commit.proofs.Owning.{own_none, own_after, still_stands}
+use Rattle.version_chain.proofs.Changing.{own_none}
+use Rattle.prepare_commit.proofs.Owning.{own_after, still_stands}
 use Rattle.prepare_commit.proofs.versions.Versions.sweep.Goals as goal
 
 pub sweep_unless-requires : goal.sweep_unless-requires
@@ -12,8 +13,10 @@ returns c =
     let done = c.sweep_unless.ensures in
     let block = c.args.block.now in
     record {
-      lies = record { stands = still_stands block c.args.self.now.chains c.sweep_unless.new.chains done.rest c.requires.stands; listed = done.listed; swept = λ _. done.swept };
-      own = own_after block c.args.self.now.chains c.sweep_unless.new.chains done.rest block c.sweep_unless.new.chains (own_none block c.sweep_unless.new.chains);
+      changed = record {
+        lies = record { stands = still_stands block c.args.self.now.chains c.sweep_unless.new.chains done.rest c.requires.stands; listed = done.list.listed; swept = λ _. done.list.swept };
+        own = own_after block c.args.self.now.chains c.sweep_unless.new.chains done.rest block c.sweep_unless.new.chains (own_none block c.sweep_unless.new.chains);
+      };
       lists = ap (λ (h : Heads). chain_lists block h) done.rest;
       used = ap (λ (h : Heads). h.used) done.rest;
     }

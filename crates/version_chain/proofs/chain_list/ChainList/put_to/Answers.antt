@@ -1,4 +1,4 @@
-use Rattle.std.proofs.Common.{◌≡◌, ◌+◌, ◌<◌, ◌++◌, ℕ, List, [], length, get_or, sym, ap, subst, ◌∙◌, arith}
+use Rattle.std.proofs.Common.{◌≡◌, ◌<◌, ◌++◌, ℕ, List, [], length, get_or, sym, ap, subst, ◌∙◌, arith}
 use Rattle.version_chain.specs.declared.version.Version.{Version}
 use Rattle.packed.specs.Cuts.{IsCut, pieces}
 use Rattle.packed.proofs.Pieces.{as_many}

@@ -16,13 +16,16 @@ loop-here-preserved c =
     let cut = c.loop-here.invariant in
     let left = c.unlink.ensures in
     let place : IsPlace c.loop-here.block c.loop-here.self c.args.chain c.args.floor c.seek.result.0 (Some c.in-Some.slot) = subst (λ here. IsPlace c.loop-here.block c.loop-here.self c.args.chain c.args.floor c.seek.result.0 here) c.in-Some.is cut.place in
-    cut_step _ _ _ _ _ _ _ _ _ _ _ c.in-Some.slot cut c.in-Some.is left.listed left.none_come left.stands left.shape left.others left.chains left.removed left.one_less (rw c.next-here.ensures (left.place c.args.floor place))
+    cut_step _ _ _ _ _ _ _ _ _ _ _ c.in-Some.slot cut c.in-Some.is left.changed left.removed left.freed left.listed (rw c.next-here.ensures (left.place c.args.floor place))
 
 pub returns-clause-listed : goal.returns-clause-listed
 returns-clause-listed c lists =
     let cut = c.loop-here.invariant in
-    lists_left c.args.block.now c.loop-here.block c.args.self.now c.loop-here.self cut.shape.tenant cut.listed cut.none_come lists
+    lists_left c.args.block.now c.loop-here.block c.args.self.now c.loop-here.self cut.changed.own.shape.tenant cut.listed cut.none_come lists
 
-pub returns-clause-none : goal.returns-clause-none
-returns-clause-none c e =
-    c.loop-here.invariant.none (omega (arith, c.loop-here.invariant.used, e, ap (λ (h : Heads). h.used) c.self.view_is, ap (λ (h : Heads). h.used) c.self-2.view_is))
+pub returns-clause-given_up : goal.returns-clause-given_up
+returns-clause-given_up c =
+    let given_up = c.loop-here.invariant.given_up in
+    let before = ap (λ (h : Heads). h.used) c.self.view_is in
+    let after = ap (λ (h : Heads). h.used) c.self-2.view_is in
+    record { used = omega (arith, given_up.used, before, after); none = λ e. given_up.none (omega (arith, given_up.used, e, before, after)) }

@@ -1,14 +1,32 @@
-use Rattle.std.proofs.Common.{◌≡◌, refl, sym, ap, ◌∙◌, ◌&&◌, ◌==◌, not, false, true, Bool}
+use Rattle.std.proofs.Common.{◌≡◌, refl, sym, ap, ◌∙◌, ◌&&◌, ◌==◌, not, false, true, Bool, arith}
 use Rattle.std.proofs.lemmas.Bool.{eqb-true}
-use Rattle.version_chain.proofs.Dropping.{all_stay, this_stays, this_own, others_left}
-use Rattle.version_chain.proofs.Discarding.{other_place}
-use Rattle.version_chain.proofs.Listing.{lists_left}
+use Rattle.version_chain.proofs.Dropping.{all_stay, this_stays, this_own, one_more, others_left}
+use Rattle.version_chain.proofs.Changing.{changes_none, gives_none}
+use Rattle.version_chain.proofs.Discarding.{drops_none, freed_nodes, other_place}
 use Rattle.version_chain.proofs.chains.Chains.discard.Goals as goal
 use Rattle.version_chain.proofs.chains.Chains.discard.Goals.{then-version-via-then-version, then-version-via-else-version+then-not-is_at}
 
 and_not : (a : Bool) → (a && false) ≡ false
 and_not true = refl
 and_not false = refl
+
+pub returns-in_default-clause-changed : goal.returns-in_default-clause-changed
+returns-in_default-clause-changed c = changes_none c.args.block.now c.args.self.now c.args.chain c.requires.stands
+
+pub returns-in_default-clause-given_up : goal.returns-in_default-clause-given_up
+returns-in_default-clause-given_up c = gives_none c.args.block.now c.args.self.now
+
+pub returns-in_default-clause-dropped : goal.returns-in_default-clause-dropped
+returns-in_default-clause-dropped c = drops_none c.args.stamp c.args.block.now c.args.self.now
+
+pub returns-then-version-clause-changed : goal.returns-then-version-clause-changed
+returns-then-version-clause-changed c = changes_none c.args.block.now c.args.self.now c.args.chain c.requires.stands
+
+pub returns-then-version-clause-given_up : goal.returns-then-version-clause-given_up
+returns-then-version-clause-given_up c = gives_none c.args.block.now c.args.self.now
+
+pub returns-then-version-clause-dropped : goal.returns-then-version-clause-dropped
+returns-then-version-clause-dropped c = drops_none c.args.stamp c.args.block.now c.args.self.now
 
 pub returns-in_default-clause-kept : goal.returns-in_default-clause-kept
 returns-in_default-clause-kept c = all_stay _ _ _ _ _ _ c.requires.stands c.requires.known c.seek_above-last.ensures c.in_default.is
@@ -24,12 +42,18 @@ pub returns-clause-kept : goal.returns-clause-kept
 returns-clause-kept c =
     others_left c.args.block.now c.unlink.new.block c.args.self.now c.unlink.new.self c.args.chain c.args.stamp c.in-Some.slot c.get.result.now c.requires.stands c.requires.known c.get.ensures c.unlink.ensures.removed (eqb-true _ _ (sym c.is_at.ensures ∙ c.if-not-is_at.false)) c.if-version.false
 
-pub returns-clause-listed : goal.returns-clause-listed
-returns-clause-listed c lists =
-    lists_left _ _ _ _ c.unlink.ensures.shape.tenant c.unlink.ensures.listed c.unlink.ensures.none_come lists
+pub returns-clause-given_up : goal.returns-clause-given_up
+returns-clause-given_up c = record {
+  used = sym (one_more c.args.block.now c.unlink.new.block c.args.self.now c.unlink.new.self c.args.chain c.args.stamp c.in-Some.slot c.get.result.now c.requires.stands c.requires.known c.get.ensures c.unlink.ensures.removed).used;
+  none = λ e. absurd (omega (arith, e));
+}
 
-pub returns-clause-rest : goal.returns-clause-rest
-returns-clause-rest c place shut =
+pub returns-clause-dropped : goal.returns-clause-dropped
+returns-clause-dropped c =
     let own = this_own _ _ _ _ _ _ c.requires.stands c.requires.known c.seek_above-last.ensures _ _ c.in-Some.is c.get.ensures in
-    c.unlink.ensures.rest place
-    (other_place c.args.block.now c.args.self.now.tenant c.args.stamp c.in-Some.slot place c.get.result.now c.get.ensures own (eqb-true _ _ (sym c.is_at.ensures ∙ c.if-not-is_at.false)) c.if-version.false shut)
+    record {
+      nodes = freed_nodes c.args.block.now c.unlink.new.block c.in-Some.slot c.unlink.ensures.freed;
+      rest = λ place shut. c.unlink.ensures.freed.rest place
+          (other_place c.args.block.now c.args.self.now.tenant c.args.stamp c.in-Some.slot place c.get.result.now c.get.ensures own (eqb-true _ _ (sym c.is_at.ensures ∙ c.if-not-is_at.false)) c.if-version.false shut);
+      list = c.unlink.ensures.listed;
+    }

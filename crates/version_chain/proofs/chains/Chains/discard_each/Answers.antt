@@ -7,22 +7,22 @@ use Rattle.version_chain.proofs.chains.Chains.discard_each.Goals as goal
 use Rattle.version_chain.proofs.chains.Chains.discard_each.Goals.{After-discard_slot-dropped}
 
 pub loop-place-init : goal.loop-place-init
-loop-place-init c = (none_dropped c.args.block.now c.args.self.now c.args.stamp c.requires.stands c.requires.listed, omega arith)
+loop-place-init c = (none_dropped c.args.block.now c.args.self.now c.args.stamp c.requires.stands c.requires.list.listed, omega arith)
 
 pub tick-requires : goal.tick-requires
 tick-requires c =
-    let listed = no_more_listed c.args.block.now c.args.self.now c.requires.stands c.requires.listed c.requires.swept in
-    omega (arith, c.loop-place-test.true, (places_long c.args.self.now c.args.stamp c.places_at-first.result.0 c.places_at-first.result.1 c.places_at-first.ensures.ordered c.places_at-first.ensures.within c.places_at-first.ensures.together), listed, places_few c.args.self.now c.args.stamp, c.requires.few, c.requires.before, c.loop-place.invariant.1)
+    let listed = no_more_listed c.args.block.now c.args.self.now c.requires.stands c.requires.list.listed c.requires.list.swept in
+    omega (arith, c.loop-place-test.true, (places_long c.args.self.now c.args.stamp c.places_at-first.result.0 c.places_at-first.result.1 c.places_at-first.ensures), listed, places_few c.args.self.now c.args.stamp, c.requires.few, c.requires.before, c.loop-place.invariant.1)
 
 pub overflow_add-dropped : goal.overflow_add-dropped
-overflow_add-dropped c = omega (arith, c.discard_slot-dropped.ensures.fewer.0, c.loop-place.invariant.0.fewer.0, c.requires.few)
+overflow_add-dropped c = omega (arith, c.discard_slot-dropped.ensures.given_up.used, c.loop-place.invariant.0.given_up.used, c.requires.few)
 
 within : (c : After-discard_slot-dropped) → c.loop-place.place < length (places c.args.self.now c.args.stamp)
-within c = omega (arith, c.loop-place-test.true, (places_long c.args.self.now c.args.stamp c.places_at-first.result.0 c.places_at-first.result.1 c.places_at-first.ensures.ordered c.places_at-first.ensures.within c.places_at-first.ensures.together))
+within c = omega (arith, c.loop-place-test.true, (places_long c.args.self.now c.args.stamp c.places_at-first.result.0 c.places_at-first.result.1 c.places_at-first.ensures))
 
 is : (c : After-discard_slot-dropped) → c.kept_in-slot.result ≡ get_or (places c.args.self.now c.args.stamp) c.loop-place.place c.kept_in-slot.result
 is c =
-    place_in c.args.self.now c.args.stamp c.places_at-first.result.0 c.places_at-first.result.1 c.places_at-first.ensures.ordered c.places_at-first.ensures.within c.places_at-first.ensures.together c.loop-place.place c.kept_in-slot.result c.loop-place-test.true
+    place_in c.args.self.now c.args.stamp c.places_at-first.result.0 c.places_at-first.result.1 c.places_at-first.ensures c.loop-place.place c.kept_in-slot.result c.loop-place-test.true
     (c.kept_in-slot.ensures ∙ ap (λ (ks : List Kept). get_or ks (c.places_at-first.result.0 + c.loop-place.place) c.kept_in-slot.result) c.loop-place.invariant.0.list)
 
 pub loop-place-preserved : goal.loop-place-preserved
@@ -30,23 +30,20 @@ loop-place-preserved c =
     let at = (goal.at.loop-place-preserved c).After-discard_slot-dropped in
     let left = c.discard_slot-dropped.ensures in (
       one_dropped c.args.block.now c.loop-place.block c.discard_slot-dropped.new.block c.args.self.now c.loop-place.self c.discard_slot-dropped.new.self c.args.stamp c.loop-place.place c.loop-place.dropped c.discard_slot-dropped.result c.kept_in-slot.result
-          c.loop-place.invariant.0 (within at) (is at) left.stands left.shape left.share left.others left.left left.gone left.fewer left.listed left.nodes left.rest left.list left.none,
+          c.loop-place.invariant.0 (within at) (is at) left.own left.stands left.left left.gone left.given_up left.dropped,
       omega (arith, c.tick.ensures, c.loop-place.invariant.1),
     )
 
 pub returns : goal.returns
 returns c =
     let was = c.loop-place.invariant.0 in
-    let all = places_long c.args.self.now c.args.stamp c.places_at-first.result.0 c.places_at-first.result.1 c.places_at-first.ensures.ordered c.places_at-first.ensures.within c.places_at-first.ensures.together in
+    let all = places_long c.args.self.now c.args.stamp c.places_at-first.result.0 c.places_at-first.result.1 c.places_at-first.ensures in
     record {
+      own = was.own;
       stands = was.stands;
-      shape = was.shape;
-      share = was.share;
-      others = was.others;
       kept = all_dropped c.args.block.now c.loop-place.block c.args.self.now c.loop-place.self c.args.stamp c.loop-place.place c.loop-place.dropped was (omega (arith, all, c.loop-place-test.false));
-      fewer = was.fewer;
+      given_up = was.given_up;
       listed = was.listed;
-      swept = swept_but c.args.block.now c.loop-place.block c.args.self.now c.loop-place.self c.args.stamp c.loop-place.place c.loop-place.dropped was c.requires.swept;
-      none = was.none;
+      swept = swept_but c.args.block.now c.loop-place.block c.args.self.now c.loop-place.self c.args.stamp c.loop-place.place c.loop-place.dropped was c.requires.list.swept;
       visits = omega (arith, c.loop-place.invariant.1, c.loop-place-test.false, c.loop-place.auto.place-end, all);
     }

@@ -23,26 +23,17 @@ after c =
     let version : Version = record { prepared = c.args.prepared.now; committed = c.args.committed } in
     let place : IsPlace c.args.block.now c.args.self.now c.args.chain c.args.prepared.now.stamp (Some c.in-Some.last) c.args.here = subst (λ last. IsPlace c.args.block.now c.args.self.now c.args.chain c.args.prepared.now.stamp last c.args.here) c.in-Some.is c.requires.place in
     let whose : c.self.inside.tenant ≡ c.args.self.now.tenant = ap (λ (h : Heads). h.tenant) c.self.view_is in
-    let kept = kept_is c.args.self.now.latest c.args.chain c.in-Ok.slot c.rises-rises.result c.index.result.now c.latest_of.result (omega (arith, c.requires.known, c.requires.stands.long)) (rw (← c.self.view_is) c.index.ensures) c.latest_of.ensures in
+    let kept = kept_is c.args.self.now.latest c.args.chain c.in-Ok.slot c.rises-rises.result c.index.result.now c.latest_of.result (omega (arith, c.requires.chain.known, c.requires.chain.stands.long)) (rw (← c.self.view_is) c.index.ensures) c.latest_of.ensures in
     subst (λ (h : Heads). Inserted c.args.block.now c.set_next.new.self c.args.self.now (grown c.args.chain c.latest_of.result h) c.args.chain version) (sym c.self.view_is)
     (subst (λ k. Inserted c.args.block.now c.set_next.new.self c.args.self.now (grown c.args.chain k c.args.self.now) c.args.chain version) (sym kept)
     (rw (c.set_next.ensures, c.in-Ok.ensures.put, whose)
-    (inserted_after c.args.block.now c.args.self.now c.args.chain c.in-Ok.slot version c.args.here c.requires.stands c.requires.known c.in-Ok.ensures.was_free.0 c.in-Ok.ensures.was_free.1 c.requires.room c.requires.missing c.rises-rises.result (rises_is c.args.committed _ _ c.rises-rises.result _ c.rises-rises.ensures c.stamp_of.ensures) c.in-Some.last place)))
+    (inserted_after c.args.block.now c.args.self.now c.args.chain c.in-Ok.slot version c.args.here c.requires.chain.stands c.requires.chain.known c.in-Ok.ensures.was_free.0 c.in-Ok.ensures.was_free.1 c.requires.room.room c.requires.room.missing c.rises-rises.result (rises_is c.args.committed _ _ c.rises-rises.result _ c.rises-rises.ensures c.stamp_of.ensures) c.in-Some.last place)))
 
-pub returns-in-Some-clause-stands : goal.returns-in-Some-clause-stands
-returns-in-Some-clause-stands c = (after c).stands
+pub returns-in-Some-clause-changed : goal.returns-in-Some-clause-changed
+returns-in-Some-clause-changed c = (after c).changed
 
-pub returns-in-Some-clause-chains : goal.returns-in-Some-clause-chains
-returns-in-Some-clause-chains c = (after c).others
-
-pub returns-in-Some-clause-linked : goal.returns-in-Some-clause-linked
-returns-in-Some-clause-linked c = (after c).inserted
-
-pub returns-in-Some-clause-one_more : goal.returns-in-Some-clause-one_more
-returns-in-Some-clause-one_more c = (ap (λ (h : Heads). h.used + 1) c.self.view_is, (after c).live)
-
-pub returns-in-Some-clause-others : goal.returns-in-Some-clause-others
-returns-in-Some-clause-others c = (after c).kept
+pub returns-in-Some-clause-added : goal.returns-in-Some-clause-added
+returns-in-Some-clause-added c = (after c).added
 
 abbrev grown_at : ℕ → ℕ → Option ℕ → Heads → Heads
 grown_at chain slot latest chains = with_used chains (chains.used + 1) (slice_set chains.heads chain (Some slot)) (slice_set chains.latest chain latest)
@@ -53,26 +44,17 @@ first c =
     let version : Version = record { prepared = c.args.prepared.now; committed = c.args.committed } in
     let place : IsPlace c.args.block.now c.args.self.now c.args.chain c.args.prepared.now.stamp None c.args.here = subst (λ last. IsPlace c.args.block.now c.args.self.now c.args.chain c.args.prepared.now.stamp last c.args.here) c.in-None.is c.requires.place in
     let whose : c.self.inside.tenant ≡ c.args.self.now.tenant = ap (λ (h : Heads). h.tenant) c.self.view_is in
-    let kept = kept_is c.args.self.now.latest c.args.chain c.in-Ok.slot c.rises-rises.result c.index.result.now c.latest_of.result (omega (arith, c.requires.known, c.requires.stands.long)) (rw (← c.self.view_is) c.index.ensures) c.latest_of.ensures in
+    let kept = kept_is c.args.self.now.latest c.args.chain c.in-Ok.slot c.rises-rises.result c.index.result.now c.latest_of.result (omega (arith, c.requires.chain.known, c.requires.chain.stands.long)) (rw (← c.self.view_is) c.index.ensures) c.latest_of.ensures in
     subst (λ (h : Heads). Inserted c.args.block.now c.put.new.self c.args.self.now (grown_at c.args.chain c.in-Ok.slot c.latest_of.result h) c.args.chain version) (sym c.self.view_is)
     (subst (λ k. Inserted c.args.block.now c.put.new.self c.args.self.now (grown_at c.args.chain c.in-Ok.slot k c.args.self.now) c.args.chain version) (sym kept)
     (rw (c.in-Ok.ensures.put, whose)
-    (inserted_first c.args.block.now c.args.self.now c.args.chain c.in-Ok.slot version c.args.here c.requires.stands c.requires.known c.in-Ok.ensures.was_free.0 c.in-Ok.ensures.was_free.1 c.requires.room c.requires.missing c.rises-rises.result (rises_is c.args.committed _ _ c.rises-rises.result _ c.rises-rises.ensures c.stamp_of.ensures) place)))
+    (inserted_first c.args.block.now c.args.self.now c.args.chain c.in-Ok.slot version c.args.here c.requires.chain.stands c.requires.chain.known c.in-Ok.ensures.was_free.0 c.in-Ok.ensures.was_free.1 c.requires.room.room c.requires.room.missing c.rises-rises.result (rises_is c.args.committed _ _ c.rises-rises.result _ c.rises-rises.ensures c.stamp_of.ensures) place)))
 
-pub returns-in-None-clause-stands : goal.returns-in-None-clause-stands
-returns-in-None-clause-stands c = (first c).stands
+pub returns-in-None-clause-changed : goal.returns-in-None-clause-changed
+returns-in-None-clause-changed c = (first c).changed
 
-pub returns-in-None-clause-chains : goal.returns-in-None-clause-chains
-returns-in-None-clause-chains c = (first c).others
-
-pub returns-in-None-clause-linked : goal.returns-in-None-clause-linked
-returns-in-None-clause-linked c = (first c).inserted
-
-pub returns-in-None-clause-others : goal.returns-in-None-clause-others
-returns-in-None-clause-others c = (first c).kept
-
-pub returns-in-None-clause-one_more : goal.returns-in-None-clause-one_more
-returns-in-None-clause-one_more c = (ap (λ (h : Heads). h.used + 1) c.self.view_is, (first c).live)
+pub returns-in-None-clause-added : goal.returns-in-None-clause-added
+returns-in-None-clause-added c = (first c).added
 
 pub returns-in-Some-clause-put : goal.returns-in-Some-clause-put
 returns-in-Some-clause-put c =

@@ -12,8 +12,8 @@ get-requires c = named_live c.args.block.now c.args.self.now c.args.kept c.requi
 known : (c : After-get) → c.get.result.now.chain < length c.args.self.now.heads
 known c = (marks c.args.block.now c.args.self.now c.args.kept c.get.result.now c.requires.stands c.get.ensures c.requires.named).known
 
-pub is_past-rises-requires-clause-known : goal.is_past-rises-requires-clause-known
-is_past-rises-requires-clause-known c = known (goal.at.is_past-rises-requires-clause-known c).After-get
+pub is_past-rises-requires : goal.is_past-rises-requires
+is_past-rises-requires c = record { known = known (goal.at.is_past-rises-requires c).After-get; stands = c.requires.stands }
 
 pub index-requires : goal.index-requires
 index-requires c = omega (arith, known (goal.at.index-requires c).After-get, c.requires.stands.long, ap (λ (h : Heads). length h.latest) c.self.view_is)
@@ -44,16 +44,11 @@ after c =
 
 pub returns : goal.returns
 returns c = record {
-  stands = (after c).left.stands;
-  share = (after c).share;
-  rest = ap (λ (h : Heads). with_latest h (set c.self.inside.latest.items c.get.result.now.chain c.latest_of.result)) c.self.view_is;
-  stays = (after c).stays;
-  others = (after c).left.kept;
   known = (after c).known;
   place = (after c).place;
   places = (after c).places;
-  chains = (after c).left.others;
+  changed = (after c).left.changed;
+  only = record { rest = ap (λ (h : Heads). with_latest h (set c.self.inside.latest.items c.get.result.now.chain c.latest_of.result)) c.self.view_is; stays = (after c).stays };
   marked = (after c).left.now;
   found = (after c).found;
-  live = (after c).left.live;
 }

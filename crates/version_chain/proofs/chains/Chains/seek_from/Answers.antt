@@ -9,7 +9,7 @@ pub after-here-requires-clause-live : goal.after-here-requires-clause-live
 after-here-requires-clause-live c = near_live c.args.block.now c.args.self.now c.args.chain (least_of c.args.bound.now) c.args.near c.requires.near
 
 pub loop-here-init : goal.loop-here-init
-loop-here-init c = reached_from _ _ _ _ _ _ c.requires.stands c.requires.known c.requires.near c.after-here.ensures
+loop-here-init c = reached_from _ _ _ _ _ _ c.requires.chain.stands c.requires.chain.known c.requires.near c.after-here.ensures
 
 pub get-requires : goal.get-requires
 get-requires c = ap is_some (on_cell _ _ _ _ _ _ c.loop-here.invariant.at.chained c.in-Some.is).found

@@ -1,22 +1,22 @@
-use Rattle.std.proofs.Common.{◌∙◌, ◌≡◌, ℕ, ◌+◌, ◌-◌, ◌<◌, Option, None, Some, IsSome, set, slice_set, sym, ap, subst, arith}
+use Rattle.std.proofs.Common.{ℕ, ◌-◌, Option, None, Some, IsSome, set, slice_set, sym, ap, subst, arith}
 use Rattle.version_arena.specs.Arena.{entry, next_beside}
 use Rattle.version_chain.specs.Place.{IsPlace}
 use Rattle.version_chain.specs.Heads.{Heads}
 use Rattle.version_chain.proofs.Removing.{Unlinked, unlinked_first, unlinked_after, still_live, used_here}
-use Rattle.version_chain.proofs.Discarding.{node_take, nodes_take, node_next, nodes_next, nodes_then}
+use Rattle.version_chain.proofs.Discarding.{freed_next, freed_take}
 use Rattle.version_chain.proofs.Replacing.{with_used}
 use Rattle.version_chain.proofs.Writing.{live_within}
 use Rattle.version_chain.proofs.chains.Chains.unlink.Goals as goal
 
 pub overflow_sub-self : goal.overflow_sub-self
 overflow_sub-self c =
-    let positive = used_here c.args.block.now c.args.self.now c.args.chain _ _ _ c.requires.stands c.requires.known c.requires.place.1 in
+    let positive = used_here c.args.block.now c.args.self.now c.args.chain _ _ _ c.requires.chain.stands c.requires.chain.known c.requires.place.1 in
     omega (arith, positive, ap (λ (h : Heads). h.used) c.self.view_is)
 
 pub set_next-requires : goal.set_next-requires
 set_next-requires c =
     let place : IsPlace c.args.block.now c.args.self.now c.args.chain c.requires.place.0 (Some c.in-Some.last) (Some c.args.here) = subst (λ last. IsPlace c.args.block.now c.args.self.now c.args.chain c.requires.place.0 last (Some c.args.here)) c.in-Some.is c.requires.place.1 in
-    rw c.take.ensures.freed (still_live _ _ _ _ _ _ c.requires.stands c.requires.known c.take.ensures.value _ place)
+    rw c.take.ensures.freed (still_live _ _ _ _ _ _ c.requires.chain.stands c.requires.chain.known c.take.ensures.value _ place)
 
 abbrev shrunk : ℕ → Option ℕ → Heads → Heads
 shrunk chain latest chains = with_used chains (chains.used - 1) chains.heads (slice_set chains.latest chain latest)
@@ -24,31 +24,16 @@ shrunk chain latest chains = with_used chains (chains.used - 1) chains.heads (sl
 after : (c : goal.After-set_next) (stamp : ℕ) → IsPlace c.args.block.now c.args.self.now c.args.chain stamp c.args.last (Some c.args.here)
     → Unlinked c.args.block.now c.set_next.new.self c.args.self.now (shrunk c.args.chain c.latest_without-latest.result (record { tenant = c.self.inside.tenant; share = c.self.inside.share; used = c.self.inside.used; heads = c.self.inside.heads.items; latest = c.self.inside.latest.items; kept = c.self.inside.kept.kept })) c.args.chain c.take.result.version stamp (Some c.in-Some.last) (next_beside c.args.block.now c.args.here)
 after c stamp place =
-    let positive = used_here c.args.block.now c.args.self.now c.args.chain stamp _ _ c.requires.stands c.requires.known place in
+    let positive = used_here c.args.block.now c.args.self.now c.args.chain stamp _ _ c.requires.chain.stands c.requires.chain.known place in
     subst (λ (h : Heads). Unlinked c.args.block.now c.set_next.new.self c.args.self.now (shrunk c.args.chain c.latest_without-latest.result h) c.args.chain c.take.result.version stamp (Some c.in-Some.last) (next_beside c.args.block.now c.args.here)) (sym c.self.view_is)
     (rw (c.set_next.ensures, c.take.ensures.freed, c.next-next.ensures)
-    (unlinked_after _ _ _ stamp _ _ c.requires.stands c.requires.known c.take.ensures.value (c.args.self.now.used - 1) (omega (arith, positive)) c.latest_without-latest.result c.latest_without-latest.ensures _ (subst (λ last. IsPlace c.args.block.now c.args.self.now c.args.chain stamp last (Some c.args.here)) c.in-Some.is place)))
+    (unlinked_after _ _ _ stamp _ _ c.requires.chain.stands c.requires.chain.known c.take.ensures.value (c.args.self.now.used - 1) (omega (arith, positive)) c.latest_without-latest.result c.latest_without-latest.ensures _ (subst (λ last. IsPlace c.args.block.now c.args.self.now c.args.chain stamp last (Some c.args.here)) c.in-Some.is place)))
 
-pub returns-in-Some-clause-stands : goal.returns-in-Some-clause-stands
-returns-in-Some-clause-stands c = (after c c.requires.place.0 c.requires.place.1).stands
-
-pub returns-in-Some-clause-chains : goal.returns-in-Some-clause-chains
-returns-in-Some-clause-chains c = (after c c.requires.place.0 c.requires.place.1).others
-
-pub returns-in-Some-clause-others : goal.returns-in-Some-clause-others
-returns-in-Some-clause-others c = (after c c.requires.place.0 c.requires.place.1).kept
+pub returns-in-Some-clause-changed : goal.returns-in-Some-clause-changed
+returns-in-Some-clause-changed c = (after c c.requires.place.0 c.requires.place.1).changed
 
 pub returns-in-Some-clause-removed : goal.returns-in-Some-clause-removed
 returns-in-Some-clause-removed c = rw c.take.ensures.value (after c c.requires.place.0 c.requires.place.1).removed
-
-one_less : (used inside : ℕ) → 0 < used → inside ≡ used → inside - 1 + 1 ≡ used
-one_less used inside positive is = omega arith
-
-pub returns-in-Some-clause-one_less : goal.returns-in-Some-clause-one_less
-returns-in-Some-clause-one_less c = (
-  one_less _ _ (used_here _ _ _ _ _ _ c.requires.stands c.requires.known c.requires.place.1) (ap (λ (h : Heads). h.used) c.self.view_is),
-  (after c c.requires.place.0 c.requires.place.1).live,
-)
 
 pub returns-in-Some-clause-place : goal.returns-in-Some-clause-place
 returns-in-Some-clause-place c stamp place = rw c.in-Some.is (after c stamp place).place
@@ -59,28 +44,16 @@ shrunk_at chain next latest chains = with_used chains (chains.used - 1) (slice_s
 first : (c : goal.After-self-in-None-1) (stamp : ℕ) → IsPlace c.args.block.now c.args.self.now c.args.chain stamp c.args.last (Some c.args.here)
     → Unlinked c.args.block.now c.take.new.self c.args.self.now (shrunk_at c.args.chain c.next-next.result c.latest_without-latest.result (record { tenant = c.self.inside.tenant; share = c.self.inside.share; used = c.self.inside.used; heads = c.self.inside.heads.items; latest = c.self.inside.latest.items; kept = c.self.inside.kept.kept })) c.args.chain c.take.result.version stamp None (next_beside c.args.block.now c.args.here)
 first c stamp place =
-    let positive = used_here c.args.block.now c.args.self.now c.args.chain stamp _ _ c.requires.stands c.requires.known place in
+    let positive = used_here c.args.block.now c.args.self.now c.args.chain stamp _ _ c.requires.chain.stands c.requires.chain.known place in
     subst (λ (h : Heads). Unlinked c.args.block.now c.take.new.self c.args.self.now (shrunk_at c.args.chain c.next-next.result c.latest_without-latest.result h) c.args.chain c.take.result.version stamp None (next_beside c.args.block.now c.args.here)) (sym c.self.view_is)
     (rw (c.take.ensures.freed, c.next-next.ensures)
-    (unlinked_first _ _ _ stamp _ _ c.requires.stands c.requires.known c.take.ensures.value (c.args.self.now.used - 1) (omega (arith, positive)) c.latest_without-latest.result c.latest_without-latest.ensures (subst (λ last. IsPlace c.args.block.now c.args.self.now c.args.chain stamp last (Some c.args.here)) c.in-None.is place)))
+    (unlinked_first _ _ _ stamp _ _ c.requires.chain.stands c.requires.chain.known c.take.ensures.value (c.args.self.now.used - 1) (omega (arith, positive)) c.latest_without-latest.result c.latest_without-latest.ensures (subst (λ last. IsPlace c.args.block.now c.args.self.now c.args.chain stamp last (Some c.args.here)) c.in-None.is place)))
 
-pub returns-in-None-clause-stands : goal.returns-in-None-clause-stands
-returns-in-None-clause-stands c = (first c c.requires.place.0 c.requires.place.1).stands
-
-pub returns-in-None-clause-chains : goal.returns-in-None-clause-chains
-returns-in-None-clause-chains c = (first c c.requires.place.0 c.requires.place.1).others
-
-pub returns-in-None-clause-others : goal.returns-in-None-clause-others
-returns-in-None-clause-others c = (first c c.requires.place.0 c.requires.place.1).kept
+pub returns-in-None-clause-changed : goal.returns-in-None-clause-changed
+returns-in-None-clause-changed c = (first c c.requires.place.0 c.requires.place.1).changed
 
 pub returns-in-None-clause-removed : goal.returns-in-None-clause-removed
 returns-in-None-clause-removed c = rw c.take.ensures.value (first c c.requires.place.0 c.requires.place.1).removed
-
-pub returns-in-None-clause-one_less : goal.returns-in-None-clause-one_less
-returns-in-None-clause-one_less c = (
-  one_less _ _ (used_here _ _ _ _ _ _ c.requires.stands c.requires.known c.requires.place.1) (ap (λ (h : Heads). h.used) c.self.view_is),
-  (first c c.requires.place.0 c.requires.place.1).live,
-)
 
 pub returns-in-None-clause-place : goal.returns-in-None-clause-place
 returns-in-None-clause-place c stamp place = rw c.in-None.is (first c stamp place).place
@@ -88,18 +61,11 @@ returns-in-None-clause-place c stamp place = rw c.in-None.is (first c stamp plac
 live : (c : goal.After-set_next) → IsSome (entry (set c.args.block.now c.args.here None) c.in-Some.last)
 live c =
     let place : IsPlace c.args.block.now c.args.self.now c.args.chain c.requires.place.0 (Some c.in-Some.last) (Some c.args.here) = subst (λ last. IsPlace c.args.block.now c.args.self.now c.args.chain c.requires.place.0 last (Some c.args.here)) c.in-Some.is c.requires.place.1 in
-    still_live _ _ _ _ _ _ c.requires.stands c.requires.known c.take.ensures.value _ place
+    still_live _ _ _ _ _ _ c.requires.chain.stands c.requires.chain.known c.take.ensures.value _ place
 
-pub returns-in-Some-clause-nodes : goal.returns-in-Some-clause-nodes
-returns-in-Some-clause-nodes c =
-    rw (c.set_next.ensures, c.take.ensures.freed) (nodes_then c.args.block.now _ _ (nodes_take c.args.block.now c.args.here (live_within _ _ _ c.take.ensures.value)) (nodes_next _ c.in-Some.last c.next-next.result (live c)))
+pub returns-in-Some-clause-freed : goal.returns-in-Some-clause-freed
+returns-in-Some-clause-freed c =
+    rw (c.set_next.ensures, c.take.ensures.freed) (freed_next c.args.block.now _ c.args.here c.in-Some.last c.next-next.result (live c) (freed_take c.args.block.now c.args.here (live_within _ _ _ c.take.ensures.value)))
 
-pub returns-in-Some-clause-rest : goal.returns-in-Some-clause-rest
-returns-in-Some-clause-rest c place other =
-    rw (c.set_next.ensures, c.take.ensures.freed) (node_next _ c.in-Some.last c.next-next.result (live c) place ∙ node_take c.args.block.now c.args.here place other)
-
-pub returns-in-None-clause-nodes : goal.returns-in-None-clause-nodes
-returns-in-None-clause-nodes c = rw c.take.ensures.freed (nodes_take c.args.block.now c.args.here (live_within _ _ _ c.take.ensures.value))
-
-pub returns-in-None-clause-rest : goal.returns-in-None-clause-rest
-returns-in-None-clause-rest c place other = rw c.take.ensures.freed (node_take c.args.block.now c.args.here place other)
+pub returns-in-None-clause-freed : goal.returns-in-None-clause-freed
+returns-in-None-clause-freed c = rw c.take.ensures.freed (freed_take c.args.block.now c.args.here (live_within _ _ _ c.take.ensures.value))
