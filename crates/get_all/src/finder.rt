@@ -163,12 +163,18 @@ impl Finder {
     /// Hands the reply to the GET of this key in round 1 or 2 to the read that its reader is borrowed by, as
     /// `Reader::take_kind` does.
     pub fn take_kind_alone(&mut self, key: &Key, round: u8, reply: &ReadReply) -> ReadMoveKind
-        ensures first { (keys : List Key) (taken : List Message) (message : Message) → round ≡ 1 → StandsForRead keys self.old.reader taken
-            → IsFirst key.now reply.now message → TakesRead keys taken message (told_by self.new.reader result) self.new.reader }
-        ensures second { (keys : List Key) (taken : List Message) (message : Message) → round ≡ 2 → StandsForRead keys self.old.reader taken
-            → IsSecond keys taken key.now reply.now message → TakesRead keys taken message (told_by self.new.reader result) self.new.reader }
-        ensures no_round { round ≢ 1 → round ≢ 2 → (result ≡ ReadMoveKind.Ignored) × (self.new ≡ self.old) }
-        ensures few { read_asked (told_by self.new.reader result) + read_left self.new.reader ≤ read_left self.old.reader }
+        ensures first { (keys : List Key) (taken : List Message) (message : Message) → round ≡ 1
+            → StandsForRead keys self.old.reader taken
+            → IsFirst key.now reply.now message
+            → TakesRead keys taken message (told_by self.new.reader result) self.new.reader }
+        ensures second { (keys : List Key) (taken : List Message) (message : Message) → round ≡ 2
+            → StandsForRead keys self.old.reader taken
+            → IsSecond keys taken key.now reply.now message
+            → TakesRead keys taken message (told_by self.new.reader result) self.new.reader }
+        ensures no_round { round ≢ 1 → round ≢ 2
+            → (result ≡ ReadMoveKind.Ignored) × (self.new ≡ self.old) }
+        ensures few { read_asked (told_by self.new.reader result) + read_left self.new.reader
+            ≤ read_left self.old.reader }
     {
         self.reader.take_kind(key, round, reply)
     }
@@ -190,8 +196,10 @@ impl Finder {
     /// Takes what this partition found. Ignored where there is no such partition, where it told before, and
     /// once the search has ended. A key that is at home elsewhere tears it at once.
     pub fn take_found(&mut self, partition: u32, found: &Found) -> FindMove
-        ensures takes { (setup : Setup) (tag : Tag) (taken : List Message) (message : Message) → StandsFor setup tag self.old taken
-            → IsTold partition found.now message → TakesFind setup tag taken message result self.new }
+        ensures takes { (setup : Setup) (tag : Tag) (taken : List Message) (message : Message)
+            → StandsFor setup tag self.old taken
+            → IsTold partition found.now message
+            → TakesFind setup tag taken message result self.new }
         ensures few { calls_asked result + calls_left self.new ≤ calls_left self.old }
     {
         if self.has_ended || !self.asked.await_told(partition) {
@@ -211,11 +219,16 @@ impl Finder {
     /// Takes the reply to the GET of this key in round 1 or 2, as a `Reader` does, and lists of what is read
     /// the items of the tag. Ignored before the read has begun, too.
     pub fn take(&mut self, key: &Key, round: u8, reply: &ReadReply) -> FindMove
-        ensures first { (setup : Setup) (tag : Tag) (taken : List Message) (message : Message) → round ≡ 1 → StandsFor setup tag self.old taken
-            → IsFirst key.now reply.now message → TakesFind setup tag taken message result self.new }
-        ensures second { (setup : Setup) (tag : Tag) (taken : List Message) (message : Message) → round ≡ 2 → StandsFor setup tag self.old taken
-            → IsSecond (all_keys_found taken) taken key.now reply.now message → TakesFind setup tag taken message result self.new }
-        ensures no_round { round ≢ 1 → round ≢ 2 → (result ≡ FindMove.Ignored) × (self.new ≡ self.old) }
+        ensures first { (setup : Setup) (tag : Tag) (taken : List Message) (message : Message)
+            → round ≡ 1 → StandsFor setup tag self.old taken
+            → IsFirst key.now reply.now message
+            → TakesFind setup tag taken message result self.new }
+        ensures second { (setup : Setup) (tag : Tag) (taken : List Message) (message : Message)
+            → round ≡ 2 → StandsFor setup tag self.old taken
+            → IsSecond (all_keys_found taken) taken key.now reply.now message
+            → TakesFind setup tag taken message result self.new }
+        ensures no_round { round ≢ 1 → round ≢ 2
+            → (result ≡ FindMove.Ignored) × (self.new ≡ self.old) }
         ensures few { calls_asked result + calls_left self.new ≤ calls_left self.old }
     {
         if self.has_ended {
@@ -233,7 +246,13 @@ impl Finder {
         ensures asked { self.new.asked ≡ map (with_told partition) self.old.asked }
         ensures total { self.new.total ≡ min (self.old.total + found.now.count) (max_keys + 1) }
         ensures keys { self.new.total ≤ max_keys → self.new.keys ≡ self.old.keys ++ found.now.keys }
-        ensures same { self.new ≡ record self.old { asked = self.new.asked; total = self.new.total; keys = self.new.keys; total_in_range = self.new.total_in_range; keys_counted = self.new.keys_counted } }
+        ensures same { self.new ≡ record self.old {
+          asked = self.new.asked;
+          total = self.new.total;
+          keys = self.new.keys;
+          total_in_range = self.new.total_in_range;
+          keys_counted = self.new.keys_counted;
+        } }
         ensures valid { IsFound found.now }
     {
         let keys = found.keys();
@@ -248,12 +267,19 @@ impl Finder {
 
     /// Begins to read what was found, or ends where there is nothing or too much.
     fn begin(&mut self) -> FindMove
-        ensures too_many { max_keys < self.old.total → (result ≡ FindMove.TooMany) × (self.new ≡ record self.old { has_ended = true }) }
-        ensures nothing { self.old.total ≤ max_keys → (IsTransactionKeys self.old.keys → ⊥) → (result ≡ FindMove.List []) × (self.new ≡ record self.old { has_ended = true }) }
-        ensures found { self.old.total ≤ max_keys → IsTransactionKeys self.old.keys → (result ≡ FindMove.Begin (sorted_keys self.old.keys))
-            × (self.new.tag ≡ self.old.tag) × (self.new.parts ≡ self.old.parts) × (self.new.asked ≡ self.old.asked) × (self.new.has_ended ≡ self.old.has_ended) × (self.new.reads ≡ true) × ((taken : List Message)
-            → IsTrue (list_all is_no_read taken) → StandsForRead (sorted_keys self.old.keys) self.new.reader taken) }
-        ensures few { list_all (λ asked. asked.has_told) self.old.asked ≡ true → calls_asked result + calls_left self.new ≤ 2 * max_keys }
+        ensures too_many { max_keys < self.old.total
+            → (result ≡ FindMove.TooMany) × (self.new ≡ record self.old { has_ended = true }) }
+        ensures nothing { self.old.total ≤ max_keys → (IsTransactionKeys self.old.keys → ⊥)
+            → (result ≡ FindMove.List []) × (self.new ≡ record self.old { has_ended = true }) }
+        ensures found { self.old.total ≤ max_keys → IsTransactionKeys self.old.keys
+            → (result ≡ FindMove.Begin (sorted_keys self.old.keys))
+            × (self.new.tag ≡ self.old.tag) × (self.new.parts ≡ self.old.parts)
+            × (self.new.asked ≡ self.old.asked) × (self.new.has_ended ≡ self.old.has_ended)
+            × (self.new.reads ≡ true) × ((taken : List Message)
+            → IsTrue (list_all is_no_read taken)
+            → StandsForRead (sorted_keys self.old.keys) self.new.reader taken) }
+        ensures few { list_all (λ asked. asked.has_told) self.old.asked ≡ true
+            → calls_asked result + calls_left self.new ≤ 2 * max_keys }
     {
         if self.total > Finder::MAX_ITEMS {
             self.end();
@@ -272,7 +298,8 @@ impl Finder {
     /// Reports what the reader answered.
     fn tell(&mut self, answer: ReadMove) -> FindMove
         ensures answer { result ≡ listed self.old.tag answer }
-        ensures ended { self.new ≡ record self.old { has_ended = self.old.has_ended || is_last answer } }
+        ensures ended { self.new
+            ≡ record self.old { has_ended = self.old.has_ended || is_last answer } }
     {
         match answer {
             ReadMove::Wait => FindMove::Wait,

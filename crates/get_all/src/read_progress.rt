@@ -93,7 +93,9 @@ impl KeyProgress {
 
     /// The record that is read where this stamp is needed, or none for the initial version.
     fn version(&self, needed: Stamp) -> Option<&Record>
-        ensures { option_copied result ≡ cond (nat_lt (stamp_seen self.now.first) needed) self.now.second (flat self.now.first) }
+        ensures { option_copied result
+            ≡ cond (nat_lt (stamp_seen self.now.first) needed) self.now.second
+            (flat self.now.first) }
     {
         if self.is_late(needed) {
             self.second.get()
@@ -105,7 +107,8 @@ impl KeyProgress {
     /// What is read where this stamp is needed.
     fn reading(&self, needed: Stamp) -> Reading
         ensures { result ≡ reading_of self.now.key
-            (cond (nat_lt (stamp_seen self.now.first) needed) self.now.second (flat self.now.first)) }
+            (cond (nat_lt (stamp_seen self.now.first) needed) self.now.second
+            (flat self.now.first)) }
     {
         match self.version(needed) {
             Some(version) => reading_of(version),
@@ -273,7 +276,8 @@ impl ReadProgress {
     /// The stamp that is needed of the key of the slot at this place.
     fn needed_at(&self, i: usize) -> Stamp
         requires { i < length self.now }
-        ensures { (slot : KeyProgress) → slot ≡ slice_index_or self.now i slot → result ≡ needed_by self.now slot.key }
+        ensures { (slot : KeyProgress) → slot ≡ slice_index_or self.now i slot
+            → result ≡ needed_by self.now slot.key }
     {
         self.needed.as_slice()[i]
     }
@@ -428,7 +432,8 @@ fn raise_at_first(
     shown: Option<&Record>,
 )
     requires { needed.old ≡ needed_stamps slots.now }
-    ensures { needed.new ≡ needed_stamps (map (with_first key.now (option_copied shown.entry)) slots.now) }
+    ensures { needed.new
+        ≡ needed_stamps (map (with_first key.now (option_copied shown.entry)) slots.now) }
 {
     if let Some(version) = shown {
         if await_first(slots, key) {
@@ -445,7 +450,9 @@ fn raise_each(
 )
     requires { needed.old ≡ needed_stamps slots.now }
     ensures { needed.new ≡ map
-        (λ slot. max (needed_by slots.now slot.key) (stamp_for slot.key (Some (Some version.now)))) slots.now }
+        (λ slot.
+        max (needed_by slots.now slot.key)
+        (stamp_for slot.key (Some (Some version.now)))) slots.now }
 {
     for (i, slot) in slots.iter().enumerate() {
         let before = needed.as_slice()[i];

@@ -72,7 +72,8 @@ impl Reader {
     /// A reader of these keys which took no reply yet. None exactly for no key, more than 16, or one twice.
     pub fn new(keys: &[Key]) -> Option<Reader>
         ensures refused { IsNone result ↔ IsTrue (are_bad keys.now) }
-        ensures stands { IfSome result (λ reader. (taken : List Message) → IsTrue (list_all is_no_read taken) → StandsFor keys.now reader taken) }
+        ensures stands { IfSome result (λ reader. (taken : List Message)
+            → IsTrue (list_all is_no_read taken) → StandsFor keys.now reader taken) }
     {
         if !WriteSet::are_keys(keys) {
             return None;
@@ -99,7 +100,8 @@ impl Reader {
     pub fn reset(&mut self, keys: &[Key]) -> bool
         ensures refused { result ≡ false ↔ IsTrue (are_bad keys.now) }
         ensures unchanged { result ≡ false → self.new ≡ self.old }
-        ensures stands { result ≡ true → (taken : List Message) → IsTrue (list_all is_no_read taken) → StandsFor keys.now self.new taken }
+        ensures stands { result ≡ true → (taken : List Message) → IsTrue (list_all is_no_read taken)
+            → StandsFor keys.now self.new taken }
         ensures few { result ≡ true → calls_left self.new ≤ length keys.now }
     {
         if !WriteSet::are_keys(keys) {
@@ -113,11 +115,15 @@ impl Reader {
     /// Takes the reply to the GET of this key in round 1 or 2. Ignored where that GET was answered before or was
     /// not asked, in any other round, and once the read has ended.
     pub fn take(&mut self, key: &Key, round: u8, reply: &ReadReply) -> ReadMove
-        ensures first { (keys : List Key) (taken : List Message) (message : Message) → round ≡ 1 → StandsFor keys self.old taken
+        ensures first { (keys : List Key) (taken : List Message) (message : Message) → round ≡ 1
+            → StandsFor keys self.old taken
             → IsFirst key.now reply.now message → TakesRead keys taken message result self.new }
-        ensures second { (keys : List Key) (taken : List Message) (message : Message) → round ≡ 2 → StandsFor keys self.old taken
-            → IsSecond keys taken key.now reply.now message → TakesRead keys taken message result self.new }
-        ensures no_round { round ≢ 1 → round ≢ 2 → (result ≡ ReadMove.Ignored) × (self.new ≡ self.old) }
+        ensures second { (keys : List Key) (taken : List Message) (message : Message) → round ≡ 2
+            → StandsFor keys self.old taken
+            → IsSecond keys taken key.now reply.now message
+            → TakesRead keys taken message result self.new }
+        ensures no_round { round ≢ 1 → round ≢ 2
+            → (result ≡ ReadMove.Ignored) × (self.new ≡ self.old) }
         ensures few { calls_asked result + calls_left self.new ≤ calls_left self.old }
     {
         let kind = self.take_kind(key, round, reply);
@@ -126,12 +132,18 @@ impl Reader {
 
     /// Does what `take` does, and leaves out what is asked for or read.
     pub fn take_kind(&mut self, key: &Key, round: u8, reply: &ReadReply) -> ReadMoveKind
-        ensures first { (keys : List Key) (taken : List Message) (message : Message) → round ≡ 1 → StandsFor keys self.old taken
-            → IsFirst key.now reply.now message → TakesRead keys taken message (told_by self.new result) self.new }
-        ensures second { (keys : List Key) (taken : List Message) (message : Message) → round ≡ 2 → StandsFor keys self.old taken
-            → IsSecond keys taken key.now reply.now message → TakesRead keys taken message (told_by self.new result) self.new }
-        ensures no_round { round ≢ 1 → round ≢ 2 → (result ≡ ReadMoveKind.Ignored) × (self.new ≡ self.old) }
-        ensures few { calls_asked (told_by self.new result) + calls_left self.new ≤ calls_left self.old }
+        ensures first { (keys : List Key) (taken : List Message) (message : Message) → round ≡ 1
+            → StandsFor keys self.old taken
+            → IsFirst key.now reply.now message
+            → TakesRead keys taken message (told_by self.new result) self.new }
+        ensures second { (keys : List Key) (taken : List Message) (message : Message) → round ≡ 2
+            → StandsFor keys self.old taken
+            → IsSecond keys taken key.now reply.now message
+            → TakesRead keys taken message (told_by self.new result) self.new }
+        ensures no_round { round ≢ 1 → round ≢ 2
+            → (result ≡ ReadMoveKind.Ignored) × (self.new ≡ self.old) }
+        ensures few { calls_asked (told_by self.new result) + calls_left self.new
+            ≤ calls_left self.old }
     {
         if self.has_ended {
             return ReadMoveKind::Ignored;
@@ -183,9 +195,12 @@ impl Reader {
 
     fn take_first(&mut self, key: &Key, reply: &ReadReply) -> ReadMoveKind
         requires { self.old.has_ended ≡ false }
-        ensures takes { (keys : List Key) (taken : List Message) (message : Message) → StandsFor keys self.old taken
-            → IsFirst key.now reply.now message → TakesRead keys taken message (told_by self.new result) self.new }
-        ensures few { calls_asked (told_by self.new result) + calls_left self.new ≤ calls_left self.old }
+        ensures takes { (keys : List Key) (taken : List Message) (message : Message)
+            → StandsFor keys self.old taken
+            → IsFirst key.now reply.now message
+            → TakesRead keys taken message (told_by self.new result) self.new }
+        ensures few { calls_asked (told_by self.new result) + calls_left self.new
+            ≤ calls_left self.old }
     {
         if !self.slots.await_first(key) {
             return ReadMoveKind::Ignored;
@@ -214,10 +229,13 @@ impl Reader {
     /// Takes what round one showed of the key.
     fn show_first(&mut self, key: &Key, shown: Option<&Record>) -> ReadMoveKind
         requires { self.old.has_ended ≡ false }
-        ensures slots { self.new.slots ≡ map (with_first key.now (option_copied shown.entry)) self.old.slots }
+        ensures slots { self.new.slots
+            ≡ map (with_first key.now (option_copied shown.entry)) self.old.slots }
         ensures ended { self.new.has_ended ≡ is_whole self.new.slots }
         ensures answer { told_by self.new result ≡ (if list_all has_first self.new.slots
-            then (if list_all (is_answered_by self.new.slots) self.new.slots then ReadMove.Read (readings_by self.new.slots) else ReadMove.Ask (late_by self.new.slots))
+            then (if list_all (is_answered_by self.new.slots) self.new.slots
+            then ReadMove.Read (readings_by self.new.slots)
+            else ReadMove.Ask (late_by self.new.slots))
             else ReadMove.Wait) }
     {
         self.slots.mark_first(key, shown);
@@ -235,9 +253,12 @@ impl Reader {
     #[inline(never)]
     fn take_second(&mut self, key: &Key, reply: &ReadReply) -> ReadMoveKind
         requires { self.old.has_ended ≡ false }
-        ensures takes { (keys : List Key) (taken : List Message) (message : Message) → StandsFor keys self.old taken
-            → IsSecond keys taken key.now reply.now message → TakesRead keys taken message (told_by self.new result) self.new }
-        ensures few { calls_asked (told_by self.new result) + calls_left self.new ≤ calls_left self.old }
+        ensures takes { (keys : List Key) (taken : List Message) (message : Message)
+            → StandsFor keys self.old taken
+            → IsSecond keys taken key.now reply.now message
+            → TakesRead keys taken message (told_by self.new result) self.new }
+        ensures few { calls_asked (told_by self.new result) + calls_left self.new
+            ≤ calls_left self.old }
     {
         if !self.slots.are_shown() || !self.slots.await_second(key) {
             return ReadMoveKind::Ignored;
@@ -276,7 +297,8 @@ impl Reader {
     /// showed with that stamp.
     fn is_needed(&self, key: &Key, needed: Stamp, version: &Record) -> bool
         ensures { result ≡ (bytes_eq version.now.key key.now && ((version.now.stamp == needed)
-            && list_any (λ slot. first_shows needed version.now.writes slot.first) self.now.slots)) }
+            && list_any (λ slot. first_shows needed version.now.writes slot.first)
+            self.now.slots)) }
     {
         is_of(version, key) && version.stamp == needed && self.slots.show(needed, &version.writes)
     }
@@ -285,8 +307,11 @@ impl Reader {
     fn show_second(&mut self, key: &Key, version: &Record) -> ReadMoveKind
         requires { self.old.has_ended ≡ false }
         ensures slots { self.new.slots ≡ map (with_second key.now version.now) self.old.slots }
-        ensures ended { self.new.has_ended ≡ list_all (is_answered_by self.new.slots) self.new.slots }
-        ensures answer { told_by self.new result ≡ (if list_all (is_answered_by self.new.slots) self.new.slots then ReadMove.Read (readings_by self.new.slots) else ReadMove.Wait) }
+        ensures ended { self.new.has_ended
+            ≡ list_all (is_answered_by self.new.slots) self.new.slots }
+        ensures answer { told_by self.new result
+            ≡ (if list_all (is_answered_by self.new.slots) self.new.slots
+            then ReadMove.Read (readings_by self.new.slots) else ReadMove.Wait) }
     {
         self.slots.mark_second(key, version);
         if !self.slots.are_answered() {
