@@ -17,7 +17,7 @@ use Rattle.settle.specs.declared.next_step.Source.{Source}
 use Rattle.settle.specs.declared.next_step.Source.TheVariants.{Transcript as FromTranscript, Journal as FromJournal}
 use Rattle.settle.specs.Words.{Act, Deliver, CollectAt, Answer, Replied, Freed, Call, Collect, Reply, ToCollect}
 use Rattle.settle.specs.Words.{Message}
-use Rattle.settle.specs.Input.{Input, transcripts_in, events_of_partition}
+use Rattle.settle.specs.Input.{Input, input_of, transcripts_in, events_of_partition}
 use Rattle.settle.specs.Program.{TranscriptItem, Doing, reply_taken, noted, items_of, program_of}
 use Rattle.settle.specs.Trace.{Origin, OfTranscript, OfJournal, at_seat, Trace, after, ready, acts_of, acts_before}
 use Rattle.settle.specs.Trace.{times, call_rows, replies_sent}
@@ -130,6 +130,17 @@ pub record HasTakenSteps (input : Input) (trace : Trace) (progress : Progress) :
   pub steps : progress.steps.items ≡ map (step_of input.tenant) (acts_of input trace)
   pub front : IsFront input trace
   pub agree : AllAgree input trace
+
+-- this holds of each run of a tenant's input whose steps were taken, or whose acts were noted at least
+abbrev pub AfterItsSteps : Closed → ℕ → Progress → (Input → Trace → Type 0) → Type 0
+AfterItsSteps closed tenant progress P =
+    let input = input_of closed tenant progress.replay.limits in
+    (trace : Trace) → HasTakenSteps input trace progress → P input trace
+
+abbrev pub AfterNoted : Closed → ℕ → Progress → (Input → Trace → Type 0) → Type 0
+AfterNoted closed tenant progress P =
+    let input = input_of closed tenant progress.replay.limits in
+    (trace : Trace) → IsNotedOf input trace progress → P input trace
 
 -- and the Keep step before a step of this origin too
 pub record IsReady (input : Input) (trace : Trace) (origin : Origin) (progress : Progress) : Type 0 where

@@ -18,8 +18,10 @@ type CheckedNumbers = IndexMap<u64, u64>;
 /// The base at the end of an epoch, by a replay of its calls on a replica that is opened at its base: Some exactly where the
 /// epoch is sound. `epoch` is only read.
 pub fn check_epoch(alloc: Global, epoch: &Epoch) -> Result<Option<Base>, OutOfMemory>
-    ensures exact { IfOk result (λ o. IsSome o ↔ IsSoundFrom epoch.now.base epoch.now.events.items) }
-    ensures end { IfOk result (λ o. IfSome o (λ base. IsEnd epoch.now.base epoch.now.events.items base)) }
+    ensures exact { IfOk result (λ o. IsSome o
+        ↔ IsSoundFrom epoch.now.base epoch.now.events.items) }
+    ensures end { IfOk result
+        (λ o. IfSome o (λ base. IsEnd epoch.now.base epoch.now.events.items base)) }
 {
     let mut replica = Replica::at(alloc, &epoch.base)?;
     end_of(alloc, &mut replica, epoch)
@@ -29,8 +31,10 @@ pub fn check_epoch(alloc: Global, epoch: &Epoch) -> Result<Option<Base>, OutOfMe
 /// epoch is sound.
 fn end_of(alloc: Global, replica: &mut Replica, epoch: &Epoch) -> Result<Option<Base>, OutOfMemory>
     requires { epoch.now.base ≡ replica.old }
-    ensures exact { IfOk result (λ o. IsSome o ↔ IsSoundFrom epoch.now.base epoch.now.events.items) }
-    ensures end { IfOk result (λ o. IfSome o (λ base. IsEnd epoch.now.base epoch.now.events.items base)) }
+    ensures exact { IfOk result (λ o. IsSome o
+        ↔ IsSoundFrom epoch.now.base epoch.now.events.items) }
+    ensures end { IfOk result
+        (λ o. IfSome o (λ base. IsEnd epoch.now.base epoch.now.events.items base)) }
 {
     if !play_epoch(alloc, replica, epoch)? {
         return Ok(None);
@@ -44,8 +48,10 @@ fn end_of(alloc: Global, replica: &mut Replica, epoch: &Epoch) -> Result<Option<
 /// It takes time for each event. Nothing is opened, compared or copied.
 pub fn play_epoch(alloc: Global, replica: &mut Replica, epoch: &Epoch) -> Result<bool, OutOfMemory>
     requires { epoch.now.base ≡ replica.old }
-    ensures exact { IfOk result (λ yes. IsTrue yes ↔ IsSoundFrom epoch.now.base epoch.now.events.items) }
-    ensures end { IfOk result (λ yes. IsTrue yes → IsEnd epoch.now.base epoch.now.events.items replica.new) }
+    ensures exact { IfOk result (λ yes. IsTrue yes
+        ↔ IsSoundFrom epoch.now.base epoch.now.events.items) }
+    ensures end { IfOk result (λ yes. IsTrue yes
+        → IsEnd epoch.now.base epoch.now.events.items replica.new) }
 {
     let _log = epoch.base.slots();
     let mut lasts: CheckedNumbers = IndexMap::new(alloc);
@@ -65,9 +71,12 @@ fn play_one(
     event: &Event,
     reply: &mut Option<Reply>,
 ) -> Result<bool, OutOfMemory>
-    ensures yes { (base : Frozen) → (before : List Happened) → HasPlayed base before replica.old lasts.old
-        → IfOk result (λ yes. IsTrue yes → HasPlayed base (before ++ event.now ∷ []) replica.new lasts.new) }
-    ensures no { (base : Frozen) → (before : List Happened) → HasLog base → HasPlayed base before replica.old lasts.old
+    ensures yes { (base : Frozen) → (before : List Happened)
+        → HasPlayed base before replica.old lasts.old
+        → IfOk result (λ yes. IsTrue yes
+        → HasPlayed base (before ++ event.now ∷ []) replica.new lasts.new) }
+    ensures no { (base : Frozen) → (before : List Happened) → HasLog base
+        → HasPlayed base before replica.old lasts.old
         → IfOk result (λ yes. FollowsFrom base (reverse before) event.now → IsTrue yes) }
 {
     if is_late(lasts, event.seat(), event.number()) {

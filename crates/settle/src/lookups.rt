@@ -32,7 +32,8 @@ pub fn journal_at(closed: &Closed, tenant: u32, partition: usize) -> Option<&Jou
 /// The number of the tenant's events at a partition; 0 where there is no journal.
 pub fn count_of_events(closed: &Closed, tenant: u32, partition: usize) -> usize
     requires { partition < closed.now.config.parts }
-    ensures { (limits : Limits) → result ≡ length (events_of_partition (input_of closed.now tenant limits) partition) }
+    ensures { (limits : Limits)
+        → result ≡ length (events_of_partition (input_of closed.now tenant limits) partition) }
 {
     match journal_at(closed, tenant, partition) {
         Some(journal) => journal.events.len(),
@@ -43,7 +44,9 @@ pub fn count_of_events(closed: &Closed, tenant: u32, partition: usize) -> usize
 /// The tenant's event at a partition that follows so many.
 pub fn event_after(closed: &Closed, tenant: u32, partition: usize, count: usize) -> Option<Event>
     requires { partition < closed.now.config.parts }
-    ensures { (limits : Limits) → result ≡ slice_get (events_of_partition (input_of closed.now tenant limits) partition) count }
+    ensures { (limits : Limits)
+        → result
+        ≡ slice_get (events_of_partition (input_of closed.now tenant limits) partition) count }
 {
     match journal_at(closed, tenant, partition) {
         Some(journal) => journal.events.get(count),
@@ -59,7 +62,10 @@ pub fn caller_after(
     count: usize,
 ) -> Option<(u64, u64)>
     requires { partition < closed.now.config.parts }
-    ensures { (limits : Limits) → result ≡ option_map caller_of (slice_get (events_of_partition (input_of closed.now tenant limits) partition) count) }
+    ensures { (limits : Limits)
+        → result
+        ≡ option_map caller_of
+        (slice_get (events_of_partition (input_of closed.now tenant limits) partition) count) }
 {
     match journal_at(closed, tenant, partition) {
         Some(journal) => journal.events.caller(count),
@@ -70,7 +76,10 @@ pub fn caller_after(
 /// The seat and the number of the tenant's event at a partition at a place, from 1 on.
 fn caller_at(closed: &Closed, tenant: u32, partition: usize, place: u64) -> Option<(u64, u64)>
     requires { partition < closed.now.config.parts }
-    ensures { (limits : Limits) → result ≡ option_map caller_of (at_place (events_of_partition (input_of closed.now tenant limits) partition) place) }
+    ensures { (limits : Limits)
+        → result
+        ≡ option_map caller_of
+        (at_place (events_of_partition (input_of closed.now tenant limits) partition) place) }
 {
     if place == 0 {
         return None;
@@ -98,7 +107,10 @@ pub fn is_event_of(
     place: u64,
 ) -> bool
     requires { partition < closed.now.config.parts }
-    ensures { (limits : Limits) → IsTrue result ↔ IsEventOf (events_of_partition (input_of closed.now tenant limits) partition) seat number place }
+    ensures { (limits : Limits)
+        → IsTrue result
+        ↔ IsEventOf
+        (events_of_partition (input_of closed.now tenant limits) partition) seat number place }
 {
     match caller_at(closed, tenant, partition, place) {
         Some((its_seat, its_number)) => its_seat == seat && its_number == number,

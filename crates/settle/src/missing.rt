@@ -4,7 +4,7 @@ ghost use Rattle.stamps.specs.declared.bounds.Limits.{Limits as Limited};
 ghost use Rattle.settle.specs.Input.{input_of, events_of_partition};
 ghost use Rattle.settle.specs.Trace.{Trace};
 ghost use Rattle.settle.specs.Fronts.{TakesAll, IsEventOf, NoneIsFree, IsSeatOverAt, IsUnsentAt};
-ghost use Rattle.settle.specs.Standing.{IsSized, HasTakenSteps, IsOverOf, IsDone};
+ghost use Rattle.settle.specs.Standing.{AfterItsSteps, IsSized, IsOverOf, IsDone};
 ghost use Rattle.settle.specs.Sessions.{IsSessionOrder};
 ghost use Rattle.settle.specs.Verdict.{IsFaulty, AreSameLimits, LimitsDiffer, HasJournal, HasJournals};
 
@@ -167,7 +167,9 @@ fn has_event(
     partition: u32,
     place: u64,
 ) -> bool
-    ensures { (limits : Limited) → IsEventOf (events_of_partition (input_of closed.now tenant limits) partition) seat number place → IsTrue result }
+    ensures { (limits : Limited)
+        → (let events = events_of_partition (input_of closed.now tenant limits) partition in
+        IsEventOf events seat number place → IsTrue result) }
 {
     if partition >= closed.config.parts {
         return false;
@@ -179,8 +181,10 @@ impl Progress {
     /// Whether all steps were taken.
     pub fn is_whole(&self, closed: &Closed, tenant: u32) -> bool
         requires sized { IsSized closed.now self.now }
-        ensures whole { (trace : Trace) → HasTakenSteps (input_of closed.now tenant self.now.replay.limits) trace self.now → IsTrue result → TakesAll (input_of closed.now tenant self.now.replay.limits) trace }
-        ensures left { (trace : Trace) → HasTakenSteps (input_of closed.now tenant self.now.replay.limits) trace self.now → result ≡ false → TakesAll (input_of closed.now tenant self.now.replay.limits) trace → ⊥ }
+        ensures whole { AfterItsSteps closed.now tenant self.now (λ input trace. IsTrue result
+            → TakesAll input trace) }
+        ensures left { AfterItsSteps closed.now tenant self.now (λ input trace. result ≡ false
+            → TakesAll input trace → ⊥) }
     {
         self.are_over(closed, tenant) && self.are_done(closed, tenant)
     }
@@ -188,10 +192,10 @@ impl Progress {
     /// Whether all steps of the tenant's transcripts were taken.
     fn are_over(&self, closed: &Closed, tenant: u32) -> bool
         requires sized { IsSized closed.now self.now }
-        ensures over { (trace : Trace) → HasTakenSteps (input_of closed.now tenant self.now.replay.limits) trace self.now → IsTrue result
-            → (place : ℕ) → IsOverOf (input_of closed.now tenant self.now.replay.limits) trace place }
-        ensures left { (trace : Trace) → HasTakenSteps (input_of closed.now tenant self.now.replay.limits) trace self.now → result ≡ false
-            → TakesAll (input_of closed.now tenant self.now.replay.limits) trace → ⊥ }
+        ensures over { AfterItsSteps closed.now tenant self.now (λ input trace. IsTrue result
+            → (place : ℕ) → IsOverOf input trace place) }
+        ensures left { AfterItsSteps closed.now tenant self.now (λ input trace. result ≡ false
+            → TakesAll input trace → ⊥) }
     {
         for place in 0..closed.transcripts.len() {
             if !self.is_over_at(closed, tenant, place) {
@@ -205,10 +209,10 @@ impl Progress {
     fn is_over_at(&self, closed: &Closed, tenant: u32, place: usize) -> bool
         requires sized { IsSized closed.now self.now }
         requires place { place < length closed.now.transcripts.items }
-        ensures over { (trace : Trace) → HasTakenSteps (input_of closed.now tenant self.now.replay.limits) trace self.now → IsTrue result
-            → IsOverOf (input_of closed.now tenant self.now.replay.limits) trace place }
-        ensures left { (trace : Trace) → HasTakenSteps (input_of closed.now tenant self.now.replay.limits) trace self.now → result ≡ false
-            → IsOverOf (input_of closed.now tenant self.now.replay.limits) trace place → ⊥ }
+        ensures over { AfterItsSteps closed.now tenant self.now (λ input trace. IsTrue result
+            → IsOverOf input trace place) }
+        ensures left { AfterItsSteps closed.now tenant self.now (λ input trace. result ≡ false
+            → IsOverOf input trace place → ⊥) }
     {
         if closed.transcripts[place].tenant != tenant {
             return true;
@@ -219,10 +223,10 @@ impl Progress {
     /// Whether all events were taken.
     fn are_done(&self, closed: &Closed, tenant: u32) -> bool
         requires sized { IsSized closed.now self.now }
-        ensures done { (trace : Trace) → HasTakenSteps (input_of closed.now tenant self.now.replay.limits) trace self.now → IsTrue result
-            → (partition : ℕ) → IsDone (input_of closed.now tenant self.now.replay.limits) trace partition }
-        ensures left { (trace : Trace) → HasTakenSteps (input_of closed.now tenant self.now.replay.limits) trace self.now → result ≡ false
-            → TakesAll (input_of closed.now tenant self.now.replay.limits) trace → ⊥ }
+        ensures done { AfterItsSteps closed.now tenant self.now (λ input trace. IsTrue result
+            → (partition : ℕ) → IsDone input trace partition) }
+        ensures left { AfterItsSteps closed.now tenant self.now (λ input trace. result ≡ false
+            → TakesAll input trace → ⊥) }
     {
         for partition in 0..closed.config.parts {
             if let Some(_event) = self.next_event(closed, tenant, partition as usize) {
@@ -236,8 +240,9 @@ impl Progress {
     pub fn why_stuck(&self, closed: &Closed, tenant: u32, places: &SessionOrder) -> SettleFault
         requires sized { IsSized closed.now self.now }
         requires places { IsSessionOrder closed.now.transcripts.items tenant places.now }
-        ensures { (trace : Trace) → HasTakenSteps (input_of closed.now tenant self.now.replay.limits) trace self.now → NoneIsFree (input_of closed.now tenant self.now.replay.limits) trace
-            → (TakesAll (input_of closed.now tenant self.now.replay.limits) trace → ⊥) → IsFaulty closed.now tenant self.now.replay.limits result }
+        ensures { AfterItsSteps closed.now tenant self.now (λ input trace. NoneIsFree input trace
+            → (TakesAll input trace → ⊥)
+            → IsFaulty closed.now tenant self.now.replay.limits result) }
     {
         for partition in 0..closed.config.parts {
             if self.is_unsent(closed, tenant, places, partition as usize) {
@@ -258,10 +263,10 @@ impl Progress {
         requires sized { IsSized closed.now self.now }
         requires places { IsSessionOrder closed.now.transcripts.items tenant places.now }
         requires partition { partition < closed.now.config.parts }
-        ensures unsent { (trace : Trace) → HasTakenSteps (input_of closed.now tenant self.now.replay.limits) trace self.now → IsTrue result
-            → IsUnsentAt (input_of closed.now tenant self.now.replay.limits) trace partition }
-        ensures sent { (trace : Trace) → HasTakenSteps (input_of closed.now tenant self.now.replay.limits) trace self.now → result ≡ false
-            → IsUnsentAt (input_of closed.now tenant self.now.replay.limits) trace partition → ⊥ }
+        ensures unsent { AfterItsSteps closed.now tenant self.now (λ input trace. IsTrue result
+            → IsUnsentAt input trace partition) }
+        ensures sent { AfterItsSteps closed.now tenant self.now (λ input trace. result ≡ false
+            → IsUnsentAt input trace partition → ⊥) }
     {
         let Some(event) = self.next_event(closed, tenant, partition) else {
             return false;
@@ -278,10 +283,10 @@ impl Progress {
     /// Whether all steps of a seat were taken.
     fn is_seat_over(&self, closed: &Closed, tenant: u32, seat: u64) -> bool
         requires sized { IsSized closed.now self.now }
-        ensures over { (trace : Trace) → HasTakenSteps (input_of closed.now tenant self.now.replay.limits) trace self.now → IsTrue result
-            → (place : ℕ) → IsSeatOverAt (input_of closed.now tenant self.now.replay.limits) trace seat place }
-        ensures left { (trace : Trace) → HasTakenSteps (input_of closed.now tenant self.now.replay.limits) trace self.now → result ≡ false
-            → ((place : ℕ) → IsSeatOverAt (input_of closed.now tenant self.now.replay.limits) trace seat place) → ⊥ }
+        ensures over { AfterItsSteps closed.now tenant self.now (λ input trace. IsTrue result
+            → (place : ℕ) → IsSeatOverAt input trace seat place) }
+        ensures left { AfterItsSteps closed.now tenant self.now (λ input trace. result ≡ false
+            → ((place : ℕ) → IsSeatOverAt input trace seat place) → ⊥) }
     {
         for place in 0..closed.transcripts.len() {
             if !self.is_seat_over_at(closed, tenant, seat, place) {
@@ -295,10 +300,10 @@ impl Progress {
     fn is_seat_over_at(&self, closed: &Closed, tenant: u32, seat: u64, place: usize) -> bool
         requires sized { IsSized closed.now self.now }
         requires place { place < length closed.now.transcripts.items }
-        ensures over { (trace : Trace) → HasTakenSteps (input_of closed.now tenant self.now.replay.limits) trace self.now → IsTrue result
-            → IsSeatOverAt (input_of closed.now tenant self.now.replay.limits) trace seat place }
-        ensures left { (trace : Trace) → HasTakenSteps (input_of closed.now tenant self.now.replay.limits) trace self.now → result ≡ false
-            → IsSeatOverAt (input_of closed.now tenant self.now.replay.limits) trace seat place → ⊥ }
+        ensures over { AfterItsSteps closed.now tenant self.now (λ input trace. IsTrue result
+            → IsSeatOverAt input trace seat place) }
+        ensures left { AfterItsSteps closed.now tenant self.now (λ input trace. result ≡ false
+            → IsSeatOverAt input trace seat place → ⊥) }
     {
         if closed.transcripts[place].seat != seat {
             return true;

@@ -6,7 +6,7 @@ ghost use Rattle.settle.specs.Trace.{OfTranscript, OfJournal, Trace, call_rows};
 ghost use Rattle.settle.specs.Fronts.{ComesBefore, IsTranscriptAt, MayTake};
 ghost use Rattle.settle.specs.Words.{Act as Acted};
 ghost use Rattle.settle.specs.Sessions.{IsSessionOrder, IsSessionOver};
-ghost use Rattle.settle.specs.Standing.{IsSized, IsNotedOf, HasTakenSteps, Chooses, GivesNow, RepliesNow, IsChoice, IsChoiceOf, IsChoiceBetween, MayBeNext, IsWithinNext, IsCompared, rest_of};
+ghost use Rattle.settle.specs.Standing.{AfterItsSteps, AfterNoted, IsSized, IsNotedOf, HasTakenSteps, Chooses, GivesNow, RepliesNow, IsChoice, IsChoiceOf, IsChoiceBetween, MayBeNext, IsWithinNext, IsCompared, rest_of};
 ghost use Rattle.settle.specs.declared.progress.TranscriptState.TheVariants.{Open, Over as IsOverStage};
 ghost use Rattle.closed_store.specs.declared.closed.Closed.{Closed as Left};
 ghost use Rattle.closed_store.specs.declared.transcript.Transcript.{Transcript as Noted};
@@ -49,7 +49,8 @@ impl Progress {
     ) -> Result<Option<Next>, OutOfMemory>
         requires sized { IsSized closed.now self.now }
         requires places { IsSessionOrder closed.now.transcripts.items tenant places.now }
-        ensures choice { IfOk result (λ next. (trace : Trace) → HasTakenSteps (input_of closed.now tenant self.now.replay.limits) trace self.now → IsChoice (input_of closed.now tenant self.now.replay.limits) trace next) }
+        ensures choice { IfOk result (λ next. AfterItsSteps closed.now tenant self.now
+            (λ input trace. IsChoice input trace next)) }
         ensures within { IfOk result (λ next. IsWithinNext closed.now next) }
     {
         if let Some(next) = self.next_at(alloc, closed, tenant, places, search.first)? {
@@ -72,7 +73,8 @@ impl Progress {
     ) -> Result<Option<Next>, OutOfMemory>
         requires sized { IsSized closed.now self.now }
         requires places { IsSessionOrder closed.now.transcripts.items tenant places.now }
-        ensures choice { IfOk result (λ next. (trace : Trace) → HasTakenSteps (input_of closed.now tenant self.now.replay.limits) trace self.now → MayBeNext (input_of closed.now tenant self.now.replay.limits) trace next) }
+        ensures choice { IfOk result (λ next. AfterItsSteps closed.now tenant self.now
+            (λ input trace. MayBeNext input trace next)) }
         ensures within { IfOk result (λ next. IsWithinNext closed.now next) }
     {
         if place >= closed.transcripts.len() {
@@ -92,8 +94,9 @@ impl Progress {
     ) -> Result<Option<Next>, OutOfMemory>
         requires sized { IsSized closed.now self.now }
         requires places { IsSessionOrder closed.now.transcripts.items tenant places.now }
-        ensures choice { IfOk result (λ next. (trace : Trace) → HasTakenSteps (input_of closed.now tenant self.now.replay.limits) trace self.now
-            → IsChoiceOf (input_of closed.now tenant self.now.replay.limits) trace OfTranscript (length closed.now.transcripts.items) next) }
+        ensures choice { IfOk result (λ next. AfterItsSteps closed.now tenant self.now
+            (λ input trace. IsChoiceOf input trace OfTranscript
+            (length closed.now.transcripts.items) next)) }
         ensures within { IfOk result (λ next. IsWithinNext closed.now next) }
     {
         let count = closed.transcripts.len();
@@ -117,8 +120,8 @@ impl Progress {
         requires sized { IsSized closed.now self.now }
         requires places { IsSessionOrder closed.now.transcripts.items tenant places.now }
         requires end { end ≤ length closed.now.transcripts.items }
-        ensures choice { IfOk result (λ next. (trace : Trace) → HasTakenSteps (input_of closed.now tenant self.now.replay.limits) trace self.now
-            → IsChoiceBetween (input_of closed.now tenant self.now.replay.limits) trace first end next) }
+        ensures choice { IfOk result (λ next. AfterItsSteps closed.now tenant self.now
+            (λ input trace. IsChoiceBetween input trace first end next)) }
         ensures within { IfOk result (λ next. IsWithinNext closed.now next) }
     {
         for place in first..end {
@@ -133,8 +136,8 @@ impl Progress {
     fn next_of_journals(&self, closed: &Closed, tenant: u32, places: &SessionOrder) -> Option<Next>
         requires sized { IsSized closed.now self.now }
         requires places { IsSessionOrder closed.now.transcripts.items tenant places.now }
-        ensures choice { (trace : Trace) → HasTakenSteps (input_of closed.now tenant self.now.replay.limits) trace self.now
-            → IsChoiceOf (input_of closed.now tenant self.now.replay.limits) trace OfJournal closed.now.config.parts result }
+        ensures choice { AfterItsSteps closed.now tenant self.now
+            (λ input trace. IsChoiceOf input trace OfJournal closed.now.config.parts result) }
         ensures within { IsWithinNext closed.now result }
     {
         for partition in 0..closed.config.parts {
@@ -157,7 +160,8 @@ impl Progress {
         requires sized { IsSized closed.now self.now }
         requires places { IsSessionOrder closed.now.transcripts.items tenant places.now }
         requires place { place < length closed.now.transcripts.items }
-        ensures choice { IfOk result (λ next. (trace : Trace) → HasTakenSteps (input_of closed.now tenant self.now.replay.limits) trace self.now → Chooses (input_of closed.now tenant self.now.replay.limits) trace (OfTranscript place) next) }
+        ensures choice { IfOk result (λ next. AfterItsSteps closed.now tenant self.now
+            (λ input trace. Chooses input trace (OfTranscript place) next)) }
         ensures within { IfOk result (λ next. IsWithinNext closed.now next) }
     {
         let transcript = &closed.transcripts[place];
@@ -184,8 +188,10 @@ impl Progress {
         requires sized { IsSized closed.now self.now }
         requires places { IsSessionOrder closed.now.transcripts.items tenant places.now }
         requires place { place < length closed.now.transcripts.items }
-        ensures gives { (trace : Trace) (transcript : Noted) → HasTakenSteps (input_of closed.now tenant self.now.replay.limits) trace self.now → IsTranscriptAt (input_of closed.now tenant self.now.replay.limits) place transcript
-            → GivesNow (input_of closed.now tenant self.now.replay.limits) trace place transcript Greets result }
+        ensures gives { let input = input_of closed.now tenant self.now.replay.limits in
+            (trace : Trace) (transcript : Noted) → HasTakenSteps input trace self.now
+            → IsTranscriptAt input place transcript
+            → GivesNow input trace place transcript Greets result }
         ensures within { IsWithinNext closed.now result }
     {
         let transcript = &closed.transcripts[place];
@@ -223,8 +229,11 @@ impl Progress {
     ) -> Result<Option<Next>, OutOfMemory>
         requires sized { IsSized closed.now self.now }
         requires place { place < length closed.now.transcripts.items }
-        ensures gives { IfOk result (λ next. (trace : Trace) (item : TranscriptItem) → IsNotedOf (input_of closed.now tenant self.now.replay.limits) trace self.now → IsCompared transcript.now (Open read)
-            → slice_get (rest_of transcript.now (Open read)) 0 ≡ Some item → GivesNow (input_of closed.now tenant self.now.replay.limits) trace place transcript.now item.doing next) }
+        ensures gives { let input = input_of closed.now tenant self.now.replay.limits in
+            IfOk result (λ next. (trace : Trace) (item : TranscriptItem)
+            → IsNotedOf input trace self.now → IsCompared transcript.now (Open read)
+            → slice_get (rest_of transcript.now (Open read)) 0 ≡ Some item
+            → GivesNow input trace place transcript.now item.doing next) }
         ensures within { IfOk result (λ next. IsWithinNext closed.now next) }
     {
         if read >= transcript.entries.len() {
@@ -248,8 +257,10 @@ impl Progress {
     ) -> Option<Next>
         requires sized { IsSized closed.now self.now }
         requires place { place < length closed.now.transcripts.items }
-        ensures gives { (trace : Trace) (doing : Doing) → IsNotedOf (input_of closed.now tenant self.now.replay.limits) trace self.now → doing_of entry ≡ Some doing
-            → GivesNow (input_of closed.now tenant self.now.replay.limits) trace place transcript.now doing result }
+        ensures gives { let input = input_of closed.now tenant self.now.replay.limits in
+            (trace : Trace) (doing : Doing) → IsNotedOf input trace self.now
+            → doing_of entry ≡ Some doing
+            → GivesNow input trace place transcript.now doing result }
         ensures within { IsWithinNext closed.now result }
     {
         match entry {
@@ -285,8 +296,8 @@ impl Progress {
         place: u64,
     ) -> Option<u64>
         requires sized { IsSized closed.now self.now }
-        ensures { (trace : Trace) → IsNotedOf (input_of closed.now tenant self.now.replay.limits) trace self.now
-            → RepliesNow (input_of closed.now tenant self.now.replay.limits) trace seat number partition place result }
+        ensures { AfterNoted closed.now tenant self.now
+            (λ input trace. RepliesNow input trace seat number partition place result) }
     {
         if partition >= closed.config.parts {
             return None;
@@ -308,7 +319,8 @@ impl Progress {
         requires sized { IsSized closed.now self.now }
         requires places { IsSessionOrder closed.now.transcripts.items tenant places.now }
         requires partition { partition < closed.now.config.parts }
-        ensures choice { (trace : Trace) → HasTakenSteps (input_of closed.now tenant self.now.replay.limits) trace self.now → Chooses (input_of closed.now tenant self.now.replay.limits) trace (OfJournal partition) result }
+        ensures choice { AfterItsSteps closed.now tenant self.now
+            (λ input trace. Chooses input trace (OfJournal partition) result) }
         ensures within { IsWithinNext closed.now result }
     {
         if self.is_early(closed, tenant, places, partition) {
@@ -334,8 +346,8 @@ impl Progress {
         requires sized { IsSized closed.now self.now }
         requires places { IsSessionOrder closed.now.transcripts.items tenant places.now }
         requires partition { partition < closed.now.config.parts }
-        ensures { (trace : Trace) → HasTakenSteps (input_of closed.now tenant self.now.replay.limits) trace self.now → IsTrue result
-            → (act : Acted) → MayTake (input_of closed.now tenant self.now.replay.limits) trace (OfJournal partition) act → ⊥ }
+        ensures { AfterItsSteps closed.now tenant self.now (λ input trace. IsTrue result
+            → (act : Acted) → MayTake input trace (OfJournal partition) act → ⊥) }
     {
         let Some((seat, number)) = self.next_caller(closed, tenant, partition as usize) else {
             return false;
@@ -351,7 +363,9 @@ impl Progress {
 
     /// The row of the call that a seat sent under a number.
     pub fn row_sent(&self, places: &SessionOrder, seat: u64, number: u64) -> Option<u64>
-        ensures { (input : Input) (trace : Trace) → IsSized input.closed self.now → IsSessionOrder (transcripts_in input) input.tenant places.now → HasTakenSteps input trace self.now
+        ensures { (input : Input) (trace : Trace) → IsSized input.closed self.now
+            → IsSessionOrder (transcripts_in input) input.tenant places.now
+            → HasTakenSteps input trace self.now
             → result ≡ at_place (call_rows input seat trace) number }
     {
         let Some(slot) = places.slot_of(seat) else {
@@ -366,8 +380,10 @@ impl Progress {
 
 /// The step of a request that the transcript at a place began; none where it is not a request of its client.
 fn request(place: usize, transcript: &Transcript, act: Act) -> Option<Next>
-    ensures gives { (input : Input) (trace : Trace) → GivesNow input trace place transcript.now (Begins act) result }
-    ensures within { (closed : Left) → place < length closed.transcripts.items → IsWithinNext closed result }
+    ensures gives { (input : Input) (trace : Trace)
+        → GivesNow input trace place transcript.now (Begins act) result }
+    ensures within { (closed : Left) → place < length closed.transcripts.items
+        → IsWithinNext closed result }
 {
     if !is_request(transcript.client, &act) {
         return None;
@@ -378,9 +394,12 @@ fn request(place: usize, transcript: &Transcript, act: Act) -> Option<Next>
 
 /// The delivery of the row with the reply that the transcript at a place took; none where it has not come.
 fn delivery(place: usize, row: Option<u64>, reply: Reply) -> Option<Next>
-    ensures gives { (input : Input) (trace : Trace) (transcript : Noted) (number : ℕ) (partition : ℕ) (event_place : ℕ)
-        → RepliesNow input trace transcript.seat number partition event_place row → GivesNow input trace place transcript (Takes number partition event_place reply) result }
-    ensures within { (closed : Left) → place < length closed.transcripts.items → IsWithinNext closed result }
+    ensures gives { (input : Input) (trace : Trace) (transcript : Noted) (number : ℕ)
+        (partition : ℕ) (event_place : ℕ)
+        → RepliesNow input trace transcript.seat number partition event_place row
+        → GivesNow input trace place transcript (Takes number partition event_place reply) result }
+    ensures within { (closed : Left) → place < length closed.transcripts.items
+        → IsWithinNext closed result }
 {
     let row = row?;
     Some(Next {

@@ -49,7 +49,8 @@ impl Progress {
     pub fn open(alloc: Global, closed: &Closed, limits: &Limits) -> Result<Progress, OutOfMemory>
         ensures limits { IfOk result (λ progress. progress.replay.limits ≡ limits.now) }
         ensures sized { IfOk result (λ progress. IsSized closed.now progress) }
-        ensures stands { IfOk result (λ progress. (tenant : ℕ) → HasTakenSteps (input_of closed.now tenant limits.now) [] progress) }
+        ensures stands { IfOk result (λ progress. (tenant : ℕ)
+            → HasTakenSteps (input_of closed.now tenant limits.now) [] progress) }
     {
         let parts = closed.config.parts;
         let _in_range = &closed.config;
@@ -71,9 +72,14 @@ impl Progress {
     pub fn next_event(&self, closed: &Closed, tenant: u32, partition: usize) -> Option<Event>
         requires sized { IsSized closed.now self.now }
         requires partition { partition < closed.now.config.parts }
-        ensures { (trace : Trace) → AreReplies (input_of closed.now tenant self.now.replay.limits) trace self.now
-            → MatchOption result ((event : Happened) → IsNextEvent (input_of closed.now tenant self.now.replay.limits) trace partition event → ⊥)
-            (λ event. IsNextEvent (input_of closed.now tenant self.now.replay.limits) trace partition event) }
+        ensures { (trace : Trace)
+            → AreReplies (input_of closed.now tenant self.now.replay.limits) trace self.now
+            → MatchOption result ((event : Happened)
+            → IsNextEvent
+            (input_of closed.now tenant self.now.replay.limits) trace partition event → ⊥)
+            (λ event.
+            IsNextEvent
+            (input_of closed.now tenant self.now.replay.limits) trace partition event) }
     {
         event_after(closed, tenant, partition, self.replies[partition].len())
     }
@@ -82,8 +88,13 @@ impl Progress {
     pub fn next_caller(&self, closed: &Closed, tenant: u32, partition: usize) -> Option<(u64, u64)>
         requires sized { IsSized closed.now self.now }
         requires partition { partition < closed.now.config.parts }
-        ensures { (trace : Trace) → AreReplies (input_of closed.now tenant self.now.replay.limits) trace self.now
-            → result ≡ option_map caller_of (slice_get (events_of_partition (input_of closed.now tenant self.now.replay.limits) partition) (times (OfJournal partition) trace)) }
+        ensures { (trace : Trace)
+            → AreReplies (input_of closed.now tenant self.now.replay.limits) trace self.now
+            → result
+            ≡ option_map caller_of
+            (slice_get
+            (events_of_partition (input_of closed.now tenant self.now.replay.limits) partition)
+            (times (OfJournal partition) trace)) }
     {
         caller_after(closed, tenant, partition, self.replies[partition].len())
     }

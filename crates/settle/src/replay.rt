@@ -29,7 +29,8 @@ impl Replay {
     pub fn open(alloc: Global, parts: u32, limits: &Limits) -> Result<Replay, OutOfMemory>
         requires { IsParts parts }
         ensures limits { IfOk result (λ replay. replay.limits ≡ limits.now) }
-        ensures stands { IfOk result (λ replay. (input : Input) → input.limits ≡ limits.now → input.closed.config.parts ≡ parts → Plays input [] [] replay) }
+        ensures stands { IfOk result (λ replay. (input : Input) → input.limits ≡ limits.now
+            → input.closed.config.parts ≡ parts → Plays input [] [] replay) }
     {
         Ok(Replay {
             limits: *limits,
@@ -40,10 +41,14 @@ impl Replay {
     /// Takes a step of its tenant, which has the number 0.
     pub fn step(&mut self, step: &Step) -> Result<Answer, OutOfMemory>
         requires { step.now.tenant ≡ 0 }
-        ensures answer { IfOk result (λ answer. (input : Input) (acts : List Acted) (history : History) → Plays input acts history self.old
+        ensures answer { IfOk result
+            (λ answer. (input : Input) (acts : List Acted) (history : History)
+            → Plays input acts history self.old
             → answer ≡ answer_to (setup_for input) history step.now.act) }
-        ensures stands { OnOk result ((input : Input) (acts : List Acted) (history : History) → Plays input acts history self.old
-            → Plays input (acts ++ step.now.act ∷ []) (with_act (setup_for input) step.now.act history) self.new) }
+        ensures stands { OnOk result ((input : Input) (acts : List Acted) (history : History)
+            → Plays input acts history self.old
+            → Plays input (acts
+            ++ step.now.act ∷ []) (with_act (setup_for input) step.now.act history) self.new) }
         ensures limits { self.new.limits ≡ self.old.limits }
     {
         self.world.step(step)
@@ -51,14 +56,16 @@ impl Replay {
 
     /// The message of a row, unless it was never sent.
     pub fn message(&self, row: u64) -> Option<&Message>
-        ensures { (input : Input) (acts : List Acted) (history : History) → Plays input acts history self.now → option_copied result ≡ message_at history row }
+        ensures { (input : Input) (acts : List Acted) (history : History)
+            → Plays input acts history self.now → option_copied result ≡ message_at history row }
     {
         self.world.message(0, row)
     }
 
     /// How many committed versions of an item a collection keeps now.
     pub fn keep(&self) -> Keep
-        ensures { (input : Input) (acts : List Acted) (history : History) → Plays input acts history self.now → result ≡ keep_in (setup_for input) history }
+        ensures { (input : Input) (acts : List Acted) (history : History)
+            → Plays input acts history self.now → result ≡ keep_in (setup_for input) history }
     {
         match self.world.keep(0) {
             Some(keep) => keep,
@@ -68,7 +75,8 @@ impl Replay {
 
     /// The reply that a step delivers.
     pub fn reply_delivered(&self, act: &Act) -> Option<Reply>
-        ensures { (input : Input) (acts : List Acted) (history : History) → Plays input acts history self.now → result ≡ reply_delivered history act.now }
+        ensures { (input : Input) (acts : List Acted) (history : History)
+            → Plays input acts history self.now → result ≡ reply_delivered history act.now }
     {
         match act {
             Act::Deliver(row) => self.message(*row)?.reply,
@@ -78,8 +86,10 @@ impl Replay {
 
     /// Whether a step brings the event's call to the partition.
     pub fn brings(&self, partition: usize, event: &Event, act: &Act) -> bool
-        ensures { (input : Input) (acts : List Acted) (history : History) → Plays input acts history self.now
-            → IsTrue result ↔ (call_coming (setup_for input) history partition act.now ≡ Some event.now.call) }
+        ensures { (input : Input) (acts : List Acted) (history : History)
+            → Plays input acts history self.now
+            → IsTrue result
+            ↔ (call_coming (setup_for input) history partition act.now ≡ Some event.now.call) }
     {
         match act {
             Act::Deliver(row) => match self.message(*row) {

@@ -47,15 +47,19 @@ impl SessionOrder {
 
     /// The place of the tenant's first transcript of a seat.
     pub fn slot_of(&self, seat: u64) -> Option<usize>
-        ensures { (transcripts : List Noted) (tenant : ℕ) → IsSessionOrder transcripts tenant self.now
-            → MatchOption result (NoneOfSeat transcripts tenant seat (length transcripts)) (IsSlot transcripts tenant seat) }
+        ensures { (transcripts : List Noted) (tenant : ℕ)
+            → IsSessionOrder transcripts tenant self.now
+            → MatchOption result (NoneOfSeat transcripts tenant seat (length transcripts))
+            (IsSlot transcripts tenant seat) }
     {
         self.slots.get(&seat).copied()
     }
 
     /// The place of the session of a tenant's client right before the one at a place.
     pub fn before(&self, place: usize) -> Option<usize>
-        ensures { (transcripts : List Noted) (tenant : ℕ) (transcript : Noted) → IsSessionOrder transcripts tenant self.now → IsOfTenant transcripts tenant place transcript
+        ensures { (transcripts : List Noted) (tenant : ℕ) (transcript : Noted)
+            → IsSessionOrder transcripts tenant self.now
+            → IsOfTenant transcripts tenant place transcript
             → IsLastBefore transcripts tenant (length transcripts) place transcript result }
     {
         *self.before.get(place)?
@@ -75,7 +79,8 @@ fn slots_of(
     transcripts: &[Transcript],
     tenant: u32,
 ) -> Result<FirstTranscripts, OutOfMemory>
-    ensures { IfOk result (λ slots. AreSlots transcripts.now tenant (length transcripts.now) slots) }
+    ensures { IfOk result
+        (λ slots. AreSlots transcripts.now tenant (length transcripts.now) slots) }
 {
     let mut slots = IndexMap::new(alloc);
     for place in 0..transcripts.len() {
@@ -116,7 +121,8 @@ fn before_all(
     transcripts: &[Transcript],
     tenant: u32,
 ) -> Result<Vec<Option<usize>>, OutOfMemory>
-    ensures { IfOk result (λ before. AreBefore transcripts.now tenant (length transcripts.now) before.items) }
+    ensures { IfOk result
+        (λ before. AreBefore transcripts.now tenant (length transcripts.now) before.items) }
 {
     match before_in_turn(alloc, transcripts, tenant)? {
         Some(before) => Ok(before),
@@ -130,7 +136,10 @@ fn before_in_turn(
     transcripts: &[Transcript],
     tenant: u32,
 ) -> Result<Option<Vec<Option<usize>>>, OutOfMemory>
-    ensures { IfOk result (λ found. IfSome found (λ before. AreBefore transcripts.now tenant (length transcripts.now) before.items)) }
+    ensures { IfOk result
+        (λ found.
+        IfSome found
+        (λ before. AreBefore transcripts.now tenant (length transcripts.now) before.items)) }
 {
     let mut lasts = IndexMap::new(alloc);
     let mut before = Vec::with_capacity(alloc, transcripts.len())?;
@@ -153,8 +162,10 @@ fn pass(
     requires place { place < length transcripts.now }
     requires lasts { AreLast transcripts.now tenant place lasts.old }
     requires before { AreBefore transcripts.now tenant place before.old.items }
-    ensures lasts { IfOk result (λ is_later. IsTrue is_later → AreLast transcripts.now tenant (place + 1) lasts.new) }
-    ensures before { IfOk result (λ is_later. IsTrue is_later → AreBefore transcripts.now tenant (place + 1) before.new.items) }
+    ensures lasts { IfOk result (λ is_later. IsTrue is_later
+        → AreLast transcripts.now tenant (place + 1) lasts.new) }
+    ensures before { IfOk result (λ is_later. IsTrue is_later
+        → AreBefore transcripts.now tenant (place + 1) before.new.items) }
 {
     let transcript = &transcripts[place];
     before.reserve(1)?;
@@ -193,7 +204,8 @@ fn before_by_pairs(
     transcripts: &[Transcript],
     tenant: u32,
 ) -> Result<Vec<Option<usize>>, OutOfMemory>
-    ensures { IfOk result (λ before. AreBefore transcripts.now tenant (length transcripts.now) before.items) }
+    ensures { IfOk result
+        (λ before. AreBefore transcripts.now tenant (length transcripts.now) before.items) }
 {
     let mut before = Vec::with_capacity(alloc, transcripts.len())?;
     for place in 0..transcripts.len() {
@@ -206,7 +218,8 @@ fn before_by_pairs(
 /// The last session of a tenant's client that comes before the one at a place.
 fn last_before(transcripts: &[Transcript], tenant: u32, place: usize) -> Option<usize>
     requires { place < length transcripts.now }
-    ensures { (transcript : Noted) → IsOfTenant transcripts.now tenant place transcript → IsLastBefore transcripts.now tenant (length transcripts.now) place transcript result }
+    ensures { (transcript : Noted) → IsOfTenant transcripts.now tenant place transcript
+        → IsLastBefore transcripts.now tenant (length transcripts.now) place transcript result }
 {
     let mut last = None;
     for other in 0..transcripts.len() {
@@ -226,7 +239,8 @@ fn last_of(
 ) -> Option<usize>
     requires place { place < length transcripts.now }
     requires other { other < length transcripts.now }
-    ensures { (transcript : Noted) → IsOfTenant transcripts.now tenant place transcript → IsLastBefore transcripts.now tenant other place transcript last
+    ensures { (transcript : Noted) → IsOfTenant transcripts.now tenant place transcript
+        → IsLastBefore transcripts.now tenant other place transcript last
         → IsLastBefore transcripts.now tenant (other + 1) place transcript result }
 {
     let session = &transcripts[other];

@@ -35,7 +35,8 @@ impl Progress {
         requires sized { IsSized closed.now self.old }
         requires places { IsSessionOrder closed.now.transcripts.items tenant places.now }
         requires within { IsWithin closed.now (origin_of next.source) }
-        ensures takes { TakesOne (input_of closed.now tenant self.old.replay.limits) next.source next.act self.old self.new result }
+        ensures takes { TakesOne (input_of closed.now tenant self.old.replay.limits)
+            next.source next.act self.old self.new result }
         ensures sized { IsSized closed.now self.new }
         ensures limits { self.new.replay.limits ≡ self.old.replay.limits }
     {
@@ -63,7 +64,8 @@ impl Progress {
         requires sized { IsSized closed.now self.old }
         requires places { IsSessionOrder closed.now.transcripts.items tenant places.now }
         requires place { place < length closed.now.transcripts.items }
-        ensures takes { TakesOne (input_of closed.now tenant self.old.replay.limits) (FromTranscript place reply.now) act self.old self.new result }
+        ensures takes { TakesOne (input_of closed.now tenant self.old.replay.limits)
+            (FromTranscript place reply.now) act self.old self.new result }
         ensures sized { IsSized closed.now self.new }
         ensures limits { self.new.replay.limits ≡ self.old.replay.limits }
     {
@@ -84,7 +86,8 @@ impl Progress {
         act: Act,
     ) -> Result<(), SettleFault>
         requires { partition < length self.old.replies.items }
-        ensures takes { (input : Input) → input.tenant ≡ tenant → TakesOne input (FromJournal partition event.now) act self.old self.new result }
+        ensures takes { (input : Input) → input.tenant ≡ tenant
+            → TakesOne input (FromJournal partition event.now) act self.old self.new result }
         ensures sized { (closed : Left) → IsSized closed self.old → IsSized closed self.new }
         ensures limits { self.new.replay.limits ≡ self.old.replay.limits }
     {
@@ -100,7 +103,9 @@ impl Progress {
 
     /// Takes the Keep step that stands right before the step of a journal's next event, if there is one.
     fn make_ready(&mut self, tenant: u32, event: &Event) -> Result<(), SettleFault>
-        ensures ready { OnOk result ((input : Input) (trace : Trace) (partition : ℕ) → input.tenant ≡ tenant → HasTakenSteps input trace self.old → IsNextEvent input trace partition event.now
+        ensures ready { OnOk result ((input : Input) (trace : Trace) (partition : ℕ)
+            → input.tenant ≡ tenant → HasTakenSteps input trace self.old
+            → IsNextEvent input trace partition event.now
             → IsReady input trace (OfJournal partition) self.new) }
         ensures err { IfErr result (λ fault. fault ≡ SettleFault.OutOfMemory) }
         ensures sized { (closed : Left) → IsSized closed self.old → IsSized closed self.new }
@@ -116,7 +121,8 @@ impl Progress {
     /// What is set right before the step of a journal's next event: as many versions as a collector's event kept, where another
     /// number is in force.
     fn keep_before(&self, event: &Event) -> Option<Keep>
-        ensures { (input : Input) (trace : Trace) (partition : ℕ) → IsNotedOf input trace self.now → IsNextEvent input trace partition event.now
+        ensures { (input : Input) (trace : Trace) (partition : ℕ) → IsNotedOf input trace self.now
+            → IsNextEvent input trace partition event.now
             → result ≡ keep_before input trace (OfJournal partition) }
     {
         let keep = keep_told(event)?;
@@ -129,9 +135,12 @@ impl Progress {
 
     /// Takes a Keep step.
     fn set_keep(&mut self, tenant: u32, keep: Keep) -> Result<(), SettleFault>
-        ensures played { OnOk result ((input : Input) (acts : List Acted) (history : History) → Plays input acts history self.old.replay
-            → Plays input (acts ++ SetKeep keep ∷ []) (with_act (setup_for input) (SetKeep keep) history) self.new.replay) }
-        ensures steps { OnOk result (self.new.steps.items ≡ self.old.steps.items ++ step_of tenant (SetKeep keep) ∷ []) }
+        ensures played { OnOk result ((input : Input) (acts : List Acted) (history : History)
+            → Plays input acts history self.old.replay
+            → Plays input (acts ++ SetKeep keep ∷ [])
+            (with_act (setup_for input) (SetKeep keep) history) self.new.replay) }
+        ensures steps { OnOk result (self.new.steps.items
+            ≡ self.old.steps.items ++ step_of tenant (SetKeep keep) ∷ []) }
         ensures err { IfErr result (λ fault. fault ≡ SettleFault.OutOfMemory) }
         ensures stages { self.new.stages ≡ self.old.stages }
         ensures sent { self.new.sent ≡ self.old.sent }
@@ -161,7 +170,8 @@ impl Progress {
         requires places { IsSessionOrder closed.now.transcripts.items tenant places.now }
         requires place { place < length closed.now.transcripts.items }
         requires step { step.now.tenant ≡ 0 }
-        ensures notes { NotesOne (input_of closed.now tenant self.old.replay.limits) (FromTranscript place reply.now) step.now.act self.old self.new result }
+        ensures notes { NotesOne (input_of closed.now tenant self.old.replay.limits)
+            (FromTranscript place reply.now) step.now.act self.old self.new result }
         ensures sized { IsSized closed.now self.new }
         ensures limits { self.new.replay.limits ≡ self.old.replay.limits }
         ensures steps { self.new.steps ≡ self.old.steps }
@@ -185,7 +195,8 @@ impl Progress {
 
     /// Whether a step delivers this reply, if there is one.
     fn delivers(&self, act: &Act, reply: &Option<Reply>) -> bool
-        ensures { (input : Input) (trace : Trace) → Replays input trace self.now.replay → IsTrue result ↔ Delivers (after input trace) act.now reply.now }
+        ensures { (input : Input) (trace : Trace) → Replays input trace self.now.replay
+            → IsTrue result ↔ Delivers (after input trace) act.now reply.now }
     {
         let Some(taken) = reply else {
             return true;
@@ -205,7 +216,8 @@ impl Progress {
     ) -> Result<(), SettleFault>
         requires partition { partition < length self.old.replies.items }
         requires step { step.now.tenant ≡ 0 }
-        ensures notes { (input : Input) → NotesOne input (FromJournal partition event.now) step.now.act self.old self.new result }
+        ensures notes { (input : Input) → NotesOne input (FromJournal partition event.now)
+            step.now.act self.old self.new result }
         ensures sized { (closed : Left) → IsSized closed self.old → IsSized closed self.new }
         ensures limits { self.new.replay.limits ≡ self.old.replay.limits }
         ensures steps { self.new.steps ≡ self.old.steps }
@@ -228,8 +240,10 @@ fn next_stage(
     stage: TranscriptState,
     answer: &Answer,
 ) -> Option<TranscriptState>
-    ensures { (item : TranscriptItem) → IsCompared transcript.now stage → slice_get (rest_of transcript.now stage) 0 ≡ Some item
-        → MatchOption result (AreAll answer.now item.noted → ⊥) (Advances transcript.now stage item answer.now) }
+    ensures { (item : TranscriptItem) → IsCompared transcript.now stage
+        → slice_get (rest_of transcript.now stage) 0 ≡ Some item
+        → MatchOption result (AreAll answer.now item.noted → ⊥)
+        (Advances transcript.now stage item answer.now) }
 {
     let entries = &transcript.entries;
     match stage {
@@ -258,7 +272,8 @@ fn next_stage(
 /// The place at which something else was done than to note an answer, from an entry on; none where another answer than this
 /// was noted before.
 fn after_noted(entries: &EntryList, from: usize, answer: &Answer) -> Option<usize>
-    ensures { MatchOption result (AreAll answer.now (noted (drop from entries.now.items)) → ⊥) (IsNoted entries.now.items from answer.now) }
+    ensures { MatchOption result (AreAll answer.now (noted (drop from entries.now.items)) → ⊥)
+        (IsNoted entries.now.items from answer.now) }
 {
     for place in from..entries.len() {
         let Some(noted) = entries.answer(place) else {
@@ -303,7 +318,9 @@ fn keep_told(event: &Event) -> Option<Keep>
 
 /// The row of a reply, 0 for that of a collection, where the answer reports the event's reply.
 fn row_replied(answer: &Answer, event: &Event) -> Option<u64>
-    ensures { MatchOption result (reply_told answer.now ≢ Some event.now.reply) (λ row. (reply_told answer.now ≡ Some event.now.reply) × (row ≡ row_replied answer.now)) }
+    ensures { MatchOption result (reply_told answer.now ≢ Some event.now.reply)
+        (λ row. (reply_told answer.now ≡ Some event.now.reply)
+        × (row ≡ row_replied answer.now)) }
 {
     match answer {
         Answer::Replied(row, told) => {
@@ -350,7 +367,8 @@ fn push_at(lists: &mut Vec<Vec<u64>>, place: usize, row: u64) -> Result<(), Sett
 /// Adds the rows of the calls that a step sent to the list at a place.
 fn push_rows_at(lists: &mut Vec<Vec<u64>>, place: usize, answer: &Answer) -> Result<(), SettleFault>
     requires { place < length lists.old.items }
-    ensures ok { OnOk result (IsPushed lists.old.items lists.new.items place (rows_sent answer.now)) }
+    ensures ok { OnOk result
+        (IsPushed lists.old.items lists.new.items place (rows_sent answer.now)) }
     ensures err { IfErr result (λ fault. fault ≡ SettleFault.OutOfMemory) }
     ensures len { length lists.new.items ≡ length lists.old.items }
 {
@@ -373,7 +391,8 @@ fn push_rows(list: &mut Vec<u64>, answer: &Answer) -> Result<(), SettleFault>
 
 /// The rows of the calls that a step sent.
 fn rows_sent(answer: &Answer) -> Option<Rows>
-    ensures { MatchOption result (rows_sent answer.now ≡ []) (λ rows. rows_sent answer.now ≡ numbers rows) }
+    ensures { MatchOption result (rows_sent answer.now ≡ [])
+        (λ rows. rows_sent answer.now ≡ numbers rows) }
 {
     match answer {
         Answer::PutBegun(_, rows)

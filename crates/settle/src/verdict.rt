@@ -47,7 +47,9 @@ fn play(
 ) -> Result<Vec<Step>, SettleFault>
     requires places { IsSessionOrder closed.now.transcripts.items tenant places.now }
     requires journals { HasJournals closed.now tenant limits.now }
-    ensures { MatchResult result (λ steps. Settles (input_of closed.now tenant limits.now) steps.items) (IsFaulty closed.now tenant limits.now) }
+    ensures { MatchResult result
+        (λ steps. Settles (input_of closed.now tenant limits.now) steps.items)
+        (IsFaulty closed.now tenant limits.now) }
 {
     let mut progress = Progress::open(alloc, closed, limits)?;
     let mut search = Search::new();
@@ -79,8 +81,12 @@ fn verdict(
     requires sized { IsSized closed.now progress }
     requires places { IsSessionOrder closed.now.transcripts.items tenant places.now }
     requires journals { HasJournals closed.now tenant progress.replay.limits }
-    ensures { (trace : Trace) → HasTakenSteps (input_of closed.now tenant progress.replay.limits) trace progress → NoneIsFree (input_of closed.now tenant progress.replay.limits) trace
-        → MatchResult result (λ steps. Settles (input_of closed.now tenant progress.replay.limits) steps.items) (IsFaulty closed.now tenant progress.replay.limits) }
+    ensures { (trace : Trace)
+        → HasTakenSteps (input_of closed.now tenant progress.replay.limits) trace progress
+        → NoneIsFree (input_of closed.now tenant progress.replay.limits) trace
+        → MatchResult result
+        (λ steps. Settles (input_of closed.now tenant progress.replay.limits) steps.items)
+        (IsFaulty closed.now tenant progress.replay.limits) }
 {
     if progress.is_whole(closed, tenant) {
         return Ok(progress.steps);

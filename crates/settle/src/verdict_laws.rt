@@ -11,11 +11,16 @@ use plain_store::{no_answer_is_false, reads_are_atomic, reads_are_fresh, restart
 /// to the very step that the seat's transcript gave for it: each read and each list is read atomic, none is false, no read is
 /// older than what was done before it began in the list, and restarts are right.
 pub fn settled_answers_are_right()
-    ensures own { (input : Input) (steps : List Step) (settled : Settles input steps) → AnswersAreOwn input steps settled }
-    ensures atomic { (input : Input) (steps : List Step) (settled : Settles input steps) → ReadsAreAtomic input steps settled }
-    ensures truthful { (input : Input) (steps : List Step) (settled : Settles input steps) → NoneIsFalse input steps settled }
-    ensures fresh { (input : Input) (steps : List Step) (settled : Settles input steps) → ReadsAreFresh input steps settled }
-    ensures restarts { (input : Input) (steps : List Step) (settled : Settles input steps) → RestartsAreRight input steps settled }
+    ensures own { (input : Input) (steps : List Step) (settled : Settles input steps)
+        → AnswersAreOwn input steps settled }
+    ensures atomic { (input : Input) (steps : List Step) (settled : Settles input steps)
+        → ReadsAreAtomic input steps settled }
+    ensures truthful { (input : Input) (steps : List Step) (settled : Settles input steps)
+        → NoneIsFalse input steps settled }
+    ensures fresh { (input : Input) (steps : List Step) (settled : Settles input steps)
+        → ReadsAreFresh input steps settled }
+    ensures restarts { (input : Input) (steps : List Step) (settled : Settles input steps)
+        → RestartsAreRight input steps settled }
 {
     reads_are_atomic();
     no_answer_is_false();
