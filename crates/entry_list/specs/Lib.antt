@@ -1,2 +1,3 @@
 pub mod PackedEntries
 pub mod Sizes
+pub mod LentActs

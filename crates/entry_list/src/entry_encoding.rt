@@ -1,12 +1,16 @@
 //! Entries, packed at the end of bytes.
 ghost use Rattle.std.specs.Prelude.{◌≡◌, ◌+◌, ◌≤◌, ◌++◌, OnOk, length};
 ghost use Rattle.entry_list.specs.PackedEntries.{packed_entry, IsStoreEntry};
+ghost use Rattle.entry_list.specs.LentActs.{act_lent};
 ghost use Rattle.entry_list.specs.Sizes.{max_took_bytes, max_answered_bytes};
 
-use crate::kinds::Entry;
+use crate::kinds::{Entry, LentAct};
 use packed::{Buffer, MAX_NUMBER_BYTES, put_number};
-use packed_steps::{MAX_ANSWER_BYTES, MAX_REPLY_BYTES, put_act, put_answer, put_reply};
-use plain_store::{Act, Answer, Reply};
+use packed_steps::{
+    MAX_ANSWER_BYTES, MAX_REPLY_BYTES, put_act, put_answer, put_find_act, put_get_act, put_put_act,
+    put_reply,
+};
+use plain_store::{Answer, Reply};
 use std::alloc::AllocError;
 
 /// The most bytes of a reply's entry: one for its form, a number, a partition, a place and the reply.
@@ -16,13 +20,18 @@ pub const MAX_TOOK_BYTES: usize = 1 + 3 * MAX_NUMBER_BYTES + MAX_REPLY_BYTES;
 pub const MAX_ANSWERED_BYTES: usize = 1 + MAX_ANSWER_BYTES;
 
 /// The entry that an operation began. At `Err` some of its bytes may stand there.
-pub fn put_began(out: &mut Buffer, act: &Act) -> Result<(), AllocError>
-    ensures packed { OnOk result (out.new.items ≡ out.old.items ++ packed_entry (Entry.Began act.now)) }
-    ensures stored { OnOk result (IsStoreEntry (Entry.Began act.now)) }
+pub fn put_began(out: &mut Buffer, act: &LentAct<'_>) -> Result<(), AllocError>
+    ensures packed { OnOk result (out.new.items ≡ out.old.items ++ packed_entry (Entry.Began (act_lent act.now))) }
+    ensures stored { OnOk result (IsStoreEntry (Entry.Began (act_lent act.now))) }
 {
     out.reserve(1)?;
     out.push_reserved(0);
-    put_act(out, act)
+    match act {
+        LentAct::Put(client, items) => put_put_act(out, *client, items),
+        LentAct::Get(client, keys) => put_get_act(out, *client, keys),
+        LentAct::Find(client, tag) => put_find_act(out, *client, tag),
+        LentAct::Whole(act) => put_act(out, act),
+    }
 }
 
 /// The entry of a reply. It takes up to `MAX_TOOK_BYTES`.

@@ -1,5 +1,6 @@
 //! What a seat did.
 use plain_store::{Act, Answer, Reply};
+use stamps::{Client, Item, Key, Tag};
 
 /// One thing that a seat did.
 #[derive(Drop)]
@@ -37,4 +38,17 @@ pub enum Operation {
     Get,
     /// It finds the items that carry a tag.
     Find,
+}
+
+/// An act, with its items or keys where they lie: it is packed, and no copy of them is made.
+#[derive(Clone, Copy)]
+pub enum LentAct<'a> {
+    /// An `Act::Put`.
+    Put(Client, &'a [Item]),
+    /// An `Act::Get`.
+    Get(Client, &'a [Key]),
+    /// An `Act::Find`.
+    Find(Client, Tag),
+    /// Any act.
+    Whole(&'a Act),
 }

@@ -6,5 +6,5 @@ mod entry_encoding;
 mod kinds;
 mod packed_entries;
 
-pub use kinds::{Entry, Operation, Taken};
+pub use kinds::{Entry, LentAct, Operation, Taken};
 pub use packed_entries::EntryList;

@@ -1,14 +1,16 @@
 //! Entries, packed one behind the other.
 ghost use Rattle.std.specs.Prelude.{◌≡◌, ◌+◌, ◌<◌, ◌≤◌, ◌^◌, ◌++◌, ◌∷◌, ◌↔◌, [], length, Some, IsTrue, slice_get, option_and_then, IfOk, OnOk, OnErr};
+ghost use Rattle.entry_list.specs.LentActs.{act_lent};
 ghost use Rattle.entry_list.specs.PackedEntries.{taken_of, answer_of, operation_of, entry_in, IsPackedEntry};
 
 use crate::entry_decoding::{answer_in, operation_in, taken_in, unpacked};
 use crate::entry_encoding::{
     MAX_ANSWERED_BYTES, MAX_TOOK_BYTES, put_answered, put_began, put_took,
 };
-use crate::kinds::{Entry, Operation, Taken};
+use crate::kinds::{Entry, LentAct, Operation, Taken};
 use packed::{Buffer, PackedList};
 use plain_store::{Act, Answer, Reply};
+use stamps::Item;
 use std::alloc::{AllocError, Global};
 use std::marker::Model;
 
@@ -156,9 +158,9 @@ impl EntryList {
 
     /// Puts the entry that an operation began at the end, and makes room for so many replies behind it. At `Err` the entries
     /// are as they were.
-    pub fn push_began(&mut self, act: &Act, room: usize) -> Result<(), AllocError>
+    pub fn push_began(&mut self, act: &LentAct<'_>, room: usize) -> Result<(), AllocError>
         requires { room < 2 ^ 32 }
-        ensures ok { OnOk result (self.new.items ≡ self.old.items ++ Entry.Began act.now ∷ []) }
+        ensures ok { OnOk result (self.new.items ≡ self.old.items ++ Entry.Began (act_lent act.now) ∷ []) }
         ensures room { OnOk result (self.new.room ≡ room) }
         ensures err { OnErr result (self.new.items ≡ self.old.items) }
     {
@@ -198,13 +200,25 @@ impl EntryList {
         self.room -= 5;
     }
 
+    /// Puts the entry that an operation began at the end. At `Err` the entries are as they were.
+    fn push_act(&mut self, act: &Act) -> Result<(), AllocError>
+        ensures ok { OnOk result (self.new.items ≡ self.old.items ++ Entry.Began act.now ∷ []) }
+        ensures err { OnErr result (self.new.items ≡ self.old.items) }
+    {
+        if let Act::Put(client, items) = act {
+            let items: &[Item] = items.as_slice();
+            return self.push_began(&LentAct::Put(*client, items), 0);
+        }
+        self.push_began(&LentAct::Whole(act), 0)
+    }
+
     /// Puts an entry at the end. At `Err` the entries are as they were.
     pub fn push(&mut self, entry: &Entry) -> Result<(), AllocError>
         ensures ok { OnOk result (self.new.items ≡ self.old.items ++ entry.now ∷ []) }
         ensures err { OnErr result (self.new.items ≡ self.old.items) }
     {
         match entry {
-            Entry::Began(act) => self.push_began(act, 0),
+            Entry::Began(act) => self.push_act(act),
             Entry::Took {
                 number,
                 partition,

@@ -20,10 +20,10 @@ use Rattle.tenant_sessions.specs.Moves.{answer_of}
 use Rattle.tenant_sessions.specs.Showing.{IfReads, IfLists, IfTells, TellsStamp, IsAnswerTo, IsShown, IsTakenFor, Shows}
 use Rattle.tenant_sessions.specs.Running.{MayBegin}
 use Rattle.plain_store.specs.declared.answer.Rows.{Rows}
-use Rattle.hub.specs.Replies.{IsUnder, IsOf, IsStampOf, IsReplyIn, AreAmong, IsFromReplies, IsWriteOf, IsReadOf, IsListOf, IsToldOf, IsToldFor, IfDone, IfRead, IfListed, IfSays, IsReadBySeat, IfTold, Reads, Begins}
+use Rattle.hub.specs.Replies.{IsUnder, IsOf, IsStampOf, IsReplyIn, AreAmong, IsFromReplies, IsWriteOf, IsReadOf, IsListOf, IsToldOf, IsToldFor, IfDone, IfRead, IfListed, IfSays, IsReadBySeat, IfTold, Reads}
 use Rattle.hub.specs.Seats.{at_seat, told_by}
 use Rattle.shard.specs.Jobs.{refusal_of}
-use Rattle.hub.specs.Requests.{test_of}
+use Rattle.hub.specs.Requests.{intent_of, test_of}
 use Rattle.shard.specs.declared.jobs.Fault.{Fault}
 use Rattle.hub.specs.declared.seat_request.SeatRequest.{SeatRequest}
 use Rattle.hub.specs.declared.seat_request.SeatRequest.TheVariants as ask
@@ -340,14 +340,14 @@ good_items true false true used is = cc
 good_items true false false used is = refl
 
 -- so what begins for a request may begin
-pub may_begin : (session : ClientSession) (request : SeatRequest) (asked : Asked) (own : Stamp) → Begins own request asked → test_of session request ≡ passed → MayBegin asked
+pub may_begin : (session : ClientSession) (request : SeatRequest) (asked : Asked) (own : Stamp) → asked ≡ intent_of own request → test_of session request ≡ passed → MayBegin asked
 may_begin session (ask.Put items) asked own begins passes =
     subst MayBegin (sym begins) (good_items session.is_open (is_some session.running) (are_bad (keys_written items.now)) (nat_le counter_limit session.counter) passes)
 may_begin session (ask.Get keys) asked own begins passes = subst MayBegin (sym begins) (good_keys session.is_open (is_some session.running) (are_bad keys.now) passes)
 may_begin session (ask.Find tag) asked own begins passes = subst MayBegin (sym begins) tt
 
 -- what begins writes under the stamp that was drawn for it, if it writes
-pub stamp-begun : (own : Stamp) (told : Stamp) (request : SeatRequest) (asked : Asked) → Begins own request asked → ((items : List Item) → asked ≡ Writes own items → told ≡ own) → IsStampOf told asked
+pub stamp-begun : (own : Stamp) (told : Stamp) (request : SeatRequest) (asked : Asked) → asked ≡ intent_of own request → ((items : List Item) → asked ≡ Writes own items → told ≡ own) → IsStampOf told asked
 stamp-begun own told (ask.Put items) asked begins drawn = subst (IsStampOf told) (sym begins) (drawn items.now begins)
 stamp-begun own told (ask.Get keys) asked begins drawn = subst (IsStampOf told) (sym begins) tt
 stamp-begun own told (ask.Find tag) asked begins drawn = subst (IsStampOf told) (sym begins) tt
@@ -360,7 +360,7 @@ under-asked own (Finds tag) call is under = tt
 
 -- what a request writes, reads or finds that began, and whose answer was entered
 pub reads-begun : {X : Type 0} (name : SeatName) (parts : ℕ) (own : Stamp) (Drawn : Stamp → Type 0) (request : SeatRequest) (asked : Asked) (session started after : ClientSession) (entries more : List Entry) (place left : Option X) (before answer : Answer)
-    → ((items : List Item) → asked ≡ Writes own items → Drawn own) → Begins own request asked → test_of session request ≡ passed
+    → ((items : List Item) → asked ≡ Writes own items → Drawn own) → asked ≡ intent_of own request → test_of session request ≡ passed
     → ((setup : Setup) → setup.partitions ≡ parts → MayBegin asked → IsShown setup asked [] started.running)
     → ((setup : Setup) (start : List Entry) → Reads name setup asked start entries started.running (told_by place before) → Reads name setup asked start more after.running (told_by left answer))
     → IsSome place → IsNone left → IsToldFor name parts Drawn request answer entries more
@@ -377,7 +377,7 @@ reads-begun name parts own Drawn request asked session started after entries mor
         let first = subst P (sym (told-none place before there)) (reads-start name setup asked entries started.running fresh) in
         (subst Q (told-some left answer none) (read setup entries first)).answered
 
-    go : (request : SeatRequest) → Begins own request asked → IsToldFor name parts Drawn request answer entries more
+    go : (request : SeatRequest) → asked ≡ intent_of own request → IsToldFor name parts Drawn request answer entries more
     go (ask.Put items) begins =
         let some : Setup = record { partitions = parts; room = record { slots = 0; items = 0; clients = 0 }; keep = 0 } in
         let Told : Setup → Stamp → Type 0 = λ setup told. (told ≡ own) × IsWriteOf name setup own items.now entries more in

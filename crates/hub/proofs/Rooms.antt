@@ -20,8 +20,7 @@ use Rattle.tenant_sessions.specs.declared.moves.Move.{Move}
 use Rattle.tenant_sessions.specs.declared.moves.Move.TheVariants.{Wait, Decided, Done, Ask, Begins as BeginsCalls, Read, Listed, Restart, Ended, Ignored}
 use Rattle.tenant_sessions.specs.Moves.{moved, is_last, sends_calls, ending}
 use Rattle.tenant_sessions.specs.Running.{MayBegin}
-use Rattle.hub.specs.Replies.{Begins}
-use Rattle.hub.specs.Requests.{calls_for}
+use Rattle.hub.specs.Requests.{calls_for, intent_of}
 use Rattle.hub.specs.Rooms.{HasPlaces, HasRoom, SameRoom}
 use Rattle.hub.specs.Staging.{unserved}
 use Rattle.hub.proofs.Staging.{unserved-staged}
@@ -137,7 +136,7 @@ few_keys : (keys : List Key) → are_bad keys ≡ false → 2 * length keys ≡ 
 few_keys keys good = let fits = (transaction_keys keys good).at_most in omega (arith, fits)
 
 -- what begins for it sends no more
-pub makes_room : (parts : ℕ) (own : Stamp) (request : SeatRequest) (asked : Asked) → Begins own request asked → MayBegin asked → most_calls parts asked ≡ calls_for parts request
+pub makes_room : (parts : ℕ) (own : Stamp) (request : SeatRequest) (asked : Asked) → asked ≡ intent_of own request → MayBegin asked → most_calls parts asked ≡ calls_for parts request
 makes_room parts own (ask.Put items) asked begins may =
     ap (most_calls parts) begins ∙ few_items items.now (subst MayBegin begins may)
 makes_room parts own (ask.Get keys) asked begins may =

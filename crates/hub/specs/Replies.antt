@@ -139,13 +139,6 @@ IsToldFor name parts Drawn (Get keys) answer start entries = IfRead answer (IsRe
 IsToldFor name parts Drawn (Find tag) answer start entries =
     (setup : Setup) → setup.partitions ≡ parts → IfListed answer (IsListOf name setup tag start entries)
 
--- What begins for a request that writes items writes just these under this stamp; for one that reads keys it reads just these,
--- and for a search it searches by just this tag.
-abbrev pub Begins : Stamp → SeatRequest → Asked → Type 0
-Begins own (Put items) asked = asked ≡ Writes own items.now
-Begins own (Get keys) asked = asked ≡ Gets keys.now
-Begins own (Find tag) asked = asked ≡ Finds tag
-
 -- ---- while the operation runs
 
 -- it is the stamp of what was asked, if that writes

@@ -4,6 +4,8 @@ use Rattle.stamps.specs.Limits.{max_keys}
 use Rattle.plain_store.specs.declared.refusal.Refusal.{Refusal}
 use Rattle.plain_store.specs.declared.step.Act.{Act}
 use Rattle.plain_store.specs.declared.step.Act.TheVariants.{Put as PutAct, Get as GetAct, Find as FindAct}
+use Rattle.plain_store.specs.History.{Intent, Writes, Gets, Finds}
+use Rattle.plain_store.specs.Words.{Stamp}
 use Rattle.tenant_sessions.specs.declared.session.ClientSession.{ClientSession}
 use Rattle.tenant_sessions.specs.Held.{test_idle, test_put, test_get}
 use Rattle.hub.specs.declared.seat_request.SeatRequest.{SeatRequest}
@@ -14,6 +16,12 @@ abbrev pub act_of : ℕ → SeatRequest → Act
 act_of client (Put items) = PutAct client items.now
 act_of client (Get keys) = GetAct client keys.now
 act_of client (Find tag) = FindAct client tag
+
+-- what a session begins for it, under this stamp if it writes
+abbrev pub intent_of : Stamp → SeatRequest → Intent
+intent_of own (Put items) = Writes own items.now
+intent_of own (Get keys) = Gets keys.now
+intent_of own (Find tag) = Finds tag
 
 -- why the client's session does not begin it, if it does not
 abbrev pub test_of : ClientSession → SeatRequest → Result (Unit {0}) Refusal

@@ -151,7 +151,6 @@ impl<'a, G: Gate> RunningOperation<'a, G> {
     /// enters that it began. Where an allocation failed, nothing was entered.
     pub(crate) fn prepare(
         &mut self,
-        alloc: Global,
         parts: u32,
         request: &SeatRequest<'_>,
     ) -> Result<(), AllocError>
@@ -168,8 +167,8 @@ impl<'a, G: Gate> RunningOperation<'a, G> {
         ensures first { self.new.first ≡ self.old.first }
     {
         self.queues.reserve(request.most_calls(parts))?;
-        let act = request.act(alloc, self.name.client)?;
-        self.entries.push_began(&act, MOST_ROOM)?;
+        self.entries
+            .push_began(&request.lent(self.name.client), MOST_ROOM)?;
         self.place = Some(AnswerRoom);
         self.fault = None;
         Ok(())
@@ -209,11 +208,8 @@ impl<'a, G: Gate> RunningOperation<'a, G> {
         ensures first { self.new.first ≡ self.old.first }
     {
         let client = self.name.client;
-        match request.begin(&self.session, client, parts) {
-            Ok(begin) => {
-                self.session.start(&begin, parts);
-                self.exchange(rt, self.last_stamp(), takes, answer)
-            }
+        match request.start(&mut self.session, client, parts) {
+            Ok(()) => self.exchange(rt, self.last_stamp(), takes, answer),
             Err(refusal) => {
                 tell_refusal(refusal, answer);
                 self.enter_answer(answer);

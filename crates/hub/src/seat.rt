@@ -225,9 +225,8 @@ impl<'a, G: Gate> Seat<'a, G> {
             return;
         }
         let hub = self.hub;
-        let alloc = hub.alloc;
         let parts = hub.parts();
-        let Ok(()) = self.operation.prepare(alloc, parts, request) else {
+        let Ok(()) = self.operation.prepare(parts, request) else {
             tell_refusal(Refusal::OutOfMemory, answer);
             return;
         };

@@ -1,10 +1,10 @@
 //! What an operation is asked to do.
-ghost use Rattle.std.specs.Prelude.{◌≡◌, ◌≤◌, IfOk, OnOk};
+ghost use Rattle.std.specs.Prelude.{◌≡◌, ◌≤◌};
 
-use plain_store::{Act, Items, Keys, Refusal};
+use entry_list::LentAct;
+use plain_store::Refusal;
 use stamps::{Client, Item, Key, Tag, WriteSet};
-use std::alloc::{AllocError, Global};
-use tenant_sessions::{Begin, ClientSession};
+use tenant_sessions::ClientSession;
 
 /// What an operation is asked to do.
 #[derive(Clone, Copy)]
@@ -18,13 +18,13 @@ pub enum SeatRequest<'a> {
 }
 
 impl<'a> SeatRequest<'a> {
-    ghost use Rattle.std.specs.Prelude.{◌≡◌, ◌≤◌, ◌+◌, IfOk, IfErr};
+    ghost use Rattle.std.specs.Prelude.{◌≡◌, ◌≤◌, ◌+◌, IfOk, IfErr, OnOk, OnErr};
     ghost use Rattle.stamps.specs.Bounds.{IsParts};
     ghost use Rattle.stamps.specs.Stamp.{stamp};
     ghost use Rattle.hub.specs.Limits.{max_calls};
-    ghost use Rattle.tenant_sessions.specs.Held.{request_begun};
-    ghost use Rattle.hub.specs.Replies.{Begins};
-    ghost use Rattle.hub.specs.Requests.{act_of, calls_for, test_of};
+    ghost use Rattle.tenant_sessions.specs.Begins.{HasBegun};
+    ghost use Rattle.entry_list.specs.LentActs.{act_lent};
+    ghost use Rattle.hub.specs.Requests.{act_of, calls_for, intent_of, test_of};
 
     /// How many calls it makes at most, in a store of so many partitions: a write and a read make two to each key, and a
     /// search asks each partition before it reads.
@@ -40,39 +40,36 @@ impl<'a> SeatRequest<'a> {
         }
     }
 
-    /// The act that it is, of this client, with a copy of its items or keys.
-    pub fn act(&self, alloc: Global, client: Client) -> Result<Act, AllocError>
-        ensures { IfOk result (λ act. act ≡ act_of client self.now) }
+    /// The act that it is, of this client, with its items or keys where they lie.
+    pub fn lent(&self, client: Client) -> LentAct<'a>
+        ensures { act_lent result ≡ act_of client self.now }
     {
         match self {
-            SeatRequest::Put(items) => {
-                let copy = Vec::from_slice(alloc, items)?;
-                Ok(Act::Put(client, Items::new(copy)))
-            }
-            SeatRequest::Get(keys) => {
-                let copy = Vec::from_slice(alloc, keys)?;
-                Ok(Act::Get(client, Keys::new(copy)))
-            }
-            SeatRequest::Find(tag) => Ok(Act::Find(client, *tag)),
+            SeatRequest::Put(items) => LentAct::Put(client, items),
+            SeatRequest::Get(keys) => LentAct::Get(client, keys),
+            SeatRequest::Find(tag) => LentAct::Find(client, *tag),
         }
     }
 
-    /// The transaction that it begins in this client's session, if it passes its tests.
-    pub fn begin(
+    /// Begins its transaction in this client's session, in a store of so many partitions (1 to 64). It fails where the session
+    /// refuses it. Then nothing has changed.
+    pub fn start(
         &self,
-        session: &ClientSession,
+        session: &mut ClientSession,
         client: Client,
         parts: u32,
-    ) -> Result<Begin<'a>, Refusal>
+    ) -> Result<(), Refusal>
         requires { IsParts parts }
-        ensures refused { IfErr result (λ refusal. test_of session.now self.now ≡ Err refusal) }
-        ensures passed { IfOk result (λ _. test_of session.now self.now ≡ Ok tt) }
-        ensures begun { IfOk result (λ begin. Begins (stamp (session.now.counter + 1) client) self.now (request_begun begin.kind)) }
+        ensures refused { IfErr result (λ refusal. test_of session.old self.now ≡ Err refusal) }
+        ensures unchanged { OnErr result (session.new ≡ session.old) }
+        ensures passed { OnOk result (test_of session.old self.now ≡ Ok tt) }
+        ensures begun { OnOk result (HasBegun parts (intent_of (stamp (session.old.counter + 1) client) self.now) session.old session.new) }
+        ensures still_open { session.new.is_open ≡ session.old.is_open }
     {
         match self {
-            SeatRequest::Put(items) => session.begin_put(client, items),
-            SeatRequest::Get(keys) => session.begin_get(client, keys),
-            SeatRequest::Find(tag) => session.begin_find(client, *tag, parts),
+            SeatRequest::Put(items) => session.start_put(client, items, parts),
+            SeatRequest::Get(keys) => session.start_get(keys, parts),
+            SeatRequest::Find(tag) => session.start_find(*tag, parts),
         }
     }
 }

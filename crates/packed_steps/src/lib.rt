@@ -16,7 +16,9 @@ pub use reading_answers::{read_answer, read_reading, read_readings, read_refusal
 pub use reading_calls::read_call;
 pub use reading_replies::{read_found, read_reply};
 pub use step_sizes::{MAX_ANSWER_BYTES, MAX_CALL_BYTES, MAX_REPLY_BYTES};
-pub use writing_acts::{put_act, put_all_keys, put_item, put_items};
+pub use writing_acts::{
+    put_act, put_all_keys, put_find_act, put_get_act, put_item, put_items, put_put_act,
+};
 pub use writing_answers::{put_answer, put_reading, put_readings, put_rows};
 pub use writing_calls::put_call;
 pub use writing_replies::{put_found, put_reply};

@@ -3,6 +3,7 @@ ghost use Rattle.std.specs.Prelude.{◌≡◌, ◌+◌, ◌≤◌, ◌++◌, OnO
 ghost use Rattle.packed.specs.Packing.{packed_text};
 ghost use Rattle.packed.specs.Sizes.{max_item_bytes};
 ghost use Rattle.packed_steps.specs.Lists.{packed_list};
+ghost use Rattle.plain_store.specs.declared.step.Act.TheVariants.{Put, Get, Find};
 ghost use Rattle.packed_steps.specs.PackedActs.{packed_item, IsStoreItem, AreStoreItems, AreStoreKeys, packed_act, IsStoreAct};
 
 use packed::{
@@ -10,7 +11,7 @@ use packed::{
     put_value,
 };
 use plain_store::Act;
-use stamps::{Item, Key};
+use stamps::{Client, Item, Key, Tag};
 use std::alloc::AllocError;
 
 /// An item, part by part. It takes up to `MAX_ITEM_BYTES`.
@@ -54,6 +55,40 @@ pub fn put_all_keys(out: &mut Buffer, keys: &[Key]) -> Result<(), AllocError>
     Ok(())
 }
 
+/// An act that writes these items. At `Err` some of its bytes may stand there, and so it is of the two below.
+pub fn put_put_act(out: &mut Buffer, client: Client, items: &[Item]) -> Result<(), AllocError>
+    ensures packed { OnOk result (out.new.items ≡ out.old.items ++ packed_act (Put client items.now)) }
+    ensures stored { OnOk result (IsStoreAct (Put client items.now)) }
+{
+    out.reserve(1 + MAX_NUMBER_BYTES)?;
+    out.push_reserved(1);
+    put_number(out, u64::from(client.get()));
+    put_items(out, items)
+}
+
+/// An act that reads these keys.
+pub fn put_get_act(out: &mut Buffer, client: Client, keys: &[Key]) -> Result<(), AllocError>
+    ensures packed { OnOk result (out.new.items ≡ out.old.items ++ packed_act (Get client keys.now)) }
+    ensures stored { OnOk result (IsStoreAct (Get client keys.now)) }
+{
+    out.reserve(1 + MAX_NUMBER_BYTES)?;
+    out.push_reserved(2);
+    put_number(out, u64::from(client.get()));
+    put_all_keys(out, keys)
+}
+
+/// An act that searches by this tag.
+pub fn put_find_act(out: &mut Buffer, client: Client, tag: &Tag) -> Result<(), AllocError>
+    ensures packed { OnOk result (out.new.items ≡ out.old.items ++ packed_act (Find client tag.now)) }
+    ensures stored { OnOk result (IsStoreAct (Find client tag.now)) }
+{
+    out.reserve(1 + 3 * MAX_NUMBER_BYTES)?;
+    out.push_reserved(3);
+    put_number(out, u64::from(client.get()));
+    put_tag(out, tag);
+    Ok(())
+}
+
 /// A byte for the form of the act, and its parts. At `Err` some of their bytes may stand there.
 pub fn put_act(out: &mut Buffer, act: &Act) -> Result<(), AllocError>
     ensures packed { OnOk result (out.new.items ≡ out.old.items ++ packed_act act.now) }
@@ -66,21 +101,9 @@ pub fn put_act(out: &mut Buffer, act: &Act) -> Result<(), AllocError>
             put_number(out, u64::from(client.get()));
             put_number(out, base.get());
         }
-        Act::Put(client, items) => {
-            out.push_reserved(1);
-            put_number(out, u64::from(client.get()));
-            put_items(out, items.as_slice())?;
-        }
-        Act::Get(client, keys) => {
-            out.push_reserved(2);
-            put_number(out, u64::from(client.get()));
-            put_all_keys(out, keys.as_slice())?;
-        }
-        Act::Find(client, tag) => {
-            out.push_reserved(3);
-            put_number(out, u64::from(client.get()));
-            put_tag(out, tag);
-        }
+        Act::Put(client, items) => put_put_act(out, *client, items.as_slice())?,
+        Act::Get(client, keys) => put_get_act(out, *client, keys.as_slice())?,
+        Act::Find(client, tag) => put_find_act(out, *client, tag)?,
         Act::Deliver(row) => {
             out.push_reserved(4);
             put_number(out, *row);

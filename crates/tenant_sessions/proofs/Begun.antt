@@ -104,3 +104,7 @@ module _ (held : ClientSession) (idle : test_idle held ≡ is_passed) where
   pub used_put : (items : List Item) → are_bad (keys_written items) ≡ false → nat_le counter_limit held.counter ≡ true → test_put held items ≡ Err StampsUsed
   used_put items good used =
       (λ i. cond (is_idle.0 i) (cond (is_idle.1 i) (Err Busy) (cond (good i) (Err BadItems) (cond (used i) (Err StampsUsed) is_passed))) (Err Stopped))
+
+  pub passes_put : (items : List Item) → are_bad (keys_written items) ≡ false → nat_le counter_limit held.counter ≡ false → test_put held items ≡ is_passed
+  passes_put items good fits =
+      (λ i. cond (is_idle.0 i) (cond (is_idle.1 i) (Err Busy) (cond (good i) (Err BadItems) (cond (fits i) (Err StampsUsed) is_passed))) (Err Stopped))

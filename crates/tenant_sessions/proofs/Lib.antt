@@ -22,3 +22,4 @@ pub mod Started
 pub mod Delivered
 pub mod Listed
 pub mod Shown
+pub mod HasBegun

@@ -6,4 +6,5 @@ pub mod Content
 pub mod Held
 pub mod Showing
 pub mod CallsLeft
+pub mod Begins
 pub mod Sessions

@@ -1,11 +1,14 @@
 //! The transaction of a client that runs, if one does.
-ghost use Rattle.std.specs.Prelude.{◌≡◌};
+ghost use Rattle.std.specs.Prelude.{◌≡◌, ◌<◌};
+ghost use Rattle.stamps.specs.Key.{IsTransactionKeys, sorted_keys};
+ghost use Rattle.plain_store.specs.Writing.{keys_written};
 ghost use Rattle.stamps.specs.Bounds.{IsParts};
 
 use crate::MoveKind;
 use crate::begin::Beginning;
 use crate::running::Running;
 use plain_store::{Message, OutOfMemory, Readings};
+use stamps::{Item, Key, Stamp, Tag, WriteSet};
 use std::alloc::Global;
 use std::marker::Model;
 
@@ -31,8 +34,8 @@ impl Current {
     ghost use Rattle.std.specs.Prelude.{◌≡◌, ◌+◌, ◌≤◌, List, Some, None, IsSome, IfSome, IfOk, is_some};
     ghost use Rattle.std.specs.Option.{option_copied};
     ghost use Rattle.plain_store.specs.declared.message.Message.{Message as Sent};
-    ghost use Rattle.plain_store.specs.History.{Intent};
-    ghost use Rattle.plain_store.specs.Words.{Key, Setup};
+    ghost use Rattle.plain_store.specs.History.{Intent, Writes, Gets, Finds};
+    ghost use Rattle.plain_store.specs.Words.{Setup};
     ghost use Rattle.tenant_sessions.specs.Held.{IsTested, request_begun, GoesOn};
     ghost use Rattle.tenant_sessions.specs.CallsLeft.{calls_left, calls_sent, calls_waiting};
     ghost use Rattle.tenant_sessions.specs.Moves.{moved};
@@ -85,6 +88,40 @@ impl Current {
             → IsSome self.new × IfSome self.new (λ running. Starts setup (request_begun kind.now) running) }
     {
         self.running.begin(kind, parts);
+        self.is_running = true;
+    }
+
+    /// Begins a write of these items under this stamp, in a store of so many partitions (1 to 64). The write set is that of the
+    /// items.
+    pub(crate) fn begin_put(&mut self, stamp: Stamp, items: &[Item], writes: &WriteSet, parts: u32)
+        requires written { 0 < stamp }
+        requires keys { IsTransactionKeys (keys_written items.now) }
+        requires writes { writes.now ≡ sorted_keys (keys_written items.now) }
+        requires parts { IsParts parts }
+        ensures { (setup : Setup) → setup.partitions ≡ parts
+            → IsSome self.new × IfSome self.new (λ running. Starts setup (Writes stamp items.now) running) }
+    {
+        self.running.begin_put(stamp, items, writes, parts);
+        self.is_running = true;
+    }
+
+    /// Begins a read of these keys, in a store of so many partitions (1 to 64).
+    pub(crate) fn begin_get(&mut self, keys: &[Key], parts: u32)
+        requires { IsParts parts }
+        ensures { (setup : Setup) → setup.partitions ≡ parts → MayBegin (Gets keys.now)
+            → IsSome self.new × IfSome self.new (λ running. Starts setup (Gets keys.now) running) }
+    {
+        self.running.begin_get(keys, parts);
+        self.is_running = true;
+    }
+
+    /// Begins a search by this tag, in a store of so many partitions (1 to 64).
+    pub(crate) fn begin_find(&mut self, tag: Tag, parts: u32)
+        requires { IsParts parts }
+        ensures { (setup : Setup) → setup.partitions ≡ parts
+            → IsSome self.new × IfSome self.new (λ running. Starts setup (Finds tag) running) }
+    {
+        self.running.begin_find(tag, parts);
         self.is_running = true;
     }
 

@@ -93,7 +93,7 @@ impl Running {
     }
 
     /// Makes of it a write of these items under this stamp, which took no reply yet. The write set is that of the items.
-    fn begin_put(&mut self, stamp: Stamp, items: &[Item], writes: &WriteSet, parts: u32)
+    pub(crate) fn begin_put(&mut self, stamp: Stamp, items: &[Item], writes: &WriteSet, parts: u32)
         requires written { 0 < stamp }
         requires keys { IsTransactionKeys (keys_written items.now) }
         requires writes { writes.now ≡ sorted_keys (keys_written items.now) }
@@ -108,7 +108,7 @@ impl Running {
     }
 
     /// Makes of it a read of these keys, which took no reply yet.
-    fn begin_get(&mut self, keys: &[Key], parts: u32)
+    pub(crate) fn begin_get(&mut self, keys: &[Key], parts: u32)
         requires { IsParts parts }
         ensures { (setup : Setup) → setup.partitions ≡ parts → MayBegin (Gets keys.now) → Starts setup (Gets keys.now) self.new }
     {
@@ -121,7 +121,7 @@ impl Running {
     }
 
     /// Makes of it a search by this tag, which took no reply yet.
-    fn begin_find(&mut self, tag: Tag, parts: u32)
+    pub(crate) fn begin_find(&mut self, tag: Tag, parts: u32)
         requires { IsParts parts }
         ensures { (setup : Setup) → setup.partitions ≡ parts → Starts setup (Finds tag) self.new }
     {

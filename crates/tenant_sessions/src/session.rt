@@ -57,7 +57,7 @@ fn counter_told(reply: &Option<Reply>) -> u64
 }
 
 impl ClientSession {
-    ghost use Rattle.std.specs.Prelude.{◌≡◌, ◌≢◌, ◌+◌, ◌<◌, ◌≤◌, ◌^◌, max, nat_lt, true, false, List, [], length, map, slice_get, Some, None, Ok, Err, IfOk, IfErr, if◌then◌else◌};
+    ghost use Rattle.std.specs.Prelude.{◌≡◌, ◌≢◌, ◌+◌, ◌<◌, ◌≤◌, ◌^◌, max, nat_lt, true, false, List, length, map, slice_get, Some, None, Ok, Err, IfOk, IfErr, OnOk, OnErr, if◌then◌else◌};
     ghost use Rattle.plain_store.specs.declared.message.Message.{Message as Sent};
     ghost use Rattle.plain_store.specs.History.{Intent, Writes, Gets, Finds};
     ghost use Rattle.plain_store.specs.Run.{are_bad, call_message};
@@ -65,9 +65,10 @@ impl ClientSession {
     ghost use Rattle.stamps.specs.Bounds.{IsParts};
     ghost use Rattle.stamps.specs.Stamp.{stamp};
     ghost use Rattle.tenant_sessions.specs.Running.{MayBegin, RunningStands, IsReplyTo, waiting_calls};
-    ghost use Rattle.tenant_sessions.specs.CallsLeft.{calls_left, calls_sent, calls_waiting, most_calls};
+    ghost use Rattle.tenant_sessions.specs.CallsLeft.{calls_left, calls_sent, calls_waiting};
     ghost use Rattle.tenant_sessions.specs.Moves.{moved};
-    ghost use Rattle.tenant_sessions.specs.Held.{TakesReply, request_begun, drawn_counter, BeginsIn, test_open, test_idle, test_put, test_get};
+    ghost use Rattle.tenant_sessions.specs.Held.{TakesReply, request_begun, drawn_counter, next_ticket, test_open, test_idle, test_put, test_get};
+    ghost use Rattle.tenant_sessions.specs.Begins.{HasBegun};
     ghost use Rattle.tenant_sessions.specs.Sessions.{IsBeginOf};
     ghost use Rattle.tenant_sessions.specs.Showing.{IsShown, Shows};
     ghost use Rattle.tenant_sessions.specs.declared.running.Running.{Running};
@@ -176,20 +177,86 @@ impl ClientSession {
     /// Begins a transaction, in a store of so many partitions (1 to 64). Its calls are then told one by one by `call`.
     pub fn start(&mut self, begin: &Begin<'_>, parts: u32)
         requires { IsParts parts }
-        ensures begun { (setup : Setup) → setup.partitions ≡ parts → MayBegin (request_begun begin.now.kind)
-            → BeginsIn setup (request_begun begin.now.kind) self.old self.new }
-        // What has just begun took nothing.
-        ensures shown { (setup : Setup) → setup.partitions ≡ parts → MayBegin (request_begun begin.now.kind)
-            → IsShown setup (request_begun begin.now.kind) [] self.new.running }
-        // What it sends first and may still ask for is no more than such a transaction sends.
-        ensures calls { MayBegin (request_begun begin.now.kind)
-            → calls_waiting self.new.running + calls_left self.new.running ≤ most_calls parts (request_begun begin.now.kind) }
+        ensures begun { MayBegin (request_begun begin.now.kind) → HasBegun parts (request_begun begin.now.kind) self.old self.new }
         ensures counter { self.new.counter ≡ max (drawn_counter (request_begun begin.now.kind)) self.old.counter }
         ensures still_open { self.new.is_open ≡ self.old.is_open }
     {
-        self.raise(begin.kind.counter());
-        self.ticket = self.ticket.saturating_add(1);
+        self.draw(begin.kind.counter());
         self.running.begin(&begin.kind, parts);
+    }
+
+    /// Begins a write of these items by this client, whose session it is, in a store of so many partitions (1 to 64): what
+    /// `begin_put` and `start` do. A `Begin` has some 600 bytes, and none is made here. Where it fails, as `begin_put` does, nothing
+    /// has changed.
+    pub fn start_put(&mut self, client: Client, items: &[Item], parts: u32) -> Result<(), Refusal>
+        requires { IsParts parts }
+        ensures refused { IfErr result (λ refusal. test_put self.old items.now ≡ Err refusal) }
+        ensures unchanged { OnErr result (self.new ≡ self.old) }
+        ensures passed { OnOk result (test_put self.old items.now ≡ Ok tt) }
+        ensures begun { OnOk result (HasBegun parts (Writes (stamp (self.old.counter + 1) client) items.now) self.old self.new) }
+        ensures still_open { self.new.is_open ≡ self.old.is_open }
+    {
+        if let Err(refusal) = self.test_idle() {
+            return Err(refusal);
+        }
+        let made = put_all::write_set_of(items);
+        let Some(writes) = &made else {
+            return Err(Refusal::BadItems);
+        };
+        let Some(stamp) = next_stamp(self.counter, client) else {
+            return Err(Refusal::StampsUsed);
+        };
+        self.draw(stamp.counter());
+        self.running.begin_put(stamp, items, writes, parts);
+        Ok(())
+    }
+
+    /// Begins a read of these keys, in a store of so many partitions (1 to 64): what `begin_get` and `start` do. Where it fails, as
+    /// `begin_get` does, nothing has changed.
+    pub fn start_get(&mut self, keys: &[Key], parts: u32) -> Result<(), Refusal>
+        requires { IsParts parts }
+        ensures refused { IfErr result (λ refusal. test_get self.old keys.now ≡ Err refusal) }
+        ensures unchanged { OnErr result (self.new ≡ self.old) }
+        ensures passed { OnOk result (test_get self.old keys.now ≡ Ok tt) }
+        ensures begun { OnOk result (HasBegun parts (Gets keys.now) self.old self.new) }
+        ensures still_open { self.new.is_open ≡ self.old.is_open }
+    {
+        if let Err(refusal) = self.test_idle() {
+            return Err(refusal);
+        }
+        if !are_readable(keys) {
+            return Err(Refusal::BadItems);
+        }
+        self.draw(0);
+        self.running.begin_get(keys, parts);
+        Ok(())
+    }
+
+    /// Begins a search by this tag, in a store of so many partitions (1 to 64): what `begin_find` and `start` do. Where it fails, as
+    /// `begin_find` does, nothing has changed.
+    pub fn start_find(&mut self, tag: Tag, parts: u32) -> Result<(), Refusal>
+        requires { IsParts parts }
+        ensures refused { IfErr result (λ refusal. test_idle self.old ≡ Err refusal) }
+        ensures unchanged { OnErr result (self.new ≡ self.old) }
+        ensures passed { OnOk result (test_idle self.old ≡ Ok tt) }
+        ensures begun { OnOk result (HasBegun parts (Finds tag) self.old self.new) }
+        ensures still_open { self.new.is_open ≡ self.old.is_open }
+    {
+        if let Err(refusal) = self.test_idle() {
+            return Err(refusal);
+        }
+        self.draw(0);
+        self.running.begin_find(tag, parts);
+        Ok(())
+    }
+
+    /// Counts a transaction that begins, whose stamp has this counter; 0 where it draws none.
+    fn draw(&mut self, counter: u64)
+        requires { counter < 2 ^ 40 }
+        ensures { self.new ≡ record self.old { counter = max counter self.old.counter; ticket = next_ticket self.old.ticket } }
+    {
+        self.raise(counter);
+        self.ticket = self.ticket.saturating_add(1);
     }
 
     /// Hands a reply to its transaction, if it is for that one, and says what that does. Where this sends calls, `call` then

@@ -1,16 +1,30 @@
-use entry_list::{Entry, EntryList};
-use plain_store::{Act, Answer, Reply};
-use stamps::{Client, Stamp, Tag};
+use entry_list::{Entry, EntryList, LentAct};
+use plain_store::{Act, Answer, Items, Reply};
+use stamps::{Client, Item, Key, Stamp, Tag, Value};
 use std::alloc::Global;
 use std::test::*;
 
-fn act() -> Option<Act> {
-    Some(Act::Find(Client::new(7)?, Tag::read(b"tag")?))
+fn item() -> Option<Item> {
+    Some(Item {
+        key: Key::read(b"key")?,
+        tag: Tag::read(b"tag")?,
+        value: Value::read(b"value")?,
+    })
+}
+
+fn act(alloc: Global) -> Option<Act> {
+    let items = Items::new(Vec::from_slice(alloc, &[item()?]).ok()?);
+    Some(Act::Put(Client::new(7)?, items))
 }
 
 fn filled(alloc: Global) -> Option<EntryList> {
     let mut list = EntryList::new(alloc);
-    list.push_began(&act()?, 6).ok()?;
+    let act: Act = act(alloc)?;
+    let Act::Put(client, items) = &act else {
+        return None;
+    };
+    let items: &[Item] = items.as_slice();
+    list.push_began(&LentAct::Put(*client, items), 6).ok()?;
     list.push_took(1, 63, 70_000, &Reply::Freed(9));
     list.push_answered(&Answer::Done(Stamp::new(5, 7)?));
     Some(list)
@@ -45,7 +59,9 @@ fn all_come_back(alloc: Global) -> Option<bool> {
     let second = filled(alloc)?;
     first.append(&second).ok()?;
     let given = first.take();
-    let read = is_began(alloc, &given, 3, &act()?) && is_taken(&given, 4) && is_done(&given, 5);
+    let read = is_began(alloc, &given, 3, &act(alloc)?)
+        && is_taken(&given, 4)
+        && is_done(&given, 5);
     Some(first.is_empty() && given.len() == 6 && read)
 }
 

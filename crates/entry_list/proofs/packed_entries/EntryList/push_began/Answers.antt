@@ -2,12 +2,13 @@ use Rattle.std.proofs.Common.{◌≡◌, ◌+◌, ◌*◌, ◌<◌, ◌≤◌, L
 use Rattle.entry_list.specs.declared.kinds.Entry.{Entry}
 use Rattle.entry_list.specs.declared.kinds.Entry.TheVariants.{Began}
 use Rattle.entry_list.specs.PackedEntries.{packed_entry, ArePackedEntries, entries_in, EntriesView}
+use Rattle.entry_list.specs.LentActs.{act_lent}
 use Rattle.entry_list.proofs.Unpacked.{still_packed, grown}
 use Rattle.entry_list.proofs.packed_entries.EntryList.push_began.Goals as goal
 
 pub invariant_of-self-2 : goal.invariant_of-self-2
 invariant_of-self-2 c =
-    let e = Began c.args.act.now in
+    let e = Began (act_lent c.args.act.now) in
     let bytes = c.as_slice-entry.result.now in
     let is : bytes ≡ packed_entry e = c.as_slice-entry.ensures.value ∙ c.in_ok-reserve.ensures.items ∙ c.in_ok-put_began.ensures.packed ∙ ap (λ (t : List ℕ). t ++ packed_entry e) c.clear.ensures.items in
     let more = c.push_reserved.ensures.items ∙ ap (λ (ps : List (List ℕ)). ps ++ bytes ∷ []) c.in_ok-reserve-2.ensures.items in (
@@ -19,7 +20,7 @@ invariant_of-self-2 c =
 
 pub returns-clause-ok : goal.returns-clause-ok
 returns-clause-ok c =
-    let e = Began c.args.act.now in
+    let e = Began (act_lent c.args.act.now) in
     let bytes = c.as_slice-entry.result.now in
     let is : bytes ≡ packed_entry e = c.as_slice-entry.ensures.value ∙ c.in_ok-reserve.ensures.items ∙ c.in_ok-put_began.ensures.packed ∙ ap (λ (t : List ℕ). t ++ packed_entry e) c.clear.ensures.items in
     let more = c.push_reserved.ensures.items ∙ ap (λ (ps : List (List ℕ)). ps ++ bytes ∷ []) c.in_ok-reserve-2.ensures.items in

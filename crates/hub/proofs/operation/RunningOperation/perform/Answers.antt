@@ -3,7 +3,9 @@ use Rattle.std.specs.Prelude.{IsNone}
 use Rattle.stamps.specs.Stamp.{stamp}
 use Rattle.stamps.specs.StampLaws.{counter_of-stamp}
 use Rattle.plain_store.specs.Words.{Stamp}
-use Rattle.tenant_sessions.specs.Held.{request_begun, drawn_counter}
+use Rattle.plain_store.specs.History.{Intent}
+use Rattle.hub.specs.Requests.{intent_of}
+use Rattle.tenant_sessions.specs.Held.{drawn_counter}
 use Rattle.hub.specs.Replies.{AreServed, IsDrawn}
 use Rattle.plain_store.specs.declared.answer.Answer.TheVariants.{Refused}
 use Rattle.shard.specs.declared.jobs.Fault.{Fault}
@@ -48,18 +50,20 @@ returns-in-Ok-clause-read g c =
     let client = c.args.self.now.name.client in
     let own : Stamp = stamp (before + 1) client in
     let after = c.exchange.new.self.session.counter in
-    let begun = c.start.new.self.counter in
-    let stamped = stamp-begun own c.last_stamp.result c.args.request.now (request_begun c.in-Ok.begin.kind) c.in-Ok.ensures.begun
+    let started = c.start.new.session in
+    let asked : Intent = intent_of own c.args.request.now in
+    let begun = c.in-Ok.ensures.begun in
+    let stamped = stamp-begun own c.last_stamp.result c.args.request.now asked refl
     (λ items is.
     let counted = ap drawn_counter is ∙ counter_of-stamp (before + 1) client c.last_stamp.ensures.client in
-    let next : begun ≡ before + 1 = omega (arith, counted, c.start.ensures.counter) in
+    let next : started.counter ≡ before + 1 = omega (arith, counted, begun.counter) in
     c.last_stamp.ensures.value (omega (arith, next)) ∙ ap (λ n. stamp n client) next) in
     on_ok _ _
-    (reads-begun c.args.self.now.name c.args.parts own (IsDrawn client before after) c.args.request.now (request_begun c.in-Ok.begin.kind) c.args.self.now.session c.start.new.self c.exchange.new.self.session c.args.self.now.entries.items c.exchange.new.self.entries.items c.args.self.now.place c.exchange.new.self.place c.args.answer.now c.exchange.new.answer
+    (reads-begun c.args.self.now.name c.args.parts own (IsDrawn client before after) c.args.request.now asked c.args.self.now.session started c.exchange.new.self.session c.args.self.now.entries.items c.exchange.new.self.entries.items c.args.self.now.place c.exchange.new.self.place c.args.answer.now c.exchange.new.answer
     (λ items is.
     let counted = ap drawn_counter is in
-    (refl, omega (arith, counted, c.start.ensures.counter, c.exchange.ensures.counter)))
-    c.in-Ok.ensures.begun c.in-Ok.ensures.passed c.start.ensures.shown (λ setup start reads. c.exchange.ensures.read setup (request_begun c.in-Ok.begin.kind) start stamped reads) c.requires.place)
+    (refl, omega (arith, counted, begun.counter, c.exchange.ensures.counter)))
+    refl c.in-Ok.ensures.passed (λ setup same may. begun.shown setup same) (λ setup start reads. c.exchange.ensures.read setup asked start stamped reads) c.requires.place)
     c.exchange.result c.exchange.ensures.answered
 
 pub returns-in-Err-clause-read : goal.returns-in-Err-clause-read
@@ -78,11 +82,11 @@ returns-in-Err-clause-served g c start are =
 -- what begins sends no more than there was made room for
 pub exchange-requires-clause-calls : goal.exchange-requires-clause-calls
 exchange-requires-clause-calls g c =
-    let asked = request_begun c.in-Ok.begin.kind in
     let own : Stamp = stamp (c.args.self.now.session.counter + 1) c.args.self.now.name.client in
-    let may = may_begin c.args.self.now.session c.args.request.now asked own c.in-Ok.ensures.begun c.in-Ok.ensures.passed in
+    let asked : Intent = intent_of own c.args.request.now in
+    let may = may_begin c.args.self.now.session c.args.request.now asked own refl c.in-Ok.ensures.passed in
     room_for_fewer _ _ c.args.self.now.queues
-    (omega (arith, c.start.ensures.calls may, makes_room c.args.parts own c.args.request.now asked c.in-Ok.ensures.begun may)) c.requires.calls
+    (omega (arith, c.in-Ok.ensures.begun.calls, makes_room c.args.parts own c.args.request.now asked refl may)) c.requires.calls
 
 pub returns-in-Err-clause-outcome : goal.returns-in-Err-clause-outcome
 returns-in-Err-clause-outcome g c =

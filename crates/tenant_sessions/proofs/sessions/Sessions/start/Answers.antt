@@ -14,7 +14,7 @@ returns c setup history act ran stands rows begins =
     c.get.ensures.value found (c.get_mut.follows.holds c.start.new.self) in
     let same = sym (ap (λ (s : SessionsContent). s.parts) c.self.view_is ∙ stands.parts) in
     let fits = subst MayBegin (sym begins.kind) begins.fits in
-    let after = c.start.ensures.begun setup same fits in
+    let after = (c.start.ensures.begun fits).begins setup same in
     let parts = subst (λ (s : SessionsContent). IsParts s.parts) c.self.view_is c.self.invariant in
     let new : SessionsContent = content_of c.self.inside.parts c.self.inside.limit (c.get_mut.follows.lender c.start.new.self) in
     started setup history act c.args.self.now new c.args.begin.now c.in-Some.session.now ran stands rows parts begins found after.running after.starts (subst (λ (h : ClientSession). HoldsSession c.args.self.now new c.args.begin.now.client h) after.is holds.0) holds.1
