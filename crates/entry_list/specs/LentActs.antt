@@ -1,4 +1,4 @@
--- Which act is lent.
+-- Which act a list of entries was given by reference.
 use Rattle.plain_store.specs.declared.step.Act.{Act}
 use Rattle.plain_store.specs.declared.step.Act.TheVariants.{Put as PutAct, Get as GetAct, Find as FindAct}
 use Rattle.entry_list.specs.declared.kinds.LentAct.{LentAct}

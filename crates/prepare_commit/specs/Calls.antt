@@ -70,7 +70,7 @@ pub record HoldItems (block : Cells) (versions : Versions) (items : List Chained
   pub lies : AreIn block versions.chains versions.is_swept
   pub have : HaveAll items (held_in block versions.chains)
 
--- so many versions were given up; nothing of another tenant changed
+-- so many versions were freed; nothing of another tenant changed
 pub record GivesUpOf
     (freed : ℕ) (old_block : Cells) (old : Versions) (old_items : Listing ChainedItem)
     (new_block : Cells) (new : Versions) (new_items : Listing ChainedItem) : Type 0 where

@@ -60,7 +60,7 @@ InsertAnswers Full old_cells old new_cells new chain v =
     (at_stamp (chain_versions old_cells old chain) v.stamp ≡ None) × (old.used ≡ old.share)
     × Unchanged old_cells old new_cells new
 
--- so many versions were given up, and where it was none, nothing changed
+-- so many versions were freed, and where it was none, nothing changed
 pub record GivesUp (count : ℕ) (old_cells : Cells) (old : Heads) (new_cells : Cells) (new : Heads) : Type 0 where
   pub used : new.used + count ≡ old.used
   pub none : count ≡ 0 → Unchanged old_cells old new_cells new
