@@ -6,6 +6,7 @@ use Rattle.plain_store.specs.Laws.{IsAtomicAnswer, IsFalse, IsFreshAnswer, IsRig
 use Rattle.plain_store.specs.declared.refusal.Refusal.TheVariants.{Discarded as WasDiscarded}
 use Rattle.settle.specs.Words.{Act, Deliver, Answer, Ready, Ended, Refusal, Rows, Clashed, Torn}
 use Rattle.settle.specs.Trace.{at_seat}
+use Rattle.settle.specs.Promises.{IsNewestDone}
 
 -- ---- an answer that is no end is reported whole
 
@@ -35,6 +36,10 @@ truthful_told answer right bad = right (false_told answer bad)
 pub fresh_told : (history : History) (act : Act) (answer : Answer) → IsFreshAnswer history act answer → IsFreshAnswer history act (at_seat answer)
 fresh_told history act (Ended why rows) right = tt
 fresh_told history act answer right = right
+
+pub newest_told : (history : History) (act : Act) (answer : Answer) → IsNewestDone history act answer → IsNewestDone history act (at_seat answer)
+newest_told history act (Ended why rows) right = tt
+newest_told history act answer right = right
 
 pub restart_told : (setup : Setup) (history : History) (act : Act) (answer : Answer) → IsRightRestart setup history act answer → IsRightRestart setup history act (at_seat answer)
 restart_told setup history (Deliver row) (Ended why rows) right = tt

@@ -1,12 +1,13 @@
 -- What an operator may rely on where settle answers a list.
 use Rattle.std.specs.Prelude.{◌≡◌, ℕ, List, [], ◌∷◌, ◌++◌, map, take, slice_get, Some}
-use Rattle.plain_store.specs.Words.{Setup}
-use Rattle.plain_store.specs.History.{History}
+use Rattle.plain_store.specs.Words.{Setup, Stamp}
+use Rattle.plain_store.specs.History.{Moment, History, Transaction}
 use Rattle.plain_store.specs.Run.{run, answer_to}
-use Rattle.plain_store.specs.Laws.{IsAtomicAnswer, IsFalse, IsFreshAnswer, IsRightRestart}
+use Rattle.plain_store.specs.Laws.{IsAtomicAnswer, IsFalse, IsFreshAnswer, IsRightRestart, receiver}
+use Rattle.plain_store.specs.Newest.{IsNewest}
 use Rattle.entry_list.specs.declared.kinds.Entry.TheVariants.{Answered}
 use Rattle.closed_store.specs.declared.transcript.Transcript.{Transcript}
-use Rattle.settle.specs.Words.{Act, Answer, Step}
+use Rattle.settle.specs.Words.{Act, Put, Answer, PutBegun, Done, Rows, Item, Step}
 use Rattle.settle.specs.Input.{Input, setup_for}
 use Rattle.settle.specs.Program.{TranscriptItem, count_done, program_of}
 use Rattle.settle.specs.Fronts.{IsTranscriptAt}
@@ -65,6 +66,30 @@ NoneIsFalse = EachAnswer (λ setup history act answer. IsFalse answer → ⊥)
 -- no read and no list is older than what a step was answered done that stands in the list before the reader's beginning
 abbrev pub ReadsAreFresh : (input : Input) (steps : List Step) → Settles input steps → Type 0
 ReadsAreFresh = EachAnswer (λ setup history act answer. IsFreshAnswer history act answer)
+
+-- The stamp was drawn as a put of the client began, above each that was done, before this client began to read, for a
+-- write of a key that it read.
+pub record IsDrawnNewest (history : History) (client : ℕ) (stamp : Stamp) : Type 0 where
+  pub items : List Item
+  pub rows : Rows
+  -- the step that began it, those after it, and those before it
+  pub newer : History
+  pub begins : Moment
+  pub older : History
+  pub stands : history ≡ newer ++ begins ∷ older
+  pub puts : begins.act ≡ Put client items
+  pub draws : begins.answer ≡ PutBegun stamp rows
+  pub newest : IsNewest older client stamp
+
+-- so was a stamp that is answered done, by the client that gets this answer; nothing is said of other answers
+abbrev pub IsNewestDone : History → Act → Answer → Type 0
+IsNewestDone history act (Done stamp) =
+    (writer : Transaction) × (receiver history act ≡ Some writer) × IsDrawnNewest history writer.client stamp
+IsNewestDone history act answer = Unit {0}
+
+-- who read keys first and then wrote, wrote above all that was done at them before it began to read
+abbrev pub WritesAreNewest : (input : Input) (steps : List Step) → Settles input steps → Type 0
+WritesAreNewest = EachAnswer (λ setup history act answer. IsNewestDone history act answer)
 
 -- a reader restarts only where what it asked for was outrun
 abbrev pub RestartsAreRight : (input : Input) (steps : List Step) → Settles input steps → Type 0

@@ -1,5 +1,7 @@
 use Rattle.plain_store.specs.Laws.{IsAtomicAnswer, IsFalse, IsFreshAnswer, IsRightRestart}
-use Rattle.settle.proofs.AtSeat.{atomic_told, truthful_told, fresh_told, restart_told}
+use Rattle.settle.proofs.AtSeat.{atomic_told, truthful_told, fresh_told, newest_told, restart_told}
+use Rattle.settle.specs.Promises.{IsNewestDone}
+use Rattle.settle.proofs.Drawn.{drawn_newest}
 use Rattle.settle.proofs.Right.{answers_are_own, each_answer}
 use Rattle.settle.proofs.verdict_laws.settled_answers_are_right.Goals as goal
 
@@ -14,6 +16,9 @@ returns-clause-truthful c = each_answer (λ setup history act answer. IsFalse an
 
 pub returns-clause-fresh : goal.returns-clause-fresh
 returns-clause-fresh c = each_answer (λ setup history act answer. IsFreshAnswer history act answer) (λ setup history act answer. fresh_told history act answer) c.reads_are_fresh.ensures
+
+pub returns-clause-newest : goal.returns-clause-newest
+returns-clause-newest c = each_answer (λ setup history act answer. IsNewestDone history act answer) (λ setup history act answer. newest_told history act answer) (drawn_newest c.puts_are_newest.ensures)
 
 pub returns-clause-restarts : goal.returns-clause-restarts
 returns-clause-restarts c = each_answer IsRightRestart restart_told c.restarts_are_right.ensures
