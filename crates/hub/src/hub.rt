@@ -3,7 +3,7 @@ ghost use Rattle.stamps.specs.Bounds.{IsParts};
 ghost use Rattle.hub.specs.Hubs.{config_view, AllSoundBooks};
 ghost use Rattle.hub.specs.Registered.{IsDeparture, is_unopened};
 ghost use Rattle.shard.specs.Queues.{unsent};
-ghost use Rattle.shard.specs.UsedAt.{AreUsagesAt};
+ghost use Rattle.shard.specs.UsedAt.{AreUsagesAt, WasElsewhere};
 ghost use Rattle.std.specs.Prelude.{◌≡◌, ◌≤◌, ◌<◌, ◌+◌, ◌↔◌, ◌⊎◌, true, false, [], length, map, slice_get, vec_len, vec_capacity, Ok, IfOk, IfErr, IfSome, OnOk, IsErrOf, IsTrue};
 
 use crate::closing::take_out;
@@ -170,8 +170,8 @@ impl<G> Hub<G> {
 
 impl<G: Gate> Hub<G> {
     /// Puts how much each tenant uses of a partition, in their order and at one moment, in place of what the list has. It takes
-    /// the partition's lock, and time for each tenant, and visits none of what they hold. Says whether there is such a partition.
-    /// The one error is that an allocation failed.
+    /// the partition's lock, and time for each tenant, and visits none of what they hold. Answers false where there is no such
+    /// partition, or where the state behind its lock is another's. The one error is that an allocation failed.
     pub fn status<R: Wait>(
         &self,
         rt: &R,
@@ -180,6 +180,7 @@ impl<G: Gate> Hub<G> {
     ) -> Result<bool, AllocError>
         ensures used { IfOk result (λ is_there. IsTrue is_there → AreUsagesAt self.now.parts partition usages.new.items) }
         ensures past { self.now.parts ≤ partition → result ≡ Ok false }
+        ensures elsewhere { partition < self.now.parts → IfOk result (λ is_there. is_there ≡ false → WasElsewhere self.now.parts partition) }
     {
         match self.shards.get(partition as usize) {
             Some(shard) => shard.put_usages(rt, self.config.parts, partition, usages),

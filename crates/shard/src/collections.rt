@@ -1,5 +1,5 @@
 //! How many collections each tenant had at a partition.
-ghost use Rattle.std.specs.Prelude.{◌≡◌, ◌<◌, replicate, slice_get};
+ghost use Rattle.std.specs.Prelude.{◌≡◌, ◌<◌, ◌≤◌, replicate, slice_get, IfNone, IfSome};
 ghost use Rattle.stamps.specs.Limits.{max_tenants};
 ghost use Rattle.shard.specs.Collected.{one_more};
 
@@ -36,7 +36,9 @@ impl CollectionCounts {
 
     /// How many this tenant had; none of a number that no tenant can have.
     pub fn of_tenant(&self, tenant: u32) -> Option<u64>
-        ensures { result ≡ slice_get self.now tenant }
+        ensures count { result ≡ slice_get self.now tenant }
+        ensures there { IfSome result (λ _. tenant < max_tenants) }
+        ensures past { IfNone result (max_tenants ≤ tenant) }
     {
         self.tenants.get(tenant as usize).copied()
     }

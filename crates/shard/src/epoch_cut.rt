@@ -110,6 +110,7 @@ impl Search {
         ensures unchanged { IfNone result (state.new.book ≡ state.old.book) }
         ensures over { IfNone result (self.new.is_over ≡ true) }
         ensures going { IfSome result (λ _. self.new.is_over ≡ self.old.is_over) }
+        ensures collections { state.new.collections ≡ state.old.collections }
     {
         let mut refused = 0;
         for tenant in self.from..state.book.tenants() {

@@ -1,5 +1,5 @@
 //! One partition, as all that serve there reach it: its book behind a lock, and the numbers of its calls.
-ghost use Rattle.std.specs.Prelude.{◌≡◌, ◌⊎◌, ◌<◌, ◌≤◌, ◌+◌, ◌-◌, ◌*◌, ◌^◌, ◌↔◌, ◌||◌, false, true, All, cond, map, min, nat_le, length, IfOk, IfSome, OnErr, IsErrOf, IsSomeAnd, IsTrue};
+ghost use Rattle.std.specs.Prelude.{◌≡◌, ◌⊎◌, ◌<◌, ◌≤◌, ◌+◌, ◌-◌, ◌*◌, ◌^◌, ◌↔◌, ◌||◌, false, true, All, cond, map, min, nat_le, length, replicate, IfOk, IfSome, OnErr, IsErrOf, IsSomeAnd, IsTrue};
 ghost use Rattle.std.specs.Sync.Mutex.{mutex_guard_value};
 ghost use Rattle.std.specs.VecDeque.{deque_capacity, deque_len};
 ghost use Rattle.partition.specs.Events.{event};
@@ -130,26 +130,19 @@ impl FollowUp {
 impl Shard {
     ghost use Rattle.shard.specs.Held.{HasItsJournals};
 
-    /// A partition with this book, whose journals are its own.
+    /// A partition with this book, whose journals are its own. What it begins with behind its lock is that of `ShardState::new`.
     pub fn new(config: ShardConfig, collector: Arc<Collector>, book: Book) -> Shard
         requires { ∥ AreOf config.parts config.partition book ∥₁ }
         ensures { result.config ≡ config }
     {
-        let state = ShardState {
-            behind_lock: GAP,
-            book,
-            partition: config.partition,
-            parts: config.parts,
-            events: 0,
-            collections: CollectionCounts::new(),
-        };
+        let state = Mutex::new(ShardState::new(&config, book));
         Shard {
             config,
             collector,
             before_arrivals: GAP,
             arrivals: AtomicU64::new(0),
             behind_arrivals: GAP,
-            state: Mutex::new(state),
+            state,
         }
     }
 
@@ -235,6 +228,24 @@ impl Shard {
 
 impl ShardState {
     ghost use Rattle.shard.specs.Asked.{asked_by, asked_of, IsOpenAt};
+
+    /// That of a partition with this book: no event of a seat came since a collection was due, and no tenant was collected.
+    fn new(config: &ShardConfig, book: Book) -> ShardState
+        requires { ∥ AreOf config.now.parts config.now.partition book ∥₁ }
+        ensures book { result.book ≡ book }
+        ensures partition { (result.partition ≡ config.now.partition) × (result.parts ≡ config.now.parts) }
+        ensures events { result.events ≡ 0 }
+        ensures collections { result.collections ≡ replicate max_tenants 0 }
+    {
+        ShardState {
+            behind_lock: GAP,
+            book,
+            partition: config.partition,
+            parts: config.parts,
+            events: 0,
+            collections: CollectionCounts::new(),
+        }
+    }
 
     /// Serves those of the staged calls that are for this partition, in their order, under this one lock. A call whose journal
     /// is full is left to the worker.

@@ -1,6 +1,7 @@
 //! How much the tenants use of a partition.
-ghost use Rattle.std.specs.Prelude.{◌≡◌, IfOk, IsTrue, OnOk};
-ghost use Rattle.shard.specs.UsedAt.{AreUsagesAt, AreUsagesOf};
+ghost use Rattle.std.specs.Prelude.{◌≡◌, ◌≤◌, ◌↔◌, false, length, IfOk, IsTrue, OnOk};
+ghost use Rattle.shard.specs.UsedAt.{AreUsagesAt, AreUsagesOf, IsAt, WasElsewhere};
+ghost use Rattle.stamps.specs.Limits.{max_tenants};
 
 use crate::shard::{Shard, ShardState};
 use partition::Usage;
@@ -17,10 +18,11 @@ pub struct TenantUsage {
 }
 
 impl ShardState {
-    /// Puts how much each tenant uses, in their order, in place of what the list has. Says whether its collections are counted of
-    /// each. The one error is that an allocation failed.
+    /// Puts how much each tenant uses, in their order, in place of what the list has. Answers true unless there are more tenants
+    /// than a store can have. The one error is that an allocation failed.
     fn put_usages(&self, usages: &mut Vec<TenantUsage>) -> Result<bool, AllocError>
-        ensures { IfOk result (λ is_there. IsTrue is_there → AreUsagesOf self.now.book self.now.collections usages.new.items) }
+        ensures used { IfOk result (λ is_there. IsTrue is_there → AreUsagesOf self.now.book self.now.collections usages.new.items) }
+        ensures there { IfOk result (λ is_there. IsTrue is_there ↔ (length self.now.book ≤ max_tenants)) }
     {
         usages.clear();
         for tenant in 0..self.book.tenants() {
@@ -33,14 +35,15 @@ impl ShardState {
         Ok(true)
     }
 
-    /// Does so where this is that partition, one of so many, and says whether it is.
+    /// Does so where this is that partition, one of so many, and answers whether it is.
     fn put_usages_at(
         &self,
         parts: u32,
         partition: u32,
         usages: &mut Vec<TenantUsage>,
     ) -> Result<bool, AllocError>
-        ensures { IfOk result (λ is_there. IsTrue is_there → AreUsagesAt parts partition usages.new.items) }
+        ensures used { IfOk result (λ is_there. IsTrue is_there → AreUsagesAt parts partition usages.new.items) }
+        ensures there { IfOk result (λ is_there. IsTrue is_there ↔ IsAt parts partition self.now) }
     {
         if self.parts != parts || self.partition != partition {
             return Ok(false);
@@ -51,8 +54,8 @@ impl ShardState {
 
 impl Shard {
     /// Puts how much each tenant uses of this partition, one of so many, in their order and at one moment, in place of what the
-    /// list has. It takes the lock, and time for each tenant, and visits none of what they hold. Says whether it is that
-    /// partition. The one error is that an allocation failed.
+    /// list has. It takes the lock, and time for each tenant, and visits none of what they hold. Answers false only where the
+    /// state behind the lock is not that partition's. The one error is that an allocation failed.
     pub fn put_usages<R: Wait>(
         &self,
         rt: &R,
@@ -60,7 +63,8 @@ impl Shard {
         partition: u32,
         usages: &mut Vec<TenantUsage>,
     ) -> Result<bool, AllocError>
-        ensures { IfOk result (λ is_there. IsTrue is_there → AreUsagesAt parts partition usages.new.items) }
+        ensures used { IfOk result (λ is_there. IsTrue is_there → AreUsagesAt parts partition usages.new.items) }
+        ensures elsewhere { IfOk result (λ is_there. is_there ≡ false → WasElsewhere parts partition) }
     {
         // Memory is asked for before the lock.
         usages.clear();

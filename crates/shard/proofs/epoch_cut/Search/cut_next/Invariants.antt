@@ -7,6 +7,7 @@ abbrev pub invariant-loop-tenant : goal.invariant-loop-tenant
 invariant-loop-tenant l = record {
   book : l.state.book ≡ l.fn.state.book;
   partition : l.state.partition ≡ l.fn.state.partition;
+  collections : l.state.collections ≡ l.fn.state.collections;
   from : l.self.from ≡ l.fn.self.from;
   over : l.self.is_over ≡ l.fn.self.is_over;
   passed : l.refused ≡ 0 → AreFewer l.least l.fn.state.book l.fn.self.from l.tenant;

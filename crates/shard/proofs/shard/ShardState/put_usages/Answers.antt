@@ -1,10 +1,16 @@
-use Rattle.std.proofs.Common.{◌<◌, ◌∙◌, length, arith, refl, sym}
+use Rattle.std.proofs.Common.{◌<◌, ◌∙◌, ℕ, Option, IfSome, length, arith, refl, subst, sym}
+use Rattle.stamps.specs.Limits.{max_tenants}
 use Rattle.shard.proofs.UsedMore.{used_more}
 use Rattle.shard.proofs.shard.ShardState.put_usages.Goals as goal
 
 pub loop-tenant-preserved : goal.loop-tenant-preserved
 loop-tenant-preserved c =
     let self = c.args.self.now in
+    let so_far = c.loop-tenant.invariant in
     let within : c.loop-tenant.tenant < length self.book = omega (arith, c.loop-tenant-test.true, c.tenants-tenant-end.ensures) in
-    rw c.in_ok-push.ensures.items (used_more self.book self.collections c.loop-tenant.usages.items c.loop-tenant.tenant c.in-Some.collections _ within
-    c.loop-tenant.invariant (sym c.of_tenant.ensures ∙ c.in-Some.is) refl c.usage-usage.ensures)
+    let few : c.loop-tenant.tenant < max_tenants = subst (λ (found : Option ℕ). IfSome found (λ _. c.loop-tenant.tenant < max_tenants)) c.in-Some.is c.of_tenant.ensures.there in
+    record {
+      used = rw c.in_ok-push.ensures.items (used_more self.book self.collections c.loop-tenant.usages.items c.loop-tenant.tenant c.in-Some.collections _ within
+          so_far.used (sym c.of_tenant.ensures.count ∙ c.in-Some.is) refl c.usage-usage.ensures);
+      few = omega (arith, few);
+    }

@@ -9,12 +9,12 @@ told_with : {A B E : Type 0} (result : Result Bool E) → (A → B) → IfOk res
 told_with (Ok is_there) more told = λ is. more (told is)
 told_with (Err e) more told = tt
 
-pub returns : goal.returns
-returns c =
+pub returns-clause-used : goal.returns-clause-used
+returns-clause-used c =
     let self = c.args.self.now in
     let P : ℕ → Type 0 = λ n. ∥ AreOf n self.partition self.book ∥₁ in
     let Q : ℕ → Type 0 = λ n. ∥ AreOf c.args.parts n self.book ∥₁ in
     let journals = subst Q c.if-self-partition.false (subst P c.if-self-parts.false self.journals) in
     told_with c.put_usages.result
     (λ used. ∥∥₁_map journals (λ of. record { state = self; here = (c.if-self-parts.false, c.if-self-partition.false); journals = of; of_each = used }))
-    c.put_usages.ensures
+    c.put_usages.ensures.used
