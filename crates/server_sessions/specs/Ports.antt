@@ -3,6 +3,7 @@ use Rattle.std.specs.Prelude.{◌≡◌, ◌⊎◌, ℕ, Bool}
 use Rattle.std.specs.Net.Socket.{socket_port}
 use Rattle.server_sessions.specs.declared.answer_counts.AnswerCounts.{AnswerCounts}
 use Rattle.server_sessions.specs.declared.listener.Listener.{Listener}
+use Rattle.server_sessions.specs.declared.session_count.SessionCount.{SessionCount}
 use Rattle.server_sessions.specs.declared.session_options.SessionOptions.{SessionOptions}
 use Rattle.server_sessions.specs.declared.server.Server.{Server}
 
@@ -33,3 +34,7 @@ stays_of server = server.stays
 -- where the answers of its sessions are counted
 abbrev pub answers_of : {L : Type 0} → Server L → AnswerCounts
 answers_of server = server.answers
+
+-- where its sessions are counted
+abbrev pub count_of : {L : Type 0} → Server L → SessionCount
+count_of server = server.count

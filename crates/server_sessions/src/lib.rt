@@ -9,6 +9,7 @@ mod peer;
 mod served;
 mod server;
 mod serving;
+mod session_count;
 mod session_options;
 
 pub use answer_counts::AnswerCounts;

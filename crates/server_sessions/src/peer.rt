@@ -1,15 +1,19 @@
 //! The other side of a connection, as a session reads it and writes to it.
-ghost use Rattle.std.specs.Prelude.{◌≡◌, ◌==◌, ◌-◌, ◌↔◌, None, OnOk, IsTrue};
+ghost use Rattle.std.specs.Prelude.{◌≡◌, ◌==◌, ◌-◌, ◌↔◌, None, IfSome, OnOk, IsTrue};
 ghost use Rattle.std.specs.Io.{ReadsAtMost, WritesAtMost};
 ghost use Rattle.std.specs.Io.KnownBytes.{Keeps, ReadConsumes, WriteAppends};
 ghost use Rattle.server_sessions.specs.Peers.{flushes_left};
 
-use std::io::{self, Read, Write};
+use crate::session_count::SessionCount;
+use std::io::{self, ErrorKind, Read, Write};
 use std::net::{Shutdown, TcpStream};
 use std::sync::atomic::{AtomicBool, Ordering};
 
 /// How many flushes there are from one look whether the peer is gone to the next, where nothing is written between them.
 const FLUSHES_A_LOOK: u32 = 16;
+
+/// How often a read looks whether something came before it sleeps. It takes some 15 µs, as long as a sleep and the wake-up behind it.
+const LOOKS: u32 = 60;
 
 /// How many reads pass over what a peer sent that is not read: of 4 KiB each, they are more than a connection holds.
 const PASSED: u32 = 2048;
@@ -26,6 +30,8 @@ pub(crate) struct Peer<'s> {
     pub(crate) is_cut: &'s AtomicBool,
     /// How many flushes are left that take no look.
     pub(crate) unlooked: u32,
+    /// How many sessions there are, of which this is one.
+    pub(crate) count: &'s SessionCount,
 }
 
 impl Peer<'_> {
@@ -40,6 +46,20 @@ impl Peer<'_> {
         }
         self.unlooked = FLUSHES_A_LOOK - 1;
         true
+    }
+
+    /// Takes what comes. It looks for a while before it sleeps, where there are few sessions.
+    fn receive(&self, buf: &mut [u8]) -> io::Result<usize>
+        ensures bound { ReadsAtMost result buf.new }
+        ensures bytes { ReadConsumes None None result buf.new }
+    {
+        if self.count.are_few()
+            && let Some(taken) = look(self.stream, buf)
+        {
+            return taken;
+        }
+        let mut stream = self.stream;
+        stream.read(buf)
     }
 
     /// Parts from a peer whose connection is shut down for reads: it is sent the end, and what it sent is passed over. A close
@@ -57,6 +77,36 @@ impl Peer<'_> {
     }
 }
 
+/// What came within some looks, if anything did. Reads of the stream wait again when it returns; where that can't be set, the read fails.
+fn look(stream: &TcpStream, buf: &mut [u8]) -> Option<io::Result<usize>>
+    ensures bound { IfSome result (λ taken. ReadsAtMost taken buf.new) }
+    ensures bytes { IfSome result (λ taken. ReadConsumes None None taken buf.new) }
+{
+    if stream.set_nonblocking(true).is_err() {
+        return None;
+    }
+    let taken = look_often(stream, buf);
+    match stream.set_nonblocking(false) {
+        Ok(()) => taken,
+        Err(error) => Some(Err(error)),
+    }
+}
+
+/// What the first read took that did not find the stream empty, of some reads that do not wait; a failure too.
+fn look_often(stream: &TcpStream, buf: &mut [u8]) -> Option<io::Result<usize>>
+    ensures bound { IfSome result (λ taken. ReadsAtMost taken buf.new) }
+    ensures bytes { IfSome result (λ taken. ReadConsumes None None taken buf.new) }
+{
+    let mut stream = stream;
+    for _look in 0..LOOKS {
+        match stream.read(buf) {
+            Err(error) if error.kind() == ErrorKind::WouldBlock => {}
+            taken => return Some(taken),
+        }
+    }
+    None
+}
+
 impl Read for Peer<'_> {
     fn read(&mut self, buf: &mut [u8]) -> io::Result<usize>
         ensures bound { ReadsAtMost result buf.new }
@@ -64,9 +114,8 @@ impl Read for Peer<'_> {
         // A read changes nothing of when the next look is.
         ensures looks { self.new.unlooked ≡ self.old.unlooked }
     {
-        let mut stream = self.stream;
         if !self.is_last.load(Ordering::SeqCst) {
-            let taken = stream.read(buf)?;
+            let taken = self.receive(buf)?;
             // One that waits when sessions are to end takes nothing: the connection is shut down.
             if taken > 0 || !self.is_last.load(Ordering::SeqCst) {
                 return Ok(taken);

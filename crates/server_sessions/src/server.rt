@@ -4,12 +4,13 @@ ghost use Rattle.std.specs.Arc.{arc_value};
 ghost use Rattle.server_sessions.specs.declared.served.Change.TheVariants.{Begun, Ended, Failed, GivenUp};
 ghost use Rattle.std.specs.IoError.{raw_os_error};
 ghost use Rattle.server_sessions.specs.Passing.{is_passing};
-ghost use Rattle.server_sessions.specs.Ports.{answers_of, listener_of, most_of, options_of, stays_of};
+ghost use Rattle.server_sessions.specs.Ports.{answers_of, count_of, listener_of, most_of, options_of, stays_of};
 
 use crate::answer_counts::AnswerCounts;
 use crate::listener::{Accept, passes};
 use crate::peer::Peer;
 use crate::served::{Connections, Left, Receipt, ServedConnections};
+use crate::session_count::SessionCount;
 use crate::session_options::SessionOptions;
 use hub::Transcript;
 use std::alloc::{AllocError, Global};
@@ -41,6 +42,8 @@ pub struct Server<L> {
     is_ending: AtomicBool,
     /// Whether no more lines are answered.
     is_cut: AtomicBool,
+    /// How many sessions it has.
+    count: SessionCount,
 }
 
 impl<L> Server<L> {
@@ -99,6 +102,7 @@ impl<L> Server<L> {
             changed: Condvar::new(),
             is_ending: AtomicBool::new(false),
             is_cut: AtomicBool::new(false),
+            count: SessionCount::new(),
         })
     }
 
@@ -129,6 +133,7 @@ impl<L> Server<L> {
             changed: _,
             is_ending: _,
             is_cut: _,
+            count: _,
         } = self;
         served.into_inner().leave()
     }
@@ -165,13 +170,22 @@ impl<L> Server<L> {
     pub(crate) fn peer<'s>(&'s self, stream: &'s TcpStream) -> Peer<'s>
         ensures stream { result.stream.now ≡ stream.now }
         ensures looks { result.unlooked ≡ 0 }
+        ensures count { result.count.now ≡ count_of self.now }
     {
         Peer {
             stream,
             is_last: &self.is_ending,
             is_cut: &self.is_cut,
             unlooked: 0,
+            count: &self.count,
         }
+    }
+
+    /// Where its sessions are counted.
+    pub(crate) fn count(&self) -> &SessionCount
+        ensures { result.now ≡ count_of self.now }
+    {
+        &self.count
     }
 
     /// How many connections it has.

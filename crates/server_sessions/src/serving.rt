@@ -136,6 +136,7 @@ fn serve_connection<H: Wait, L>(
     let mut writer = reader;
     let options = server.options();
     let counts = Some(server.answers());
+    server.count().begin();
     let (transcript, _) = run_session_as(
         rt,
         alloc,
@@ -146,6 +147,7 @@ fn serve_connection<H: Wait, L>(
         &mut reader,
         &mut writer,
     );
+    server.count().end();
     if server.is_ending() {
         reader.part();
     }
