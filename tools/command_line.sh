@@ -114,6 +114,16 @@ answer_command() {
     fi
 }
 
+# Answers what follows `help`: nothing, or one command.
+answer_help() {
+    [ $# -gt 0 ] || print_text ramp
+    [ $# -eq 1 ] || refuse "ramp help takes one command, and \"$2\" is one more"
+    case $1 in
+        cell | sim | serve | load | help) print_text "$1" ;;
+        *) refuse "ramp has no command \"$1\"; it has cell, sim, serve and load" ;;
+    esac
+}
+
 # Prints help or the version and exits, or exits with what is wrong with these words; returns where the program has to run.
 answer() {
     case ${1-} in
@@ -121,7 +131,7 @@ answer() {
         -h | --help) print_text ramp ;;
         -V | --version) print_text version ;;
         cell | sim | serve | load) answer_command "$@" ;;
-        help) ;;
+        help) answer_help "${@:2}" ;;
         -*) refuse "ramp has no option $1; ramp --help lists what it has" ;;
         *) refuse "ramp has no command \"$1\"; it has cell, sim, serve and load" ;;
     esac
