@@ -9,7 +9,7 @@ case ${1-} in
         exit
         ;;
     *)
-        echo "load.sh: no words are expected, and \"$1\" is one" >&2
+        echo "load.sh: no arguments are expected, and \"$1\" is one" >&2
         exit 2
         ;;
 esac

@@ -25,7 +25,7 @@ def check_words(given, words):
         if not re.fullmatch(SPELLED[kind], word):
             give_up(f"{name} is {kind}, and {word!r} is none; --help says more", 2)
     if len(given) > len(words):
-        give_up(f"{given[len(words)]!r} is one word too many; --help says more", 2)
+        give_up(f"{given[len(words)]!r} is one argument too many; --help says more", 2)
 
 
 def begin(main, text, words, *tools):
