@@ -8,7 +8,8 @@ import subprocess
 import sys
 
 TOP = pathlib.Path(__file__).resolve().parent.parent
-TOOLS = {"rt": "the toolchain of Rattle, which builds the program", "cc": "a C compiler", "rustc": "the compiler of Rust", "git": "git"}
+TOOLS = {"rt": "the toolchain of Rattle, which builds the program", "cc": "a C compiler, by which Rust's links",
+         "rustc": "the compiler of Rust", "cargo": "what builds programs of Rust", "git": "git"}
 NUMBER, NUMBERS, THOUSANDS, FILE = "a number", "numbers separated by commas", "a number such as 1,000", "a file"
 SPELLED = {NUMBER: r"[0-9]+", NUMBERS: r"[0-9]+(,[0-9]+)*", THOUSANDS: r"[0-9]+(,[0-9]{3})*", FILE: r"[^-].*"}
 
