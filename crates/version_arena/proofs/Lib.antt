@@ -1,4 +1,6 @@
 mod Blocks
 mod Emptying
 mod Rows
+mod LiveCells
+mod Places
 mod Threading

@@ -1,45 +1,46 @@
 // An arena, whose freed cells are threaded through its block.
-ghost use Rattle.std.specs.Prelude.{◌≡◌, ◌<◌, ◌≤◌, ◌↔◌, length, replicate, Some, None, IsTrue, IsOk, IfOk, IfErr, OnErr, slice_set};
+ghost use Rattle.std.specs.Prelude.{◌≡◌, ◌<◌, ◌≤◌, ◌↔◌, length, replicate, nat_lt, Some, None, IsSome, IsNone, IsTrue, IsOk, IfOk, IfErr, OnErr, slice_set, if◌then◌else◌};
 ghost use Rattle.std.specs.Borrow.{sem};
 ghost use Rattle.version_arena.specs.Arena.{entry, IsLive, live_count, next_beside, with_next};
 
-use crate::arena_cell::ArenaCell;
 use crate::block::RawBlock;
+use crate::cell_state::CellState;
 use crate::slot::{Slot, slot_within};
 use std::alloc::{AllocError, Global};
 use std::marker::Model;
-use std::mem;
 
 /// Values in the cells of one block of memory, each beside the slot of another value or of none.
 ///
 /// A clause sees a list with an entry for each slot, from 0 on: a value and the slot beside it, or nothing.
 ///
-/// The block is allocated once, by [`Arena::with_cells`], and freed once, at the end of the arena. A cell's bytes are
-/// first written when the first value comes into it; once that value was taken, they hold the slot of the next cell that
-/// was freed before. So each call takes constant time, also `with_cells`, and no other call allocates; the end of the
-/// arena takes time for each cell that was ever used. An arena may go to another thread where its values may.
+/// The block is allocated once, by [`Arena::with_cells`], and freed once, at the end of the arena, and so is the list of the
+/// cells' states. A cell's bytes are first written when the first value comes into it; where that value was taken, nothing is
+/// written there, and the cell's state names the cell that was freed before it. So each call takes constant time, also
+/// `with_cells`, and no other call allocates; the end of the arena takes time for each cell that was ever used. An arena may go to
+/// another thread where its values may.
 ///
 /// No clause can see a drop: that each live value is dropped once rests on the clauses of the raw layer (a place freed
 /// is empty, a place written was empty) and on the test that counts drops.
 pub struct Arena<T> {
-    cells: RawBlock<ArenaCell<T>>,
-    // How many cells were ever used: these are the first ones, and the places behind them are empty.
-    used: u32,
+    // The values of the live cells. The places of the others are empty.
+    values: RawBlock<T>,
+    // Of each cell that was ever used, of which there are these first ones: what it is, and the slot beside it.
+    states: Vec<CellState>,
     live: u32,
     // The cell that was freed last, of those that are free again.
     free: Option<Slot>,
 }
 
 impl<T> Model for Arena<T> {
-    ghost use Rattle.std.specs.Prelude.{ℕ, List, Option, map};
+    ghost use Rattle.std.specs.Prelude.{◌≤◌, ℕ, List, Option, map, length, vec_capacity};
 
     ghost Value = { List (Option (T × Option ℕ)) };
 
-    ghost use Rattle.version_arena.specs.Cells.{held_in, IsThreaded};
+    ghost use Rattle.version_arena.specs.Cells.{held_in, places, IsThreaded};
 
-    ghost view = { λ a. map held_in a.cells };
+    ghost view = { λ a. map held_in (places a.values a.states.items) };
 
-    ghost invariant = { λ a. IsThreaded a.cells a.used a.live a.free };
+    ghost invariant = { λ a. IsThreaded (places a.values a.states.items) (length a.states.items) a.live a.free × (length a.values ≤ vec_capacity a.states) };
 }
 
 impl<T> Arena<T> {
@@ -47,15 +48,17 @@ impl<T> Arena<T> {
 
     /// An arena of `cap` free cells, 1 to 4,194,304. It touches none of them.
     ///
-    /// An `AllocError` says that the allocator refused the block, or, before it was asked, that the block would pass
+    /// An `AllocError` says that the allocator refused the block or the list, or, before it was asked, that the block would pass
     /// 2^63 bytes. Nothing is then held.
     pub fn with_cells(alloc: Global, cap: u32) -> Result<Arena<T>, AllocError>
         requires { (1 ≤ cap) × (cap ≤ 4194304) }
         ensures { IfOk result (λ arena. arena ≡ replicate cap None) }
     {
+        let states = Vec::with_capacity(alloc, cap as usize)?;
+        let values = RawBlock::reserve(alloc, cap as usize)?;
         Ok(Arena {
-            cells: RawBlock::reserve(alloc, cap as usize)?,
-            used: 0,
+            values,
+            states,
             live: 0,
             free: None,
         })
@@ -65,7 +68,7 @@ impl<T> Arena<T> {
     pub fn cap(&self) -> u32
         ensures { result ≡ length self.now }
     {
-        self.cells.len() as u32
+        self.values.len() as u32
     }
 
     /// How many cells hold a value.
@@ -79,8 +82,10 @@ impl<T> Arena<T> {
     pub fn is_live(&self, slot: Slot) -> bool
         ensures { IsTrue result ↔ IsLive self.now slot }
     {
-        slot.index() < self.used as usize
-            && matches!(self.cells.get(slot.index()), ArenaCell::Live { .. })
+        match self.states.get(slot.index()) {
+            Some(state) => state.is_live(),
+            None => false,
+        }
     }
 
     /// Puts a value into a free cell, beside the slot `next`, and answers the cell's slot.
@@ -97,27 +102,18 @@ impl<T> Arena<T> {
         ensures returned { IfErr result (λ back. back ≡ value) }
         ensures unchanged { OnErr result (self.new ≡ self.old) }
     {
-        let Some(slot) = self.free else {
-            let Some(slot) = slot_within(self.used, self.cap()) else {
-                return Err(value);
-            };
-            self.cells
-                .put(slot.index(), ArenaCell::Live { value, next });
-            self.used += 1;
-            self.live += 1;
-            return Ok(slot);
+        let Some(slot) = first_free(self.free, self.states.len() as u32, self.cap()) else {
+            return Err(value);
         };
-        // What a free cell holds is read alone, where a replacement would copy the room of a value twice.
-        match self.cells.take(slot.index()) {
-            ArenaCell::Free { next: free } => {
-                self.free = free;
-                self.cells
-                    .put(slot.index(), ArenaCell::Live { value, next });
-                self.live += 1;
-                Ok(slot)
-            }
-            ArenaCell::Live { .. } => unreachable!(),
+        self.values.put(slot.index(), value);
+        self.live += 1;
+        if self.free.is_none() {
+            self.states.push_reserved(CellState::Live { next });
+            return Ok(slot);
         }
+        self.free = self.states[slot.index()].next();
+        self.states[slot.index()] = CellState::Live { next };
+        Ok(slot)
     }
 
     /// Takes the value out of a live cell, which is free from then on. No other cell changes.
@@ -126,15 +122,11 @@ impl<T> Arena<T> {
         ensures value { entry self.old slot ≡ Some (result, next_beside self.old slot) }
         ensures freed { self.new ≡ slice_set self.old slot None }
     {
-        let free = ArenaCell::Free { next: self.free };
-        match mem::replace(self.cells.get_mut(slot.index()), free) {
-            ArenaCell::Live { value, next: _ } => {
-                self.free = Some(slot);
-                self.live -= 1;
-                value
-            }
-            ArenaCell::Free { .. } => unreachable!(),
-        }
+        let value = self.values.take(slot.index());
+        self.states[slot.index()] = CellState::Free { next: self.free };
+        self.free = Some(slot);
+        self.live -= 1;
+        value
     }
 
     /// The value in a live cell.
@@ -142,10 +134,7 @@ impl<T> Arena<T> {
         requires { IsLive self.now slot }
         ensures { entry self.now slot ≡ Some (result.now, next_beside self.now slot) }
     {
-        match self.cells.get(slot.index()) {
-            ArenaCell::Live { value, next: _ } => value,
-            ArenaCell::Free { .. } => unreachable!(),
-        }
+        self.values.get(slot.index())
     }
 
     /// The slot beside the value in a live cell.
@@ -153,10 +142,7 @@ impl<T> Arena<T> {
         requires { IsLive self.now slot }
         ensures { result ≡ next_beside self.now slot }
     {
-        match self.cells.get(slot.index()) {
-            ArenaCell::Live { value: _, next } => *next,
-            ArenaCell::Free { .. } => unreachable!(),
-        }
+        self.states[slot.index()].next()
     }
 
     /// The value in a live cell, for writing. The slot beside it stays, and no other cell changes.
@@ -165,29 +151,42 @@ impl<T> Arena<T> {
         ensures* writes_back { sem 𝓛 (lends_value T.row self.entry slot result) }
         ensures value { entry self.old slot ≡ Some (result.now, next_beside self.old slot) }
     {
-        self.cells.get_mut(slot.index()).value_mut()
+        self.values.get_mut(slot.index())
     }
 
     /// Writes the slot beside the value in a live cell. The value stays, and no other cell changes.
-    pub fn set_next(&mut self, slot: Slot, next: Option<Slot>)
+    pub fn set_next(&mut self, slot: Slot, after: Option<Slot>)
         requires { IsLive self.old slot }
-        ensures { self.new ≡ slice_set self.old slot (with_next (entry self.old slot) next) }
+        ensures { self.new ≡ slice_set self.old slot (with_next (entry self.old slot) after) }
     {
-        self.cells.get_mut(slot.index()).set_next(next);
+        self.states[slot.index()] = CellState::Live { next: after };
     }
 }
 
 impl<T: Drop> Drop for Arena<T> {
     fn drop(self) {
         let Arena {
-            mut cells,
-            used,
+            mut values,
+            states,
             live: _,
             free: _,
         } = self;
-        for index in 0..used {
-            drop(cells.take(index as usize));
+        for index in 0..states.len() {
+            if states[index].is_live() {
+                drop(values.take(index));
+            }
         }
-        cells.free();
+        values.free();
+    }
+}
+
+// The cell that the next value comes into: the one that was freed last, or else the one behind those that were ever used.
+fn first_free(free: Option<Slot>, used: u32, cap: u32) -> Option<Slot>
+    ensures freed { IsSome free → result ≡ free }
+    ensures unused { IsNone free → result ≡ (if nat_lt used cap then Some used else None) }
+{
+    match free {
+        Some(slot) => Some(slot),
+        None => slot_within(used, cap),
     }
 }

@@ -1,12 +1,12 @@
 //! An arena for versions: values in the cells of one block of memory, each beside the slot of another value.
 //!
-//! From the top down: `arena` threads the freed cells through the block, `cell` is what a place holds, `block` is one
-//! block with its allocator, and `places` alone has a raw pointer.
+//! From the top down: `arena` has the values of the live cells, and threads the freed ones through the list of the cells' states, `cell_state`;
+//! `block` is one block with its allocator, and `raw_cells` alone has a raw pointer.
 #![tactic(auto)]
 
 mod arena;
-mod arena_cell;
 mod block;
+mod cell_state;
 mod raw_cells;
 mod slot;
 

@@ -57,10 +57,10 @@ impl Bound {
 /// itself.
 #[derive(Clone, Copy, PartialEq, Eq)]
 pub struct Node {
+    /// The version. It stands first, so that where a node is written its record is copied once.
+    pub version: Version,
     /// The number of the tenant.
     pub tenant: u32,
     /// The number of the chain, among those of the tenant.
     pub chain: u32,
-    /// The version.
-    pub version: Version,
 }
