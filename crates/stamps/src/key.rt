@@ -1,7 +1,8 @@
 //! Keys.
-ghost use Rattle.std.specs.Prelude.{◌≡◌, ◌↔◌, IsSome, IfSome, ◌<◌, ◌≤◌, length, take};
+ghost use Rattle.std.specs.Prelude.{◌≡◌, ◌↔◌, ◌-◌, IsSome, IfSome, ◌<◌, ◌≤◌, length, take, drop, replicate};
 ghost use Rattle.stamps.specs.Bounds.{IsParts};
 ghost use Rattle.stamps.specs.Key.{IsKey, home_of};
+ghost use Rattle.stamps.specs.Limits.{max_key_len};
 
 use crate::limits;
 use crate::text::{self, Text};
@@ -49,6 +50,8 @@ impl Key {
     /// Its bytes, and zeros behind them: 32 bytes in all.
     pub fn padded(&self) -> &[u8; Key::MAX_LEN]
         ensures bytes { take (length self.now) result.now ≡ self.now }
+        ensures zeros { drop (length self.now) result.now ≡ replicate (max_key_len - length self.now) 0 }
+        ensures fits { length result.now ≤ 32 }
     {
         self.text.padded()
     }
@@ -88,7 +91,8 @@ pub fn home(key: &Key, parts: u32) -> u32
     ensures partition { result ≡ home_of key.now parts }
     ensures in_range { result < parts }
 {
-    key.as_bytes()
+    // All bytes of the array, whose number is known where this is compiled: those behind the key are zero.
+    key.padded()
         .iter()
         .map(|&byte| u32::from(byte))
         .sum::<u32>()

@@ -1,5 +1,5 @@
 //! A short byte string that lies in the value itself.
-ghost use Rattle.std.specs.Prelude.{◌≡◌, ◌<◌, ◌≤◌, length, take, nat_eq, refl, Some};
+ghost use Rattle.std.specs.Prelude.{◌≡◌, ◌-◌, ◌<◌, ◌≤◌, length, take, drop, replicate, nat_eq, refl, Some};
 ghost use Rattle.std.specs.List.{list_all};
 ghost use Rattle.std.specs.Ordering.{nat_cmp};
 ghost use Rattle.std.specs.Cmp.{partial_equiv_from_equiv};
@@ -54,6 +54,7 @@ impl<const N: usize> Text<N> {
     /// The whole array: the bytes of the text, and zeros behind them.
     pub(crate) fn padded(&self) -> &[u8; N]
         ensures bytes { take (length self.now) result.now ≡ self.now }
+        ensures zeros { drop (length self.now) result.now ≡ replicate (N - length self.now) 0 }
         ensures whole { length result.now ≡ N }
     {
         &self.bytes
