@@ -1,5 +1,5 @@
 //! Bytes that are put one behind the other.
-ghost use Rattle.std.specs.Prelude.{◌≡◌, ℕ, ◌+◌, ◌<◌, ◌≤◌, ◌++◌, ◌∷◌, [], length, take, OnOk, vec_len, vec_capacity};
+ghost use Rattle.std.specs.Prelude.{◌≡◌, ℕ, ◌+◌, ◌-◌, ◌<◌, ◌≤◌, ◌++◌, ◌∷◌, [], length, take, OnOk, vec_len, vec_capacity};
 
 use crate::laying::{lay, lay_text};
 use std::alloc::{AllocError, Global};
@@ -51,6 +51,13 @@ impl Buffer {
         ensures within { length self.now.items ≤ self.now.capacity }
     {
         self.len
+    }
+
+    /// How many more bytes there may be before memory is asked for.
+    pub fn room(&self) -> usize
+        ensures { result ≡ self.now.capacity - length self.now.items }
+    {
+        self.bytes.capacity() - self.len
     }
 
     /// The bytes in order.

@@ -69,6 +69,13 @@ impl PackedList {
         piece(self.bytes.as_slice(), self.ends.as_slice(), at)
     }
 
+    /// Whether there is room for so many entries, of so many bytes in all.
+    pub fn has_room(&self, places: usize, bytes: usize) -> bool
+        ensures { IsTrue result → (places ≤ self.now.places) × (bytes ≤ self.now.bytes) }
+    {
+        places <= self.ends.capacity() - self.ends.len() && bytes <= self.bytes.room()
+    }
+
     /// Makes room for so many entries, of so many bytes in all. At `Err` the entries are as they were.
     pub fn reserve(&mut self, places: usize, bytes: usize) -> Result<(), AllocError>
         ensures items { self.new.items ≡ self.old.items }

@@ -159,6 +159,9 @@ impl EventList {
         ensures room { OnOk result (IsTrue self.new.has_room) }
     {
         self.scratch.clear();
+        if self.list.has_room(1, MAX_EVENT_BYTES) && self.scratch.room() >= MAX_EVENT_BYTES {
+            return Ok(());
+        }
         self.scratch.reserve(MAX_EVENT_BYTES)?;
         self.list.reserve(1, MAX_EVENT_BYTES)?;
         Ok(())
