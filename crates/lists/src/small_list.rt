@@ -1,5 +1,5 @@
 //! The list.
-ghost use Rattle.std.specs.Prelude.{◌≡◌, ◌+◌, ◌<◌, ◌≤◌, [], ◌∷◌, ◌++◌, length, slice_set};
+ghost use Rattle.std.specs.Prelude.{◌≡◌, ◌+◌, ◌<◌, ◌≤◌, [], ◌∷◌, ◌++◌, length, slice_set, take};
 ghost use Rattle.std.specs.Fn.{FnOnceReturnsAtMut};
 
 use std::fmt;
@@ -43,13 +43,13 @@ impl<T, const N: usize> SmallList<T, N> {
         &self.items[..self.len]
     }
 
-    /// Lends the elements in order to the closure, which may write over them in place.
-    pub fn change<F: FnOnce(&mut [T])>(&mut self, f: F)
+    /// Lends the elements in order to the closure, which may write over them in place, and hands on what it returns.
+    pub fn change<R, F: FnOnce(&mut [T]) -> R>(&mut self, f: F) -> R
         requires { F.IsAlwaysCallable f }
-        ensures changed { FnOnceReturnsAtMut F.FnOnce f self.old tt self.new }
+        ensures changed { FnOnceReturnsAtMut F.FnOnce f self.old result self.new }
         ensures len { length self.new ≡ length self.old }
     {
-        f(&mut self.items[..self.len]);
+        f(&mut self.items[..self.len])
     }
 
     /// Writes over the element at an index.
@@ -83,6 +83,13 @@ impl<T, const N: usize> SmallList<T, N> {
         for value in values {
             self.push(*value);
         }
+    }
+
+    /// Keeps the first so many elements, and takes the others out.
+    pub fn truncate(&mut self, count: usize)
+        ensures { self.new ≡ take count self.old }
+    {
+        self.len = self.len.min(count);
     }
 
     /// Takes all elements out.

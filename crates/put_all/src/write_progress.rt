@@ -34,11 +34,14 @@ impl ItemProgress {
         }
     }
 
-    /// Takes that this key was answered Prepared.
-    fn take_prepared(&mut self, key: &Key)
-        ensures { self.new ≡ with_prepared key.now self.old }
+    /// Takes that this key was answered Prepared, and says whether that was awaited.
+    fn take_prepared(&mut self, key: &Key) -> bool
+        ensures place { self.new ≡ with_prepared key.now self.old }
+        ensures awaited { result ≡ awaits_prepared key.now self.old }
     {
-        self.is_prepared = self.is_prepared || self.key == *key;
+        let awaits = self.awaits_prepared(key);
+        self.is_prepared |= awaits;
+        awaits
     }
 
     /// Takes that the COMMIT at this partition was answered.
@@ -62,6 +65,15 @@ impl ItemProgress {
     {
         self.home == partition && !self.is_committed
     }
+}
+
+/// What a Prepared did to the items of a write.
+#[derive(Clone, Copy)]
+pub(crate) struct Marked {
+    /// An item waited for it.
+    pub(crate) was_awaited: bool,
+    /// Each item is prepared now.
+    pub(crate) are_prepared: bool,
 }
 
 /// The items of a write in the order given, up to 16.
@@ -161,11 +173,13 @@ impl WriteProgress {
         self.as_slice().iter().all(|place| place.is_committed)
     }
 
-    /// Takes the Prepared of this key.
-    pub(crate) fn mark_prepared(&mut self, key: &Key)
-        ensures { self.new ≡ map (with_prepared key.now) self.old }
+    /// Takes the Prepared of this key. Where no item of it waits for that, they stay as they were.
+    pub(crate) fn mark_prepared(&mut self, key: &Key) -> Marked
+        ensures places { self.new ≡ map (with_prepared key.now) self.old }
+        ensures awaited { result.was_awaited ≡ list_any (awaits_prepared key.now) self.old }
+        ensures all { result.are_prepared ≡ list_all (λ place. place.is_prepared) self.new }
     {
-        self.0.change(|places| take_prepared(places, key));
+        self.0.change(|places| take_prepared(places, key))
     }
 
     /// Takes the answered COMMIT of this partition.
@@ -176,13 +190,22 @@ impl WriteProgress {
     }
 }
 
-/// Has each place take that the key was answered Prepared.
-fn take_prepared(places: &mut [ItemProgress], key: &Key)
-    ensures { places.new ≡ map (with_prepared key.now) places.old }
+/// Has each place take that the key was answered Prepared. It looks through them once.
+fn take_prepared(places: &mut [ItemProgress], key: &Key) -> Marked
+    ensures places { places.new ≡ map (with_prepared key.now) places.old }
+    ensures awaited { result.was_awaited ≡ list_any (awaits_prepared key.now) places.old }
+    ensures all { result.are_prepared ≡ list_all (λ place. place.is_prepared) places.new }
 {
+    let mut marked = Marked {
+        was_awaited: false,
+        are_prepared: true,
+    };
     for place in places.iter_mut() {
-        place.take_prepared(key);
+        let awaits = place.take_prepared(key);
+        marked.was_awaited |= awaits;
+        marked.are_prepared &= place.is_prepared;
     }
+    marked
 }
 
 /// Has each place take that the COMMIT at the partition was answered.
