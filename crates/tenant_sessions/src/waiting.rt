@@ -5,7 +5,7 @@ ghost use Rattle.stamps.specs.Bounds.{IsParts};
 ghost use Rattle.stamps.specs.Key.{IsTransactionKeys, sorted_keys};
 ghost use Rattle.plain_store.specs.Finding.{below};
 ghost use Rattle.plain_store.specs.Writing.{keys_written, record_for};
-ghost use Rattle.tenant_sessions.specs.Parts.{Prepares, Commits, First, Second, Founds, batch_calls};
+ghost use Rattle.tenant_sessions.specs.Parts.{Prepares, Commits, First, Second, Founds, batch_calls, is_answered_at};
 
 use crate::call_batch::CallBatch;
 use get_all::LateKeys;
@@ -63,18 +63,12 @@ impl PendingSet {
         self.0.push(place);
     }
 
-    /// The places but for that of the call whose place the message's reply takes.
-    fn without_answered(&self, part: &CallBatch, parts: u32, message: &Message) -> PendingSet
+    /// Keeps the places but for that of the call whose place the message's reply takes.
+    fn forget_answered(&mut self, part: &CallBatch, parts: u32, message: &Message)
         requires { IsParts parts }
-        ensures { result ≡ filter (λ place. not (is_answered_at (batch_calls parts part.now) message.now place)) self.now }
+        ensures { self.new ≡ filter (λ place. not (is_answered_at (batch_calls parts part.now) message.now place)) self.old }
     {
-        let mut left = PendingSet::none();
-        for place in self.as_slice() {
-            if !part.is_answered_at(parts, usize::from(*place), message) {
-                left.push(*place);
-            }
-        }
-        left
+        keep_unanswered(&mut self.0, part, parts, message);
     }
 
     fn as_slice(&self) -> &[u8]
@@ -83,6 +77,27 @@ impl PendingSet {
     {
         self.0.as_slice()
     }
+}
+
+/// Keeps of these places those of calls whose place the message's reply does not take. Each is moved forward where it lies.
+fn keep_unanswered(
+    places: &mut SmallList<u8, { PendingSet::MAX_LEN }>,
+    part: &CallBatch,
+    parts: u32,
+    message: &Message,
+)
+    requires { IsParts parts }
+    ensures { places.new ≡ filter (λ place. not (is_answered_at (batch_calls parts part.now) message.now place)) places.old }
+{
+    let mut kept = 0;
+    for at in 0..places.as_slice().len() {
+        let place = places.as_slice()[at];
+        if !part.is_answered_at(parts, usize::from(place), message) {
+            places.set(kept, place);
+            kept += 1;
+        }
+    }
+    places.truncate(kept);
 }
 
 /// Makes of them the places of all calls of this part, in a store of so many partitions; of more than 64 the first.
@@ -215,8 +230,6 @@ impl Waiting {
     pub(crate) fn forget(&mut self, message: &Message)
         ensures { self.new ≡ filter (λ out. not (is_replaced_by message.now out)) self.old }
     {
-        self.places = self
-            .places
-            .without_answered(&self.part, self.parts, message);
+        self.places.forget_answered(&self.part, self.parts, message);
     }
 }

@@ -10,7 +10,7 @@ invariant_of-self c =
     let w = c.self.inside in
     let calls = batch_calls w.parts w.part in (
       c.self.invariant.0,
-      ap (list_all (λ place. nat_lt place (length calls))) c.without_answered-self-inside.ensures
+      ap (list_all (λ place. nat_lt place (length calls))) c.forget_answered.ensures
           ∙ still_all (λ place. nat_lt place (length calls)) (λ place. not (is_answered_at calls c.args.message.now place)) w.places c.self.invariant.1,
     )
 
@@ -18,5 +18,5 @@ pub returns : goal.returns
 returns c =
     let w = c.self.inside in
     let calls = batch_calls w.parts w.part in
-    ap (filter_map (slice_get calls)) c.without_answered-self-inside.ensures ∙ forgotten (slice_get calls) (is_replaced_by c.args.message.now) w.places
+    ap (filter_map (slice_get calls)) c.forget_answered.ensures ∙ forgotten (slice_get calls) (is_replaced_by c.args.message.now) w.places
     ∙ ap (filter (λ out. not (is_replaced_by c.args.message.now out))) c.self.view_is
