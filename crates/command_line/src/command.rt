@@ -187,7 +187,8 @@ const OF_PACE: [NumberOption; 3] = [QUEUE, EVERY, EPOCH];
 // The options of a store.
 fn with_store<'a>(alloc: Global, command: Command<'a>) -> Result<Command<'a>, AllocError>
     requires { (fields_of command).has_globals ≡ false }
-    ensures words { IfOk result (λ made. app_of made ≡ with_rules (app_of command.entry) store_rules) }
+    ensures words { IfOk result (λ made. app_of made
+        ≡ with_rules (app_of command.entry) store_rules) }
     ensures local { IfOk result (λ made. (fields_of made).has_globals ≡ false) }
 {
     with_numbers(alloc, command, &OF_STORE)
@@ -196,7 +197,8 @@ fn with_store<'a>(alloc: Global, command: Command<'a>) -> Result<Command<'a>, Al
 // The options of what the seats of a load do.
 fn with_mix<'a>(alloc: Global, command: Command<'a>) -> Result<Command<'a>, AllocError>
     requires { (fields_of command).has_globals ≡ false }
-    ensures words { IfOk result (λ made. app_of made ≡ with_rules (app_of command.entry) mix_rules) }
+    ensures words { IfOk result (λ made. app_of made
+        ≡ with_rules (app_of command.entry) mix_rules) }
     ensures local { IfOk result (λ made. (fields_of made).has_globals ≡ false) }
 {
     with_numbers(alloc, command, &OF_MIX)
@@ -205,7 +207,8 @@ fn with_mix<'a>(alloc: Global, command: Command<'a>) -> Result<Command<'a>, Allo
 // The options of how a running store is paced.
 fn with_pace<'a>(alloc: Global, command: Command<'a>) -> Result<Command<'a>, AllocError>
     requires { (fields_of command).has_globals ≡ false }
-    ensures words { IfOk result (λ made. app_of made ≡ with_rules (app_of command.entry) pace_rules) }
+    ensures words { IfOk result (λ made. app_of made
+        ≡ with_rules (app_of command.entry) pace_rules) }
     ensures local { IfOk result (λ made. (fields_of made).has_globals ≡ false) }
 {
     with_numbers(alloc, command, &OF_PACE)
@@ -218,7 +221,8 @@ fn with_numbers<'a>(
     options: &[NumberOption],
 ) -> Result<Command<'a>, AllocError>
     requires { (fields_of command).has_globals ≡ false }
-    ensures words { IfOk result (λ made. app_of made ≡ with_rules (app_of command.entry) (rules_of options.now)) }
+    ensures words { IfOk result (λ made. app_of made
+        ≡ with_rules (app_of command.entry) (rules_of options.now)) }
     ensures local { IfOk result (λ made. (fields_of made).has_globals ≡ false) }
 {
     let mut made = command;
@@ -230,7 +234,9 @@ fn with_numbers<'a>(
 
 // An option that takes a number.
 fn number<'a>(alloc: Global, option: &NumberOption) -> Arg<'a>
-    ensures rule { rule_of result ≡ ranged_rule option.now.name.now option.now.default.now (pos option.now.least) (pos option.now.most) }
+    ensures rule { rule_of result
+        ≡ ranged_rule option.now.name.now option.now.default.now (pos option.now.least)
+        (pos option.now.most) }
     ensures local { result.global ≡ false }
 {
     Arg::new(alloc, option.name)

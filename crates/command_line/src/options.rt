@@ -270,7 +270,9 @@ fn read_load(alloc: Global, load: &ArgMatches<'_>) -> Result<Asked, ProgramFault
 }
 
 fn read_store(alloc: Global, sim: &ArgMatches<'_>) -> Result<StoreOptions, ProgramFault>
-    ensures store { IfOk result (λ store. GivesStore (rows_of (found_of sim.now)) store.parts store.limits store.names.items) }
+    ensures store { IfOk result
+        (λ store.
+        GivesStore (rows_of (found_of sim.now)) store.parts store.limits store.names.items) }
     ensures error { IfErr result (IsWordsFault (GivesNoStore (rows_of (found_of sim.now)))) }
 {
     let Some(parts) = read_parts(sim) else {
@@ -352,8 +354,12 @@ fn read_port(serve: &ArgMatches<'_>) -> Option<u16>
 
 // The number of an option, from its least to its most.
 fn read_within(matches: &ArgMatches<'_>, option: &NumberOption) -> Option<u32>
-    ensures number { IfSome result (IsNumberWithin option.now.least option.now.most option.now.name.now (rows_of (found_of matches.now))) }
-    ensures none { IfNone result (HasNoNumberWithin option.now.least option.now.most option.now.name.now (rows_of (found_of matches.now))) }
+    ensures number { IfSome result
+        (IsNumberWithin option.now.least option.now.most option.now.name.now
+        (rows_of (found_of matches.now))) }
+    ensures none { IfNone result
+        (HasNoNumberWithin option.now.least option.now.most option.now.name.now
+        (rows_of (found_of matches.now))) }
 {
     let number = read_number(matches, option.name)?;
     if number < option.least || number > option.most {
@@ -411,9 +417,11 @@ fn read_flag(matches: &ArgMatches<'_>, name: &str) -> Option<bool>
 
 // The names that the words are, if they are those of 1 to 64 tenants.
 fn read_names(alloc: Global, words: &[&str]) -> Result<Option<Vec<Name>>, AllocError>
-    ensures names { IfOk result (λ names. IfSome names (λ list. list.items ≡ map (λ word. word.now) words.now)) }
+    ensures names { IfOk result
+        (λ names. IfSome names (λ list. list.items ≡ map (λ word. word.now) words.now)) }
     ensures tenants { IfOk result (λ names. IfSome names (λ list. AreTenants list.items)) }
-    ensures none { IfOk result (λ names. IfNone names (AreTenants (map (λ word. word.now) words.now) → ⊥)) }
+    ensures none { IfOk result
+        (λ names. IfNone names (AreTenants (map (λ word. word.now) words.now) → ⊥)) }
 {
     if words.is_empty() || words.len() > MAX_TENANTS {
         return Ok(None);
@@ -430,7 +438,8 @@ fn read_names(alloc: Global, words: &[&str]) -> Result<Option<Vec<Name>>, AllocE
 
 // The name that the word is, unless it is one of these.
 fn read_new_name(word: &str, names: &[Name]) -> Option<Name>
-    ensures name { IfSome result (λ name. (name ≡ word.now) × IsName word.now × All (λ known. known ≢ word.now) names.now) }
+    ensures name { IfSome result (λ name. (name ≡ word.now) × IsName word.now
+        × All (λ known. known ≢ word.now) names.now) }
     ensures none { IfNone result ((IsName word.now → ⊥) ⊎ Contains names.now word.now) }
 {
     let name = Name::read(word.as_bytes())?;

@@ -40,7 +40,9 @@ pub fn read_words(alloc: Global, words: &[String]) -> Result<Asked, ProgramFault
 // Help is an answer, and so is the version, and any other text of clap's is not.
 fn text_of(alloc: Global, error: &clap::Error) -> Result<String, ProgramFault>
     ensures asked { OnOk result (IsText (kind_of error.now)) }
-    ensures error { IfErr result (IsWordsFault ((kind_of error.now ≢ ErrorKind.OutOfMemory) × (IsText (kind_of error.now) → ⊥))) }
+    ensures error { IfErr result
+        (IsWordsFault ((kind_of error.now ≢ ErrorKind.OutOfMemory)
+        × (IsText (kind_of error.now) → ⊥))) }
     // Words that ask for no text, and that clap had the memory to read, are not an allocation failure.
     ensures memory { IfErr result (λ fault. fault ≡ ProgramFault.OutOfMemory
         → (kind_of error.now ≡ ErrorKind.OutOfMemory) ⊎ IsText (kind_of error.now)) }

@@ -58,8 +58,12 @@ pub fn run_cell<R: Read, W: Write>(
     reader: &mut R,
     writer: &mut W,
 ) -> Result<End, RunFault>
-    ensures served { IfOk result (ServesCell slots items clients (R.remaining reader.old) (W.contents writer.old) (W.contents writer.new)) }
-    ensures failed { IfErr result (FailsSo (answers_of_cell slots items clients) (R.remaining reader.old) (R.remaining reader.new)
+    ensures served { IfOk result
+        (ServesCell slots items clients (R.remaining reader.old) (W.contents writer.old)
+        (W.contents writer.new)) }
+    ensures failed { IfErr result
+        (FailsSo (answers_of_cell slots items clients) (R.remaining reader.old)
+        (R.remaining reader.new)
         (W.contents writer.old) (W.contents writer.new)) }
 {
     let cell = LoneCell::open(alloc, slots, items, clients)?;

@@ -40,11 +40,13 @@ pub fn run_lines<S: LineService, R: Read, W: Write>(
         (written : List ℕ) × Answers S.replies service.old input written end
         × Appends (W.contents writer.old) (W.contents writer.new) (written ++ text_at_end end))) }
     // At a fault a prefix of the lines is answered: all that were read, where it was no write and no allocation failure.
-    ensures failed { IfErr result (FailsSo (S.replies service.old) (R.remaining reader.old) (R.remaining reader.new)
+    ensures failed { IfErr result
+        (FailsSo (S.replies service.old) (R.remaining reader.old) (R.remaining reader.new)
         (W.contents writer.old) (W.contents writer.new)) }
     // Where an allocation failed, the service stands behind the lines that are answered.
     ensures memory { IfErr result (λ fault. fault ≡ OutOfMemory
-        → StopsAt S.replies service.old service.new (R.remaining reader.old) (W.contents writer.old) (W.contents writer.new)) }
+        → StopsAt S.replies service.old service.new (R.remaining reader.old) (W.contents writer.old)
+        (W.contents writer.new)) }
 {
     let mut lines = Lines::open(alloc)?;
     let mut out = BytesMut::with_capacity(alloc, GATHERED)?;
@@ -75,10 +77,12 @@ fn answer_all<S: LineService, R: Read, W: Write>(
     ensures answered { IfOk result (λ end. IfSome (R.remaining reader.old) (λ input.
         (written : List ℕ) × Answers S.replies service.old input written end
         × Appends (W.contents writer.old) (W.contents writer.new) (written ++ text_at_end end))) }
-    ensures failed { IfErr result (FailsSo (S.replies service.old) (R.remaining reader.old) (R.remaining reader.new)
+    ensures failed { IfErr result
+        (FailsSo (S.replies service.old) (R.remaining reader.old) (R.remaining reader.new)
         (W.contents writer.old) (W.contents writer.new)) }
     ensures memory { IfErr result (λ fault. fault ≡ OutOfMemory
-        → StopsAt S.replies service.old service.new (R.remaining reader.old) (W.contents writer.old) (W.contents writer.new)) }
+        → StopsAt S.replies service.old service.new (R.remaining reader.old) (W.contents writer.old)
+        (W.contents writer.new)) }
 {
     for _reads in 0..READ_LIMIT {
         let Ok(taken) = reader.read(piece) else {
@@ -120,9 +124,13 @@ fn answer_piece<S: LineService, W: Write>(
     ensures waits { OnOk result (HasNoLineFeed lines.new) }
     ensures answered { IfOk result (λ more. (text : List ℕ)
         × Gathers (W.contents writer.old) (W.contents writer.new) out.old.items out.new.items text
-        × MatchBool more (AnswersFront S.replies service.old service.new (lines.old ++ piece.now) lines.new text)
-        ((rest : List ℕ) → Continues S.replies service.old service.new (lines.old ++ piece.now ++ rest) lines.new text)) }
-    ensures fault { IfErr result (LeavesOff S.replies service.old service.new (lines.old ++ piece.now)
+        × MatchBool more
+        (AnswersFront S.replies service.old service.new (lines.old ++ piece.now) lines.new text)
+        ((rest : List ℕ)
+        → Continues S.replies service.old service.new (lines.old ++ piece.now
+        ++ rest) lines.new text)) }
+    ensures fault { IfErr result
+        (LeavesOff S.replies service.old service.new (lines.old ++ piece.now)
         (W.contents writer.old) (W.contents writer.new) out.old.items out.new.items) }
 {
     let mut rest = piece;
@@ -164,12 +172,14 @@ fn answer_waiting<S: LineService, W: Write>(
 
 /// Writes what is gathered. None of it is left, also where a write failed.
 pub fn flush<W: Write>(out: &mut BytesMut, writer: &mut W) -> Result<(), RunFault>
-    ensures written { OnOk result (Appends (W.contents writer.old) (W.contents writer.new) out.old.items) }
+    ensures written { OnOk result
+        (Appends (W.contents writer.old) (W.contents writer.new) out.old.items) }
     ensures empty { out.new.items ≡ [] }
     ensures room { length out.old.items + out.old.spare ≤ out.new.spare }
     ensures error { IfErr result (λ fault. fault ≡ WriteFault) }
     // At a fault a beginning was written.
-    ensures begun { IfErr result (λ _. (n : ℕ) × Appends (W.contents writer.old) (W.contents writer.new) (take n out.old.items)) }
+    ensures begun { IfErr result (λ _. (n : ℕ)
+        × Appends (W.contents writer.old) (W.contents writer.new) (take n out.old.items)) }
 {
     let written = write_text(writer, out.as_slice());
     out.clear();
@@ -181,9 +191,13 @@ fn finish<W: Write>(lines: &Lines, out: &mut BytesMut, writer: &mut W) -> Result
     requires ready { LINE_LIMIT ≤ out.old.spare }
     requires waits { HasNoLineFeed lines.now }
     ensures end { IfOk result (λ end. end_of lines.now ≡ end) }
-    ensures written { IfOk result (λ end. Appends (W.contents writer.old) (W.contents writer.new) (out.old.items ++ text_at_end end)) }
+    ensures written { IfOk result
+        (λ end.
+        Appends (W.contents writer.old) (W.contents writer.new) (out.old.items
+        ++ text_at_end end)) }
     ensures error { IfErr result (λ fault. fault ≡ WriteFault) }
-    ensures begun { IfErr result (λ _. (n : ℕ) × Appends (W.contents writer.old) (W.contents writer.new)
+    ensures begun { IfErr result (λ _. (n : ℕ)
+        × Appends (W.contents writer.old) (W.contents writer.new)
         (take n (out.old.items ++ text_at_end (end_of lines.now)))) }
 {
     let end = end_of(lines);

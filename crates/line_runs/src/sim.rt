@@ -55,7 +55,8 @@ fn answer_step(
     out: &mut BytesMut,
 ) -> Result<(), OutOfMemory>
     requires { LINE_LIMIT ≤ out.old.spare }
-    ensures ok { OnOk result (AnswersStep world.old world.new step.now out.old.items out.new.items) }
+    ensures ok { OnOk result
+        (AnswersStep world.old world.new step.now out.old.items out.new.items) }
     ensures err { OnErr result (out.new.items ≡ out.old.items) }
     ensures stays { OnErr result (HasHistoryOf world.old world.new) }
     ensures room { length out.old.items + out.old.spare ≤ length out.new.items + out.new.spare }
@@ -83,7 +84,8 @@ pub fn put_answer(answer: &Answer, out: &mut BytesMut)
 // Appends the line of a refusal, for which there is room. An allocation failure has none.
 fn answer_refusal(refusal: Refusal, out: &mut BytesMut) -> Result<(), OutOfMemory>
     requires { LINE_LIMIT ≤ out.old.spare }
-    ensures ok { OnOk result (out.new.items ≡ out.old.items ++ terminated (refused_text (number_of refusal))) }
+    ensures ok { OnOk result (out.new.items
+        ≡ out.old.items ++ terminated (refused_text (number_of refusal))) }
     ensures memory { OnOk result (refusal ≢ NoMemory) }
     ensures err { OnErr result (out.new.items ≡ out.old.items) }
     ensures room { length out.old.items + out.old.spare ≤ length out.new.items + out.new.spare }
@@ -120,8 +122,12 @@ pub fn run_sim<R: Read, W: Write>(
     writer: &mut W,
 ) -> Result<End, RunFault>
     requires { IsParts parts }
-    ensures served { IfOk result (ServesSim parts limits.now names.now (R.remaining reader.old) (W.contents writer.old) (W.contents writer.new)) }
-    ensures failed { IfErr result (FailsSo (answers_of_store parts limits.now names.now) (R.remaining reader.old) (R.remaining reader.new)
+    ensures served { IfOk result
+        (ServesSim parts limits.now names.now (R.remaining reader.old) (W.contents writer.old)
+        (W.contents writer.new)) }
+    ensures failed { IfErr result
+        (FailsSo (answers_of_store parts limits.now names.now) (R.remaining reader.old)
+        (R.remaining reader.new)
         (W.contents writer.old) (W.contents writer.new)) }
 {
     let world = World::open(alloc, parts, limits)?;

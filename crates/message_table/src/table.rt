@@ -84,7 +84,8 @@ impl Table {
     /// It fails where an allocation failed, and then nothing has changed.
     pub fn reserve(&mut self, n: u32) -> Result<(), OutOfMemory>
         requires { self.old.sent + n ≤ max_rows }
-        ensures ok { OnOk result (self.new ≡ record self.old { reserved = max self.old.reserved n }) }
+        ensures ok { OnOk result (self.new
+            ≡ record self.old { reserved = max self.old.reserved n }) }
         ensures err { OnErr result (self.new ≡ self.old) }
         ensures succeeds { n ≤ self.old.reserved → IsOk result }
         ensures stands { (messages : List Sent) (lost : List ℕ) → StandsFor self.old messages lost
@@ -130,7 +131,8 @@ impl Table {
         ensures value { option_copied result ≡ map.get self.now.live row }
         ensures sent { (messages : List Sent) (lost : List ℕ) → StandsFor self.now messages lost
             → option_copied result ≡ message_in messages lost row }
-        ensures in_history { (history : History) → StandsFor self.now (messages history) (lost_rows history)
+        ensures in_history { (history : History)
+            → StandsFor self.now (messages history) (lost_rows history)
             → option_copied result ≡ message_at history row }
     {
         self.rows.get(&row)

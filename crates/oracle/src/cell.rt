@@ -18,7 +18,8 @@ pub fn cell_replies(
     clients: u32,
     calls: &[Call],
 ) -> Result<Vec<Reply>, AllocError>
-    ensures { IfOk result (λ replies. replies.items ≡ cell_replies (record { slots = slots; items = items; clients = clients }) calls.now) }
+    ensures { IfOk result (λ replies. replies.items
+        ≡ cell_replies (record { slots = slots; items = items; clients = clients }) calls.now) }
 {
     let room = Room {
         slots,

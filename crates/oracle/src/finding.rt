@@ -65,7 +65,8 @@ fn says_found(partition: u32, message: &Message) -> bool
 
 /// Whether one of the replies reports what the partition found.
 fn is_told(replies: &[Message], partition: u32) -> bool
-    ensures { result ≡ list_any (λ (m : Told). says_found partition m.partition m.reply) replies.now }
+    ensures { result
+        ≡ list_any (λ (m : Told). says_found partition m.partition m.reply) replies.now }
 {
     match replies {
         [] => false,
@@ -75,7 +76,11 @@ fn is_told(replies: &[Message], partition: u32) -> bool
 
 /// Whether the replies tell what each of these partitions found.
 fn all_told(replies: &[Message], partitions: &[u32]) -> bool
-    ensures { result ≡ list_all (λ partition. list_any (λ (m : Told). says_found partition m.partition m.reply) replies.now) partitions.now }
+    ensures { result
+        ≡ list_all
+        (λ partition.
+        list_any
+        (λ (m : Told). says_found partition m.partition m.reply) replies.now) partitions.now }
 {
     match partitions {
         [] => true,
@@ -106,7 +111,8 @@ pub(super) fn total_found(replies: &[Message]) -> u64
 
 /// The keys that the messages tell, one after another.
 fn keys_in(alloc: Global, replies: &[Message]) -> Result<Vec<Key>, AllocError>
-    ensures { IfOk result (λ list. list.items ≡ flat_map (λ (m : Told). keys_found m.reply) replies.now) }
+    ensures { IfOk result (λ list. list.items
+        ≡ flat_map (λ (m : Told). keys_found m.reply) replies.now) }
 {
     match replies {
         [] => Ok(Vec::new(alloc)),

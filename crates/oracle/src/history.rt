@@ -96,8 +96,10 @@ pub(super) enum Intent<'a> {
 
 /// The message at a place among all that were sent, or how many these are.
 fn message_in<'h>(history: &'h [Moment<'_>], place: usize) -> Result<&'h Message, usize>
-    ensures found { IfOk result (λ message. slice_get (messages history.now) place ≡ Some message.now) }
-    ensures missing { IfErr result (λ count. (count ≡ length (messages history.now)) × (count ≤ place)) }
+    ensures found { IfOk result (λ message. slice_get (messages history.now) place
+        ≡ Some message.now) }
+    ensures missing { IfErr result (λ count. (count ≡ length (messages history.now))
+        × (count ≤ place)) }
 {
     match history {
         [] => Err(0),
@@ -161,7 +163,8 @@ fn exchanges_of(
     partition: u32,
     sent: &[Message],
 ) -> Result<Vec<Exchange>, AllocError>
-    ensures { IfOk result (λ list. list.items ≡ filter_map (λ (message : Sent). exchange_of partition message message.reply) sent.now) }
+    ensures { IfOk result (λ list. list.items
+        ≡ filter_map (λ (message : Sent). exchange_of partition message message.reply) sent.now) }
 {
     match sent {
         [] => Ok(Vec::new(alloc)),
@@ -194,7 +197,9 @@ fn exchanges_in(
     partition: u32,
     moment: &Moment<'_>,
 ) -> Result<Vec<Exchange>, AllocError>
-    ensures { IfOk result (λ list. list.items ≡ filter_map (λ (message : Sent). exchange_of partition message message.reply) moment.now.sent) }
+    ensures { IfOk result (λ list. list.items
+        ≡ filter_map
+        (λ (message : Sent). exchange_of partition message message.reply) moment.now.sent) }
 {
     exchanges_of(alloc, partition, &moment.sent)
 }
@@ -206,7 +211,8 @@ fn with_collection(
     moment: &Moment<'_>,
     log: Vec<Exchange>,
 ) -> Result<Vec<Exchange>, AllocError>
-    ensures { IfOk result (λ list. list.items ≡ collection keep partition moment.now.act moment.now.answer ++ log.items) }
+    ensures { IfOk result (λ list. list.items
+        ≡ collection keep partition moment.now.act moment.now.answer ++ log.items) }
 {
     match (moment.act, moment.answer) {
         (Act::Collect(place), Answer::Freed(count)) if *place == partition => {
@@ -228,8 +234,11 @@ fn log_after(
     moment: &Moment<'_>,
     before: Vec<Exchange>,
 ) -> Result<Vec<Exchange>, AllocError>
-    ensures { IfOk result (λ list. list.items ≡ collection keep partition moment.now.act moment.now.answer
-        ++ (filter_map (λ (message : Sent). exchange_of partition message message.reply) moment.now.sent ++ before.items)) }
+    ensures { IfOk result (λ list. list.items
+        ≡ collection keep partition moment.now.act moment.now.answer
+        ++ (filter_map
+        (λ (message : Sent). exchange_of partition message message.reply) moment.now.sent
+        ++ before.items)) }
 {
     let log = lists::join(exchanges_in(alloc, partition, moment)?, &before)?;
     with_collection(keep, partition, moment, log)
@@ -260,7 +269,8 @@ pub(super) fn log_at(
 
 /// The client's session after a step.
 fn session_after(moment: &Moment<'_>, client: Client, before: SessionState) -> SessionState
-    ensures { session_of result ≡ session_after moment.now.act moment.now.answer client (session_of before) }
+    ensures { session_of result
+        ≡ session_after moment.now.act moment.now.answer client (session_of before) }
 {
     match (moment.act, moment.answer) {
         (Act::Hello(opened, _), Answer::Ready(_)) if *opened == client => SessionState::Open,
@@ -306,7 +316,8 @@ pub(super) fn clients_known(history: &[Moment<'_>]) -> usize
 
 /// The client and the request of a transaction that a step began.
 fn begun_by<'a>(moment: &Moment<'a>) -> Option<(Client, Intent<'a>)>
-    ensures value { option_map (λ b. (b.0, plain_request b.1)) result ≡ begun_by moment.now.act moment.now.answer }
+    ensures value { option_map (λ b. (b.0, plain_request b.1)) result
+        ≡ begun_by moment.now.act moment.now.answer }
     ensures whole { IfSome result (λ b. IsWhole (plain_request b.1)) }
 {
     match (moment.act, moment.answer) {

@@ -189,7 +189,9 @@ pub(super) fn is_committed(log: &[Exchange], key: &Key, stamp: Stamp) -> bool
 
 /// Whether the version is a committed one of the item.
 fn is_committed_of(log: &[Exchange], key: &Key, version: &Record) -> bool
-    ensures { result ≡ (bytes_eq version.now.key key.now && is_committed log.now version.now.key version.now.stamp) }
+    ensures { result
+        ≡ (bytes_eq version.now.key key.now
+        && is_committed log.now version.now.key version.now.stamp) }
 {
     version.key == *key && is_committed(log, &version.key, version.stamp)
 }

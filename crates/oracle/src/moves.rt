@@ -41,7 +41,8 @@ fn write_move(
     replies: &[Message],
     message: &Message,
 ) -> Result<Move, AllocError>
-    ensures { IfOk result (λ move. plain_outcome move ≡ write_move setup.now stamp items.now replies.now message.now.call message.now.reply) }
+    ensures { IfOk result (λ move. plain_outcome move
+        ≡ write_move setup.now stamp items.now replies.now message.now.call message.now.reply) }
 {
     match (&message.call, &message.reply) {
         (Call::Prepare(_), Some(Reply::Prepare(PrepareReply::Prepared))) => {
@@ -104,7 +105,8 @@ fn first_move(
     reply: &ReadReply,
 ) -> Result<Move, AllocError>
     requires { length keys.now ≤ max_keys }
-    ensures { IfOk result (λ move. plain_outcome move ≡ first_move setup.now keys.now replies.now (told_move tag.now) key.now reply.now) }
+    ensures { IfOk result (λ move. plain_outcome move
+        ≡ first_move setup.now keys.now replies.now (told_move tag.now) key.now reply.now) }
 {
     if rounds::is_false_first(key, reply) {
         return Ok(Move::Fails(Refusal::Torn, Vec::new(alloc)));
@@ -133,7 +135,8 @@ fn second_move(
     reply: &ReadReply,
 ) -> Result<Move, AllocError>
     requires { length keys.now ≤ max_keys }
-    ensures { IfOk result (λ move. plain_outcome move ≡ second_move keys.now replies.now (told_move tag.now) key.now stamp reply.now) }
+    ensures { IfOk result (λ move. plain_outcome move
+        ≡ second_move keys.now replies.now (told_move tag.now) key.now stamp reply.now) }
 {
     match reply {
         ReadReply::Version(_) => {
@@ -169,7 +172,9 @@ fn read_move(
     message: &Message,
 ) -> Result<Move, AllocError>
     requires { IsFew keys.now message.now.call }
-    ensures { IfOk result (λ move. plain_outcome move ≡ read_move setup.now keys.now replies.now (told_move tag.now) message.now.call message.now.reply) }
+    ensures { IfOk result (λ move. plain_outcome move
+        ≡ read_move setup.now keys.now replies.now
+        (told_move tag.now) message.now.call message.now.reply) }
 {
     match (&message.call, &message.reply) {
         (Call::Get(key, None), Some(Reply::Get(reply))) => first_move(
@@ -184,7 +189,8 @@ fn read_move(
 
 /// What a search does once each partition told what it found: too many, nothing, or the keys to read.
 fn search_move(alloc: Global, setup: &Setup, replies: &[Message]) -> Result<Move, AllocError>
-    ensures { IfOk result (λ move. plain_outcome move ≡ search_move setup.now (total_found replies.now) (all_keys_found replies.now)) }
+    ensures { IfOk result (λ move. plain_outcome move
+        ≡ search_move setup.now (total_found replies.now) (all_keys_found replies.now)) }
 {
     let total = finding::total_found(replies);
     if total > limits::MAX_KEYS as u64 {
@@ -217,7 +223,9 @@ fn find_move(
     message: &Message,
 ) -> Result<Move, AllocError>
     requires { IsFew (all_keys_found replies.now) message.now.call }
-    ensures { IfOk result (λ move. plain_outcome move ≡ find_move setup.now tag.now replies.now message.now.partition message.now.call message.now.reply) }
+    ensures { IfOk result (λ move. plain_outcome move
+        ≡ find_move setup.now tag.now replies.now
+        message.now.partition message.now.call message.now.reply) }
 {
     match (&message.call, &message.reply) {
         (Call::Found(_), Some(Reply::Found(told))) => {
@@ -242,7 +250,9 @@ fn read_found(
     message: &Message,
 ) -> Result<Move, AllocError>
     requires { IsFew (all_keys_found replies.now) message.now.call }
-    ensures { IfOk result (λ move. plain_outcome move ≡ read_move setup.now (all_keys_found replies.now) replies.now (told_move (Some tag.now)) message.now.call message.now.reply) }
+    ensures { IfOk result (λ move. plain_outcome move
+        ≡ read_move setup.now (all_keys_found replies.now) replies.now
+        (told_move (Some tag.now)) message.now.call message.now.reply) }
 {
     let keys = finding::all_keys_found(alloc, replies)?;
     read_move(alloc, setup, &keys, replies, &Some(*tag), message)
@@ -257,7 +267,8 @@ pub(super) fn move_of(
     message: &Message,
 ) -> Result<Move, AllocError>
     requires { ReadsFew transaction.now.request replies.now message.now.call }
-    ensures { IfOk result (λ move. plain_outcome move ≡ move_of setup.now transaction.now.request replies.now message.now) }
+    ensures { IfOk result (λ move. plain_outcome move
+        ≡ move_of setup.now transaction.now.request replies.now message.now) }
 {
     match transaction.request {
         Intent::Writes(stamp, items) => write_move(alloc, setup, stamp, items, replies, message),
@@ -273,7 +284,8 @@ pub(super) fn search_calls(
     tag: &Tag,
     replies: &[Message],
 ) -> Result<Vec<Outgoing>, AllocError>
-    ensures { IfOk result (λ list. list.items ≡ calls_of setup.now false (Finds tag.now) replies.now) }
+    ensures { IfOk result (λ list. list.items
+        ≡ calls_of setup.now false (Finds tag.now) replies.now) }
 {
     if !finding::all_found(alloc, setup, replies)? {
         return Ok(finding::found_calls(alloc, setup, tag)?);
@@ -290,7 +302,8 @@ pub(super) fn calls_of(
     transaction: &Transaction<'_>,
     replies: &[Message],
 ) -> Result<Vec<Outgoing>, AllocError>
-    ensures { IfOk result (λ list. list.items ≡ calls_of setup.now decided transaction.now.request replies.now) }
+    ensures { IfOk result (λ list. list.items
+        ≡ calls_of setup.now decided transaction.now.request replies.now) }
 {
     match transaction.request {
         Intent::Writes(stamp, items) if decided => Ok(writing::calls_to_homes(

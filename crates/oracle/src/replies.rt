@@ -128,7 +128,9 @@ pub(super) fn with_exchange(
 
 /// How many of the versions that were kept a collection gives up.
 fn count_freed(alloc: Global, keep: Keep, log: &[Exchange]) -> Result<usize, AllocError>
-    ensures { IfOk result (λ count. count ≡ (length (kept log.now) - length (kept (record { call = Call.Collect keep; reply = Reply.Freed 0 } ∷ log.now)))) }
+    ensures { IfOk result (λ count. count
+        ≡ (length (kept log.now) - length
+        (kept (record { call = Call.Collect keep; reply = Reply.Freed 0 } ∷ log.now)))) }
 {
     let collection = Exchange {
         call: Call::Collect(keep),

@@ -137,7 +137,11 @@ pub(super) fn late_calls(
     some: &[Key],
 ) -> Result<Vec<Outgoing>, AllocError>
     ensures { IfOk result (λ list. list.items
-        ≡ map (λ key. record { partition = home setup.now key; call = Call.Get key (Some (needed keys.now replies.now key)) })
+        ≡ map (λ key. record {
+          partition = home setup.now key;
+          call = Call.Get key
+              (Some (needed keys.now replies.now key));
+        })
         (filter (is_late keys.now replies.now) some.now)) }
 {
     match some {
@@ -168,7 +172,8 @@ pub(super) fn round_one_complete(keys: &[Key], replies: &[Message]) -> bool
 
 /// Whether round two shows the needed version of each of some of the keys that is late.
 pub(super) fn all_shown_late(keys: &[Key], replies: &[Message], some: &[Key]) -> bool
-    ensures { result ≡ list_all (λ key. is_some (seen_second replies.now key (needed keys.now replies.now key)))
+    ensures { result
+        ≡ list_all (λ key. is_some (seen_second replies.now key (needed keys.now replies.now key)))
         (filter (is_late keys.now replies.now) some.now) }
 {
     match some {
@@ -251,7 +256,8 @@ pub(super) fn readings_of(
     replies: &[Message],
     some: &[Key],
 ) -> Result<Vec<Reading>, AllocError>
-    ensures { IfOk result (λ list. list.items ≡ map (λ key. reading_of key (version_read keys.now replies.now key)) some.now) }
+    ensures { IfOk result (λ list. list.items
+        ≡ map (λ key. reading_of key (version_read keys.now replies.now key)) some.now) }
 {
     match some {
         [] => Ok(Vec::new(alloc)),
@@ -287,7 +293,8 @@ pub(super) fn is_false_first(key: &Key, reply: &ReadReply) -> bool
 
 /// Whether round one showed a record of the stamp with this write set.
 fn was_shown(replies: &[Message], stamp: Stamp, writes: &WriteSet) -> bool
-    ensures { result ≡ list_any (λ (m : Told). shows_writes stamp writes.now m.call m.reply) replies.now }
+    ensures { result
+        ≡ list_any (λ (m : Told). shows_writes stamp writes.now m.call m.reply) replies.now }
 {
     match replies {
         [] => false,

@@ -129,7 +129,8 @@ fn sends<'a>(
     calls: &[Outgoing],
 ) -> Result<Moment<'a>, OutOfMemory>
     requires { BeginsWhole (begun_by act.now answer) }
-    ensures { IfOk result (λ m. m ≡ moment act.now answer (map (call_message client ticket) calls.now)) }
+    ensures { IfOk result (λ m. m
+        ≡ moment act.now answer (map (call_message client ticket) calls.now)) }
 {
     let sent = call_messages(alloc, client, ticket, calls)?;
     Ok(Moment { act, answer, sent })
@@ -342,7 +343,8 @@ fn moves<'a>(
 ) -> Result<Moment<'a>, OutOfMemory>
     requires asked { act.now ≡ Asked.Deliver row }
     requires free { rows_are_used history.now ≡ false }
-    ensures { IfOk result (λ m. m ≡ moves history.now act.now transaction.now (plain_outcome outcome)) }
+    ensures { IfOk result (λ m. m
+        ≡ moves history.now act.now transaction.now (plain_outcome outcome)) }
 {
     let client = transaction.client;
     let ticket = transaction.ticket;
@@ -376,7 +378,9 @@ fn moves<'a>(
 
 /// Whether the client still waits for the reply.
 fn is_wanted(transaction: &Transaction<'_>, replies: &[Message], message: &Message) -> bool
-    ensures { result ≡ (message.now.ticket == transaction.now.ticket && not (is_answered replies.now message.now.partition message.now.call)) }
+    ensures { result
+        ≡ (message.now.ticket == transaction.now.ticket
+        && not (is_answered replies.now message.now.partition message.now.call)) }
 {
     message.ticket == transaction.ticket
         && !moves::is_answered(replies, message.partition, &message.call)
@@ -394,8 +398,11 @@ fn hands<'a>(
 ) -> Result<Moment<'a>, OutOfMemory>
     requires asked { act.now ≡ Asked.Deliver row }
     requires free { rows_are_used history.now ≡ false }
-    requires few { is_wanted history.now transaction.now message.now ≡ true → ReadsFew transaction.now.request (taken_in history.now transaction.now ++ message.now ∷ []) message.now.call }
-    ensures { IfOk result (λ m. m ≡ takes setup.now history.now act.now message.now (Some transaction.now)) }
+    requires few { is_wanted history.now transaction.now message.now ≡ true
+        → ReadsFew transaction.now.request (taken_in history.now transaction.now
+        ++ message.now ∷ []) message.now.call }
+    ensures { IfOk result (λ m. m
+        ≡ takes setup.now history.now act.now message.now (Some transaction.now)) }
 {
     let replies = history::taken_in(alloc, history, transaction)?;
     if !is_wanted(transaction, &replies, message) {
@@ -418,7 +425,9 @@ fn takes<'a>(
     requires asked { act.now ≡ Asked.Deliver row }
     requires free { rows_are_used history.now ≡ false }
     requires few { TakesFew history.now message.now }
-    ensures { IfOk result (λ m. m ≡ takes setup.now history.now act.now message.now (running history.now message.now.client)) }
+    ensures { IfOk result (λ m. m
+        ≡ takes setup.now history.now act.now message.now
+        (running history.now message.now.client)) }
 {
     match history::running(history, message.client) {
         Some(transaction) => hands(alloc, setup, history, act, message, &transaction, row),
@@ -462,7 +471,8 @@ fn reply_at(
     call: &Call,
 ) -> Result<Reply, OutOfMemory>
     requires { LogsAreSound setup.now history.now }
-    ensures { IfOk result (λ reply. reply ≡ reply_after setup.now.room (log_at setup.now history.now partition) call.now) }
+    ensures { IfOk result (λ reply. reply
+        ≡ reply_after setup.now.room (log_at setup.now history.now partition) call.now) }
 {
     let log = history::log_at(alloc, setup, history, partition)?;
     Ok(replies::reply_after(alloc, &setup.room, &log, call)?)
@@ -481,7 +491,8 @@ fn delivers<'a>(
     requires free { rows_are_used history.now ≡ false }
     requires sound { LogsAreSound setup.now history.now }
     requires few { is_some message.now.reply ≡ true → TakesFew history.now message.now }
-    ensures { IfOk result (λ m. m ≡ delivers setup.now history.now act.now message.now message.now.reply) }
+    ensures { IfOk result (λ m. m
+        ≡ delivers setup.now history.now act.now message.now message.now.reply) }
 {
     match message.reply {
         Some(_) => takes(alloc, setup, history, act, message, row),
@@ -533,7 +544,9 @@ fn without_reply(
     replies: &[Message],
     calls: &[Outgoing],
 ) -> Result<Vec<Outgoing>, AllocError>
-    ensures { IfOk result (λ list. list.items ≡ filter (λ (out : Leaving). not (is_answered replies.now out.partition out.call)) calls.now) }
+    ensures { IfOk result (λ list. list.items
+        ≡ filter
+        (λ (out : Leaving). not (is_answered replies.now out.partition out.call)) calls.now) }
 {
     match calls {
         [] => Ok(Vec::new(alloc)),
@@ -602,7 +615,8 @@ fn retries<'a>(
 ) -> Result<Moment<'a>, OutOfMemory>
     requires asked { act.now ≡ Asked.Retry client }
     requires free { rows_are_used history.now ≡ false }
-    ensures { IfOk result (λ m. m ≡ retries setup.now history.now act.now (running history.now client)) }
+    ensures { IfOk result (λ m. m
+        ≡ retries setup.now history.now act.now (running history.now client)) }
 {
     match history::running(history, client) {
         None => Ok(quiet(alloc, act, Answer::Sent(None))),

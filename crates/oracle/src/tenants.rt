@@ -43,9 +43,11 @@ fn answer_step<'a>(
     requires sound { LogsAreSound setup.now history.items }
     requires few { ReadersAreFew history.items }
     ensures history { IfOk result (λ made. made.0.items
-        ≡ (if step.now.tenant == tenant then moment_of setup.now history.entry.items step.now.act ∷ history.entry.items else history.entry.items)) }
+        ≡ (if step.now.tenant == tenant then moment_of setup.now history.entry.items step.now.act
+        ∷ history.entry.items else history.entry.items)) }
     ensures answer { IfOk result (λ made. made.1
-        ≡ (if step.now.tenant == tenant then answer_to setup.now history.entry.items step.now.act else other)) }
+        ≡ (if step.now.tenant == tenant
+        then answer_to setup.now history.entry.items step.now.act else other)) }
 {
     if step.tenant as usize != tenant {
         return Ok((history, other));
@@ -75,7 +77,8 @@ fn answer_tenant(
     requires partitions { IsParts partitions }
     requires tenant { tenant < length limits.now }
     requires others { others.now ≡ store_answers partitions (take tenant limits.now) steps.now }
-    ensures { IfOk result (λ list. list.items ≡ store_answers partitions (take (tenant + 1) limits.now) steps.now) }
+    ensures { IfOk result (λ list. list.items
+        ≡ store_answers partitions (take (tenant + 1) limits.now) steps.now) }
 {
     let setup = setup_of(partitions, &limits[tenant]);
     let mut history = Vec::new(alloc);
@@ -92,7 +95,8 @@ fn answer_tenant(
 
 /// The answers where no tenant is there.
 fn no_answers(alloc: Global, steps: &[Step]) -> Result<Vec<Answer>, AllocError>
-    ensures { IfOk result (λ list. list.items ≡ map (λ (step : Stepped). Answer.Refused Refusal.NoTenant) steps.now) }
+    ensures { IfOk result (λ list. list.items
+        ≡ map (λ (step : Stepped). Answer.Refused Refusal.NoTenant) steps.now) }
 {
     steps
         .iter()
@@ -110,7 +114,8 @@ pub fn oracle_run(
     steps: &[Step],
 ) -> Result<Vec<Answer>, OutOfMemory>
     requires { IsParts partitions }
-    ensures answers { IfOk result (λ list. list.items ≡ store_answers partitions limits.now steps.now) }
+    ensures answers { IfOk result (λ list. list.items
+        ≡ store_answers partitions limits.now steps.now) }
     ensures isolated { IfOk result (λ list. IsIsolated partitions limits.now steps.now list.items) }
 {
     let mut answers = no_answers(alloc, steps)?;

@@ -52,7 +52,10 @@ fn read_more<R: Read>(reader: &mut R, bytes: &mut [u8], len: usize) -> Option<us
     requires { len < length bytes.old }
     ensures fits { IfSome result (λ taken. len + taken ≤ length bytes.new) }
     ensures front { IfSome result (λ taken. take len bytes.new ≡ take len bytes.old) }
-    ensures taken { IfSome result (λ taken. Consumes (R.remaining reader.old) (R.remaining reader.new) (take taken (drop len bytes.new))) }
+    ensures taken { IfSome result
+        (λ taken.
+        Consumes (R.remaining reader.old) (R.remaining reader.new)
+        (take taken (drop len bytes.new))) }
     ensures end { IfSome result (λ taken. taken ≡ 0 → IsAtEnd (R.remaining reader.new)) }
 {
     reader.read(&mut bytes[len..]).ok()
@@ -61,8 +64,10 @@ fn read_more<R: Read>(reader: &mut R, bytes: &mut [u8], len: usize) -> Option<us
 /// Writes a page, in 64 writes at most. Says whether all of it was written: not where a write failed or took nothing, the writes
 /// did not do, or it is over.
 pub fn write_page<W: Write>(writer: &mut W, page: &[u8], is_over: &AtomicBool) -> bool
-    ensures front { (n : ℕ) × Appends (W.contents writer.old) (W.contents writer.new) (take n page.now) }
-    ensures whole { IsTrue result → Appends (W.contents writer.old) (W.contents writer.new) page.now }
+    ensures front { (n : ℕ)
+        × Appends (W.contents writer.old) (W.contents writer.new) (take n page.now) }
+    ensures whole { IsTrue result
+        → Appends (W.contents writer.old) (W.contents writer.new) page.now }
 {
     let mut written = 0;
     for _ in 0..MOST_WRITES {

@@ -47,7 +47,8 @@ pub(crate) fn put_figure(
     labels: &[Label<'_>],
     number: u64,
 ) -> Result<(), AllocError>
-    ensures { OnOk result (string_bytes text.new ≡ string_bytes text.old ++ figure_text family (map pair_of labels.now) number) }
+    ensures { OnOk result (string_bytes text.new
+        ≡ string_bytes text.old ++ figure_text family (map pair_of labels.now) number) }
 {
     text.push_str(name_text(family))?;
     put_labels(text, labels)?;
@@ -56,7 +57,8 @@ pub(crate) fn put_figure(
 
 // Appends the labels in their brackets, or nothing where there are none.
 fn put_labels(text: &mut String, labels: &[Label<'_>]) -> Result<(), AllocError>
-    ensures { OnOk result (string_bytes text.new ≡ string_bytes text.old ++ labels_text (map pair_of labels.now)) }
+    ensures { OnOk result (string_bytes text.new
+        ≡ string_bytes text.old ++ labels_text (map pair_of labels.now)) }
 {
     match labels {
         [] => Ok(()),
@@ -71,7 +73,8 @@ fn put_labels(text: &mut String, labels: &[Label<'_>]) -> Result<(), AllocError>
 
 // Appends the labels behind the first.
 fn put_more(text: &mut String, labels: &[Label<'_>]) -> Result<(), AllocError>
-    ensures { OnOk result (string_bytes text.new ≡ string_bytes text.old ++ more_labels (map pair_of labels.now)) }
+    ensures { OnOk result (string_bytes text.new
+        ≡ string_bytes text.old ++ more_labels (map pair_of labels.now)) }
 {
     for label in labels {
         text.push_str(",")?;
@@ -81,14 +84,16 @@ fn put_more(text: &mut String, labels: &[Label<'_>]) -> Result<(), AllocError>
 }
 
 fn put_label(text: &mut String, label: &Label<'_>) -> Result<(), AllocError>
-    ensures { OnOk result (string_bytes text.new ≡ string_bytes text.old ++ label_text (pair_of label.now)) }
+    ensures { OnOk result (string_bytes text.new
+        ≡ string_bytes text.old ++ label_text (pair_of label.now)) }
 {
     put_pair(text, label.name, label.value)
 }
 
 // Appends a label with its value.
 fn put_pair(text: &mut String, name: &str, value: &str) -> Result<(), AllocError>
-    ensures { OnOk result (string_bytes text.new ≡ string_bytes text.old ++ label_text (name.now, value.now)) }
+    ensures { OnOk result (string_bytes text.new
+        ≡ string_bytes text.old ++ label_text (name.now, value.now)) }
 {
     text.push_str(name)?;
     text.push_str("=\"")?;

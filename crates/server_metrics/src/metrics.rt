@@ -90,7 +90,8 @@ fn are_right(rows: &[Row<'_>]) -> bool
 
 /// Appends the metrics that were read. Where an allocation fails, a part of them may be there.
 pub fn put_metrics(text: &mut String, readings: &Readings<'_>) -> Result<(), AllocError>
-    ensures { OnOk result (string_bytes text.new ≡ string_bytes text.old ++ metrics_text readings.now) }
+    ensures { OnOk result (string_bytes text.new
+        ≡ string_bytes text.old ++ metrics_text readings.now) }
 {
     put_table(text, &readings.rows)?;
     put_all_tenants(text, &readings.clients)?;
@@ -108,7 +109,8 @@ fn put_table(text: &mut String, rows: &[Row<'_>]) -> Result<(), AllocError>
 
 // Appends families of rows, each with its number of each row.
 fn put_families(text: &mut String, families: &[Family], rows: &[Row<'_>]) -> Result<(), AllocError>
-    ensures { OnOk result (string_bytes text.new ≡ string_bytes text.old ++ families_text rows.now families.now) }
+    ensures { OnOk result (string_bytes text.new
+        ≡ string_bytes text.old ++ families_text rows.now families.now) }
 {
     for family in families {
         put_family(text, *family)?;
@@ -119,7 +121,8 @@ fn put_families(text: &mut String, families: &[Family], rows: &[Row<'_>]) -> Res
 
 // Appends a family's number of each row.
 fn put_rows(text: &mut String, family: Family, rows: &[Row<'_>]) -> Result<(), AllocError>
-    ensures { OnOk result (string_bytes text.new ≡ string_bytes text.old ++ rows_text family rows.now) }
+    ensures { OnOk result (string_bytes text.new
+        ≡ string_bytes text.old ++ rows_text family rows.now) }
 {
     for row in rows {
         put_row(text, family, row)?;
@@ -129,7 +132,8 @@ fn put_rows(text: &mut String, family: Family, rows: &[Row<'_>]) -> Result<(), A
 
 // Appends a family's number of a row, if the row has it.
 fn put_row(text: &mut String, family: Family, row: &Row<'_>) -> Result<(), AllocError>
-    ensures { OnOk result (string_bytes text.new ≡ string_bytes text.old ++ row_text family row.now) }
+    ensures { OnOk result (string_bytes text.new
+        ≡ string_bytes text.old ++ row_text family row.now) }
 {
     let Some(number) = number_of(family, row) else {
         return Ok(());
@@ -147,7 +151,8 @@ fn put_placed<'a>(
     partition: &'a str,
     number: u64,
 ) -> Result<(), AllocError>
-    ensures { OnOk result (string_bytes text.new ≡ string_bytes text.old ++ figure_text family (place_of tenant.now partition.now) number) }
+    ensures { OnOk result (string_bytes text.new
+        ≡ string_bytes text.old ++ figure_text family (place_of tenant.now partition.now) number) }
 {
     let labels = [
         Label {
@@ -206,7 +211,8 @@ fn wrong_of(row: &Row<'_>) -> Option<u64>
 // Appends how many client numbers of each tenant were used, and how many may be.
 #[tactic(auto, unfolding(crate::specs::MetricsText::all_tenants_text))]
 fn put_all_tenants(text: &mut String, rows: &[ClientRow<'_>]) -> Result<(), AllocError>
-    ensures { OnOk result (string_bytes text.new ≡ string_bytes text.old ++ all_tenants_text rows.now) }
+    ensures { OnOk result (string_bytes text.new
+        ≡ string_bytes text.old ++ all_tenants_text rows.now) }
 {
     put_tenants(text, Family::Clients, rows)?;
     put_tenants(text, Family::ClientsLimit, rows)
@@ -214,7 +220,8 @@ fn put_all_tenants(text: &mut String, rows: &[ClientRow<'_>]) -> Result<(), Allo
 
 // Appends a family with its number of each tenant.
 fn put_tenants(text: &mut String, family: Family, rows: &[ClientRow<'_>]) -> Result<(), AllocError>
-    ensures { OnOk result (string_bytes text.new ≡ string_bytes text.old ++ tenants_text family rows.now) }
+    ensures { OnOk result (string_bytes text.new
+        ≡ string_bytes text.old ++ tenants_text family rows.now) }
 {
     put_family(text, family)?;
     put_clients(text, family, rows)
@@ -222,7 +229,8 @@ fn put_tenants(text: &mut String, family: Family, rows: &[ClientRow<'_>]) -> Res
 
 // Appends a family's number of each tenant.
 fn put_clients(text: &mut String, family: Family, rows: &[ClientRow<'_>]) -> Result<(), AllocError>
-    ensures { OnOk result (string_bytes text.new ≡ string_bytes text.old ++ clients_text family rows.now) }
+    ensures { OnOk result (string_bytes text.new
+        ≡ string_bytes text.old ++ clients_text family rows.now) }
 {
     for row in rows {
         put_client(text, family, row)?;
@@ -232,7 +240,8 @@ fn put_clients(text: &mut String, family: Family, rows: &[ClientRow<'_>]) -> Res
 
 // Appends a family's number of a tenant.
 fn put_client(text: &mut String, family: Family, row: &ClientRow<'_>) -> Result<(), AllocError>
-    ensures { OnOk result (string_bytes text.new ≡ string_bytes text.old ++ client_text family row.now) }
+    ensures { OnOk result (string_bytes text.new
+        ≡ string_bytes text.old ++ client_text family row.now) }
 {
     let labels = [Label {
         name: "tenant",
@@ -254,7 +263,8 @@ fn clients_number(family: Family, row: &ClientRow<'_>) -> u64
 // Appends how many lines were answered by each refusal.
 #[tactic(auto, unfolding(crate::specs::MetricsText::refusals_text))]
 fn put_refusals(text: &mut String, rows: &[RefusalRow]) -> Result<(), AllocError>
-    ensures { OnOk result (string_bytes text.new ≡ string_bytes text.old ++ refusals_text rows.now) }
+    ensures { OnOk result (string_bytes text.new
+        ≡ string_bytes text.old ++ refusals_text rows.now) }
 {
     put_family(text, Family::Refusals)?;
     put_refusal_rows(text, Family::Refusals, rows)
@@ -266,7 +276,8 @@ fn put_refusal_rows(
     family: Family,
     rows: &[RefusalRow],
 ) -> Result<(), AllocError>
-    ensures { OnOk result (string_bytes text.new ≡ string_bytes text.old ++ refusal_rows_text family rows.now) }
+    ensures { OnOk result (string_bytes text.new
+        ≡ string_bytes text.old ++ refusal_rows_text family rows.now) }
 {
     for row in rows {
         put_refusal(text, family, row)?;
@@ -276,7 +287,8 @@ fn put_refusal_rows(
 
 // Appends a family's line of a refusal.
 fn put_refusal(text: &mut String, family: Family, row: &RefusalRow) -> Result<(), AllocError>
-    ensures { OnOk result (string_bytes text.new ≡ string_bytes text.old ++ refusal_text family row.now) }
+    ensures { OnOk result (string_bytes text.new
+        ≡ string_bytes text.old ++ refusal_text family row.now) }
 {
     let mut buffer = Buffer::new();
     let labels = [Label {
@@ -289,7 +301,8 @@ fn put_refusal(text: &mut String, family: Family, row: &RefusalRow) -> Result<()
 // Appends what was read of the sessions and the process.
 #[tactic(auto, unfolding(crate::specs::MetricsText::server_text))]
 fn put_server(text: &mut String, readings: &Readings<'_>) -> Result<(), AllocError>
-    ensures { OnOk result (string_bytes text.new ≡ string_bytes text.old ++ server_text readings.now) }
+    ensures { OnOk result (string_bytes text.new
+        ≡ string_bytes text.old ++ server_text readings.now) }
 {
     put_plain(text, Family::Restarts, readings.restarts)?;
     put_connections(text, readings)?;
@@ -298,7 +311,8 @@ fn put_server(text: &mut String, readings: &Readings<'_>) -> Result<(), AllocErr
 
 // Appends how many connections there are, may be and were begun.
 fn put_connections(text: &mut String, readings: &Readings<'_>) -> Result<(), AllocError>
-    ensures { OnOk result (string_bytes text.new ≡ string_bytes text.old ++ connections_text readings.now) }
+    ensures { OnOk result (string_bytes text.new
+        ≡ string_bytes text.old ++ connections_text readings.now) }
 {
     put_plain(text, Family::Connections, readings.open)?;
     put_plain(text, Family::ConnectionsLimit, readings.most)?;
@@ -307,7 +321,8 @@ fn put_connections(text: &mut String, readings: &Readings<'_>) -> Result<(), All
 
 // Appends when the server started, and which program it is.
 fn put_process(text: &mut String, readings: &Readings<'_>) -> Result<(), AllocError>
-    ensures { OnOk result (string_bytes text.new ≡ string_bytes text.old ++ process_text readings.now) }
+    ensures { OnOk result (string_bytes text.new
+        ≡ string_bytes text.old ++ process_text readings.now) }
 {
     put_plain(text, Family::Started, readings.started)?;
     put_family(text, Family::Build)?;
@@ -320,7 +335,8 @@ fn put_process(text: &mut String, readings: &Readings<'_>) -> Result<(), AllocEr
 
 // Appends a family of one number.
 fn put_plain(text: &mut String, family: Family, number: u64) -> Result<(), AllocError>
-    ensures { OnOk result (string_bytes text.new ≡ string_bytes text.old ++ plain_text family number) }
+    ensures { OnOk result (string_bytes text.new
+        ≡ string_bytes text.old ++ plain_text family number) }
 {
     put_family(text, family)?;
     put_figure(text, family, &[], number)

@@ -18,7 +18,8 @@ pub fn metrics_page(alloc: Global, readings: &Readings<'_>) -> Result<String, Al
 
 /// Whether the server was well when it was read: 200 exactly where it was, else 503. The one error is that an allocation failed.
 pub fn health_page(alloc: Global, readings: &Readings<'_>) -> Result<String, AllocError>
-    ensures { IfOk result (λ page. string_bytes page ≡ text_page (health_status (is_well readings.now))) }
+    ensures { IfOk result (λ page. string_bytes page
+        ≡ text_page (health_status (is_well readings.now))) }
 {
     if readings.is_well() {
         status_page(alloc, Status::Well)

@@ -60,7 +60,8 @@ impl<'s> Watched<'s> {
         rows: &mut Vec<Row<'s>>,
     ) -> Result<bool, AllocError>
         requires { rows.old.items ≡ [] }
-        ensures { IfOk result (λ is_whole. IsTrue is_whole → AreRowsBefore self.now self.now.hub.now.parts rows.new.items) }
+        ensures { IfOk result (λ is_whole. IsTrue is_whole
+            → AreRowsBefore self.now self.now.hub.now.parts rows.new.items) }
     {
         let mut is_whole = true;
         for partition in 0..self.hub.parts() {
@@ -80,7 +81,8 @@ impl<'s> Watched<'s> {
         partition: u32,
         rows: &mut Vec<Row<'s>>,
     ) -> Result<bool, AllocError>
-        ensures { IfOk result (λ is_there. IsTrue is_there → AreRowsAt self.now partition rows.old.items rows.new.items) }
+        ensures { IfOk result (λ is_there. IsTrue is_there
+            → AreRowsAt self.now partition rows.old.items rows.new.items) }
     {
         // Before the epochs, so that no more are checked than cut.
         let checks = self.read_checks(rt, alloc, partition)?;
@@ -125,7 +127,9 @@ impl<'s> Watched<'s> {
         checks: &[Option<Progress>],
         rows: &mut Vec<Row<'s>>,
     ) -> Result<bool, AllocError>
-        ensures { IfOk result (λ is_there. IsTrue is_there → AreRowsBehind partition self.now.names.now self.now.hub.now.limits checks.now usages.now rows.old.items rows.new.items) }
+        ensures { IfOk result (λ is_there. IsTrue is_there
+            → AreRowsBehind partition self.now.names.now self.now.hub.now.limits
+            checks.now usages.now rows.old.items rows.new.items) }
     {
         let limits = self.hub.limits();
         for (tenant, used) in usages.iter().enumerate() {
@@ -143,8 +147,10 @@ impl<'s> Watched<'s> {
 
     // A row of each tenant's clients.
     fn read_clients<H: Wait>(&self, rt: &H, alloc: Global) -> Result<Vec<ClientRow<'s>>, AllocError>
-        ensures all { IfOk result (λ rows. vec_len rows ≡ min (min (length self.now.names.now) (2 ^ 32 - 1)) (length self.now.hub.now.limits)) }
-        ensures each { IfOk result (λ rows. AreClientRows self.now.names.now self.now.hub.now.limits rows.items) }
+        ensures all { IfOk result (λ rows. vec_len rows
+            ≡ min (min (length self.now.names.now) (2 ^ 32 - 1)) (length self.now.hub.now.limits)) }
+        ensures each { IfOk result
+            (λ rows. AreClientRows self.now.names.now self.now.hub.now.limits rows.items) }
     {
         let mut clients = Vec::new(alloc);
         let limits = self.hub.limits();

@@ -128,7 +128,8 @@ fn answer_one<H: Wait, R: Read, W: Write>(
     writer: &mut W,
     is_over: &AtomicBool,
 ) -> bool
-    ensures { HasAnswered watched.now (R.remaining reader.old) (R.remaining reader.new) (W.contents writer.old) (W.contents writer.new) result }
+    ensures { HasAnswered watched.now (R.remaining reader.old) (R.remaining reader.new)
+        (W.contents writer.old) (W.contents writer.new) result }
 {
     let Some(asked) = hear(reader, is_over) else {
         return false;

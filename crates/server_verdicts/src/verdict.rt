@@ -46,7 +46,8 @@ pub fn tell_verdicts<W: Write>(
     names: &[Name],
     writer: &mut W,
 ) -> Result<(), ProgramFault>
-    ensures { TellsVerdicts closed.now names.now (W.contents writer.old) (W.contents writer.new) result }
+    ensures { TellsVerdicts closed.now names.now (W.contents writer.old)
+        (W.contents writer.new) result }
 {
     let tenants = closed.config.limits.len();
     tell_all(alloc, closed, b"settled ", tenants, names, writer)
@@ -63,7 +64,8 @@ pub fn tell_all<J: Judge, W: Write>(
     writer: &mut W,
 ) -> Result<(), ProgramFault>
     requires { tenants ≤ 64 }
-    ensures { TellsEach (J.is_verdict judge.now) word.now tenants names.now (W.contents writer.old) (W.contents writer.new) result }
+    ensures { TellsEach (J.is_verdict judge.now) word.now tenants names.now (W.contents writer.old)
+        (W.contents writer.new) result }
 {
     let mut all_yes = true;
     for tenant in 0..tenants.min(names.len()) {
@@ -96,8 +98,13 @@ fn tell_verdict<J: Judge, W: Write>(
     writer: &mut W,
 ) -> Result<bool, ProgramFault>
     ensures verdict { IfOk result (J.is_verdict judge.now tenant) }
-    ensures line { IfOk result (λ verdict. Appends (W.contents writer.old) (W.contents writer.new) (verdict_line word.now name verdict)) }
-    ensures fault { IfErr result (BreaksOff (TellsTenant (J.is_verdict judge.now) word.now tenant name) (W.contents writer.old) (W.contents writer.new)) }
+    ensures line { IfOk result
+        (λ verdict.
+        Appends (W.contents writer.old) (W.contents writer.new)
+        (verdict_line word.now name verdict)) }
+    ensures fault { IfErr result
+        (BreaksOff (TellsTenant (J.is_verdict judge.now) word.now tenant name)
+        (W.contents writer.old) (W.contents writer.new)) }
 {
     let yes = judge.judge(alloc, tenant)?;
     write_verdict(alloc, word, name, yes, writer)?;
@@ -133,8 +140,11 @@ fn write_verdict<W: Write>(
     yes: bool,
     writer: &mut W,
 ) -> Result<(), ProgramFault>
-    ensures ok { OnOk result (Appends (W.contents writer.old) (W.contents writer.new) (verdict_line word.now name yes)) }
-    ensures err { IfErr result (BreaksOff (λ line. line ≡ verdict_line word.now name yes) (W.contents writer.old) (W.contents writer.new)) }
+    ensures ok { OnOk result
+        (Appends (W.contents writer.old) (W.contents writer.new) (verdict_line word.now name yes)) }
+    ensures err { IfErr result
+        (BreaksOff (λ line. line
+        ≡ verdict_line word.now name yes) (W.contents writer.old) (W.contents writer.new)) }
 {
     let mut line = Vec::from_slice(alloc, word)?;
     line.extend_from_slice(name.as_bytes())?;

@@ -54,7 +54,9 @@ pub fn run_load<H: Threads + Wait + Clone + Send + Sync + Drop + 'static, W: Wri
 ) -> Result<(), ProgramFault>
     requires seats { seats ≤ 16 }
     requires keys { 0 < keys }
-    ensures { HasLoaded (config_view config) (record { seats = seats; rounds = rounds; seed = seed; keys = keys }) names.now (W.contents writer.old) (W.contents writer.new) result }
+    ensures { HasLoaded (config_view config)
+        (record { seats = seats; rounds = rounds; seed = seed; keys = keys }) names.now
+        (W.contents writer.old) (W.contents writer.new) result }
 {
     let orders = Orders { seed, rounds, keys };
     if config.epoch == 0 {
@@ -76,7 +78,9 @@ fn load_and_settle<H: Threads + Wait + Clone + Send + Sync + Drop + 'static, W: 
 ) -> Result<(), ProgramFault>
     requires seats { seats ≤ 16 }
     requires never { config.epoch ≡ 0 }
-    ensures { HasLoaded (config_view config) (record { seats = seats; rounds = orders.rounds; seed = orders.seed; keys = orders.keys }) names.now (W.contents writer.old) (W.contents writer.new) result }
+    ensures { HasLoaded (config_view config)
+        (record { seats = seats; rounds = orders.rounds; seed = orders.seed; keys = orders.keys })
+        names.now (W.contents writer.old) (W.contents writer.new) result }
 {
     let closed = run_store(rt, alloc, config, (), seats, orders)?;
     tell_load(alloc, &closed, names, writer)
@@ -94,7 +98,9 @@ fn load_and_join<H: Threads + Wait + Clone + Send + Sync + Drop + 'static, W: Wr
 ) -> Result<(), ProgramFault>
     requires seats { seats ≤ 16 }
     requires cut { 0 < config.epoch }
-    ensures { HasLoaded (config_view config) (record { seats = seats; rounds = orders.rounds; seed = orders.seed; keys = orders.keys }) names.now (W.contents writer.old) (W.contents writer.new) result }
+    ensures { HasLoaded (config_view config)
+        (record { seats = seats; rounds = orders.rounds; seed = orders.seed; keys = orders.keys })
+        names.now (W.contents writer.old) (W.contents writer.new) result }
 {
     let (kept, sink) = KeptEpochs::open_both(alloc, rt.clone()?, rt.clone()?)?;
     let closed = run_store(rt, alloc, config, sink, seats, orders)?;
@@ -116,7 +122,10 @@ fn run_store<
 ) -> Result<Closed, ProgramFault>
     requires { seats ≤ 16 }
     ensures closed { IfOk result (λ closed. IsClosed (config_view config) closed) }
-    ensures seats { IfOk result (λ closed. AreOfSeats orders.seed orders.rounds orders.keys (seats_of (length config.limits.items) seats) closed.transcripts.items) }
+    ensures seats { IfOk result
+        (λ closed.
+        AreOfSeats orders.seed orders.rounds orders.keys
+        (seats_of (length config.limits.items) seats) closed.transcripts.items) }
     ensures refused { IfErr result (λ fault. (fault ≡ NoMemory) ⊎ (fault ≡ Device)) }
 {
     let tenants = config.limits.len() as u32;
@@ -137,7 +146,8 @@ fn tell_load<W: Write>(
     names: &[Name],
     writer: &mut W,
 ) -> Result<(), ProgramFault>
-    ensures { IsToldOfLoad closed.now names.now (W.contents writer.old) (W.contents writer.new) result }
+    ensures { IsToldOfLoad closed.now names.now (W.contents writer.old)
+        (W.contents writer.new) result }
 {
     tell_begun(alloc, closed, names, writer)?;
     tell_verdicts(alloc, closed, names, writer)

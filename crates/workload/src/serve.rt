@@ -66,8 +66,10 @@ pub fn run_server<
     reader: &mut R,
     writer: &mut W,
 ) -> Result<(), ProgramFault>
-    ensures served { HasServed (config_view config) names.now (W.contents writer.old) (W.contents writer.new) result }
-    ensures port { TellsPortFor options.port (W.contents writer.old) (W.contents writer.new) result }
+    ensures served { HasServed (config_view config) names.now (W.contents writer.old)
+        (W.contents writer.new) result }
+    ensures port { TellsPortFor options.port (W.contents writer.old)
+        (W.contents writer.new) result }
 {
     let Ok(listener) = Listener::bind(rt, options.port) else {
         return Err(ProgramFault::Device);
@@ -145,8 +147,10 @@ fn serve_and_settle<
     writer: &mut W,
 ) -> Result<(), ProgramFault>
     requires { config.epoch ≡ 0 }
-    ensures served { HasServed (config_view config) names.now (W.contents writer.old) (W.contents writer.new) result }
-    ensures port { TellsPortFirst (port_of (listener_of server)) (W.contents writer.old) (W.contents writer.new) result }
+    ensures served { HasServed (config_view config) names.now (W.contents writer.old)
+        (W.contents writer.new) result }
+    ensures port { TellsPortFirst (port_of (listener_of server)) (W.contents writer.old)
+        (W.contents writer.new) result }
 {
     let hub = open_hub(rt, alloc, config, ())?;
     let reporting = Reporting {
@@ -181,8 +185,10 @@ fn serve_and_check<
     writer: &mut W,
 ) -> Result<(), ProgramFault>
     requires { 0 < config.epoch }
-    ensures served { HasServed (config_view config) names.now (W.contents writer.old) (W.contents writer.new) result }
-    ensures port { TellsPortFirst (port_of (listener_of server)) (W.contents writer.old) (W.contents writer.new) result }
+    ensures served { HasServed (config_view config) names.now (W.contents writer.old)
+        (W.contents writer.new) result }
+    ensures port { TellsPortFirst (port_of (listener_of server)) (W.contents writer.old)
+        (W.contents writer.new) result }
 {
     let (hub, checking) = open_checked(rt, alloc, config)?;
     let reporting = Reporting {
@@ -204,7 +210,8 @@ fn serve_and_check<
 // What kept a server from some of its connections, if anything did.
 fn fault_of(left: &Left) -> Result<(), ProgramFault>
     ensures before { IsFaultBefore result }
-    ensures exact { result ≡ cond left.now.has_refused (Err NoMemory) (cond left.now.has_failed (Err Device) (Ok tt)) }
+    ensures exact { result
+        ≡ cond left.now.has_refused (Err NoMemory) (cond left.now.has_failed (Err Device) (Ok tt)) }
 {
     if left.has_refused {
         return Err(ProgramFault::OutOfMemory);
@@ -286,7 +293,9 @@ fn serve_all<H: Threads + Wait + Clock + Sync, R: Read, W: Write>(
     writer: &mut W,
 ) -> Result<(), ProgramFault>
     ensures listened { HasListened (W.contents writer.old) (W.contents writer.new) result }
-    ensures port { OnOk result (Appends (W.contents writer.old) (W.contents writer.new) (listening_line (port_of (listener_of server.now)))) }
+    ensures port { OnOk result
+        (Appends (W.contents writer.old) (W.contents writer.new)
+        (listening_line (port_of (listener_of server.now)))) }
 {
     tell_port(alloc, server.listener().port(), writer)?;
     let Some(port) = reporting.port else {
@@ -319,7 +328,8 @@ fn seconds_now<H: Clock>(rt: &H) -> u64 {
 // Whoever waits for the port gets it at once.
 fn tell_port<W: Write>(alloc: Global, port: u16, writer: &mut W) -> Result<(), ProgramFault>
     ensures listened { HasListened (W.contents writer.old) (W.contents writer.new) result }
-    ensures port { OnOk result (Appends (W.contents writer.old) (W.contents writer.new) (listening_line port)) }
+    ensures port { OnOk result
+        (Appends (W.contents writer.old) (W.contents writer.new) (listening_line port)) }
 {
     let line = listening_line(alloc, port)?;
     let Ok(()) = write_text(writer, line.as_bytes()) else {

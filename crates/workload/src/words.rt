@@ -66,9 +66,12 @@ pub fn run_words<
     E: Write,
 >(rt: &H, alloc: Global, words: &[String], reader: &mut R, writer: &mut W, errors: &mut E) -> u8
     ensures ran { (ended : Result (Unit {0}) Fault) × (result ≡ exit_status ended)
-        × (Runs (map string_bytes words.now) (R.remaining reader.old) (W.contents writer.old) (W.contents writer.new) ended
-        ⊎ (RunsServer (map string_bytes words.now) (W.contents writer.old) (W.contents writer.new) ended
-        ⊎ RunsLoad (map string_bytes words.now) (W.contents writer.old) (W.contents writer.new) ended)) }
+        × (Runs (map string_bytes words.now) (R.remaining reader.old) (W.contents writer.old)
+        (W.contents writer.new) ended
+        ⊎ (RunsServer (map string_bytes words.now) (W.contents writer.old)
+        (W.contents writer.new) ended
+        ⊎ RunsLoad (map string_bytes words.now) (W.contents writer.old)
+        (W.contents writer.new) ended)) }
     // Words that ask for help end the program with 0, unless an allocation failed or a write failed.
     ensures help { AsksForHelp (map string_bytes words.now) → IsHelpStatus result }
     // And so do words that ask for the version.
@@ -100,9 +103,12 @@ fn run_program<
     reader: &mut R,
     writer: &mut W,
 ) -> Result<(), ProgramFault>
-    ensures { Runs (map string_bytes words.now) (R.remaining reader.old) (W.contents writer.old) (W.contents writer.new) result
-        ⊎ (RunsServer (map string_bytes words.now) (W.contents writer.old) (W.contents writer.new) result
-        ⊎ RunsLoad (map string_bytes words.now) (W.contents writer.old) (W.contents writer.new) result) }
+    ensures { Runs (map string_bytes words.now) (R.remaining reader.old) (W.contents writer.old)
+        (W.contents writer.new) result
+        ⊎ (RunsServer (map string_bytes words.now) (W.contents writer.old)
+        (W.contents writer.new) result
+        ⊎ RunsLoad (map string_bytes words.now) (W.contents writer.old)
+        (W.contents writer.new) result) }
 {
     match read_words(alloc, words)? {
         Asked::Text(text) => Ok(write_text(writer, text.as_bytes())?),
@@ -143,9 +149,12 @@ fn serve_store<
 ) -> Result<(), ProgramFault>
     requires parts { IsParts store.now.parts }
     requires tenants { AreTenants store.now.names.items }
-    ensures served { HasServed (store_view store.now.parts store.now.limits store.now.names.items options.queue options.every options.epoch) store.now.names.items
+    ensures served { let names = store.now.names.items in
+        HasServed (store_view store.now.parts store.now.limits names
+        options.queue options.every options.epoch) names
         (W.contents writer.old) (W.contents writer.new) result }
-    ensures port { TellsPortFor options.port (W.contents writer.old) (W.contents writer.new) result }
+    ensures port { TellsPortFor options.port (W.contents writer.old)
+        (W.contents writer.new) result }
 {
     let config = config_of(alloc, store, options.queue, options.every, options.epoch)?;
     let names = store.names.as_slice();
@@ -162,7 +171,9 @@ fn load_store<H: Threads + Wait + Clone + Send + Sync + Drop + 'static, W: Write
 ) -> Result<(), ProgramFault>
     requires parts { IsParts store.now.parts }
     requires tenants { AreTenants store.now.names.items }
-    ensures { HasLoaded (store_view store.now.parts store.now.limits store.now.names.items options.queue options.every options.epoch) (load_view options) store.now.names.items
+    ensures { let names = store.now.names.items in
+        HasLoaded (store_view store.now.parts store.now.limits names
+        options.queue options.every options.epoch) (load_view options) names
         (W.contents writer.old) (W.contents writer.new) result }
 {
     let config = config_of(alloc, store, options.queue, options.every, options.epoch)?;
@@ -196,7 +207,8 @@ fn config_of(
     requires some_calls { 0 < every }
     requires few_calls { every ≤ 65536 }
     requires few_events { epoch ≤ 1048576 }
-    ensures { IfOk result (λ config. config_view config ≡ store_view store.now.parts store.now.limits store.now.names.items queue every epoch) }
+    ensures { IfOk result (λ config. config_view config
+        ≡ store_view store.now.parts store.now.limits store.now.names.items queue every epoch) }
 {
     Ok(Config {
         parts: store.parts,

@@ -21,7 +21,8 @@ pub(crate) fn add_counts(counts: &mut [Counts], given: &[(u32, u32, Epoch)])
 /// How many events the epochs have that are given for a partition. A sum past 2^128 - 1 stays there.
 fn counts_of(given: &[(u32, u32, Epoch)], place: usize) -> Counts
     ensures seats { result.of_seats ≡ counted_with 0 (events_given is_of_seat given.now place) }
-    ensures collector { result.of_collector ≡ counted_with 0 (events_given is_of_collector given.now place) }
+    ensures collector { result.of_collector
+        ≡ counted_with 0 (events_given is_of_collector given.now place) }
 {
     let mut counts = Counts {
         of_seats: 0,
@@ -39,7 +40,8 @@ fn counts_of(given: &[(u32, u32, Epoch)], place: usize) -> Counts
 /// Adds to the counts of a partition.
 fn add(counts: &mut Counts, of_seats: u128, of_collector: u128)
     ensures seats { counts.new.of_seats ≡ counted_with counts.old.of_seats of_seats }
-    ensures collector { counts.new.of_collector ≡ counted_with counts.old.of_collector of_collector }
+    ensures collector { counts.new.of_collector
+        ≡ counted_with counts.old.of_collector of_collector }
 {
     counts.of_seats = counts.of_seats.saturating_add(of_seats);
     counts.of_collector = counts.of_collector.saturating_add(of_collector);

@@ -34,7 +34,8 @@ pub(crate) fn put_before(
 
 /// The place of each seat's first transcript.
 fn places_of(alloc: Global, transcripts: &[Transcript]) -> Result<TranscriptIndex, AllocError>
-    ensures { IfOk result (λ places. AreFirstPlaces transcripts.now (length transcripts.now) places) }
+    ensures { IfOk result
+        (λ places. AreFirstPlaces transcripts.now (length transcripts.now) places) }
 {
     let mut places = IndexMap::new(alloc);
     for place in 0..transcripts.len() {

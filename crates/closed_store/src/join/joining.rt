@@ -59,7 +59,8 @@ fn epochs_for<'a>(
     partition: u32,
     tenant: u32,
 ) -> Result<Vec<&'a Epoch>, AllocError>
-    ensures { IfOk result (λ own. map (λ e. e.now) own.items ≡ given_for given.now partition tenant) }
+    ensures { IfOk result (λ own. map (λ e. e.now) own.items
+        ≡ given_for given.now partition tenant) }
 {
     let mut own = Vec::new(alloc);
     for part in given {
@@ -100,8 +101,10 @@ fn join_journal(
     tenant: u32,
     journal: Journal,
 ) -> Result<Journal, JoinFault>
-    ensures joined { IfOk result (λ j. IsJoined limits.now (given_for given.now partition tenant) (left_in journal) j) }
-    ensures base { IsErrOf result JoinFault.Base → Fit (room_for limits.now) (given_for given.now partition tenant) (left_in journal) → ⊥ }
+    ensures joined { IfOk result
+        (λ j. IsJoined limits.now (given_for given.now partition tenant) (left_in journal) j) }
+    ensures base { IsErrOf result JoinFault.Base
+        → Fit (room_for limits.now) (given_for given.now partition tenant) (left_in journal) → ⊥ }
     ensures faults { IfErr result (λ f. (f ≡ JoinFault.Base) ⊎ (f ≡ JoinFault.OutOfMemory)) }
 {
     let left = Epoch {
@@ -121,8 +124,10 @@ fn join_epochs(
     tenant: u32,
     left: &Epoch,
 ) -> Result<Journal, JoinFault>
-    ensures joined { IfOk result (λ j. IsJoined limits.now (given_for given.now partition tenant) left.now j) }
-    ensures base { IsErrOf result JoinFault.Base → Fit (room_for limits.now) (given_for given.now partition tenant) left.now → ⊥ }
+    ensures joined { IfOk result
+        (λ j. IsJoined limits.now (given_for given.now partition tenant) left.now j) }
+    ensures base { IsErrOf result JoinFault.Base
+        → Fit (room_for limits.now) (given_for given.now partition tenant) left.now → ⊥ }
     ensures faults { IfErr result (λ f. (f ≡ JoinFault.Base) ⊎ (f ≡ JoinFault.OutOfMemory)) }
 {
     let mut epochs = epochs_for(alloc, given, partition, tenant)?;
@@ -147,8 +152,10 @@ fn join_row(
     row: Vec<Journal>,
 ) -> Result<Vec<Journal>, JoinFault>
     requires { length limits.now ≤ 64 }
-    ensures joined { IfOk result (λ joined. IsRowJoined limits.now given.now partition row.items joined.items) }
-    ensures base { IsErrOf result JoinFault.Base → RowFits limits.now given.now partition row.items → ⊥ }
+    ensures joined { IfOk result
+        (λ joined. IsRowJoined limits.now given.now partition row.items joined.items) }
+    ensures base { IsErrOf result JoinFault.Base → RowFits limits.now given.now partition row.items
+        → ⊥ }
     ensures faults { IfErr result (λ f. (f ≡ JoinFault.Base) ⊎ (f ≡ JoinFault.OutOfMemory)) }
 {
     let mut joined = Vec::new(alloc);
@@ -175,7 +182,8 @@ fn join_rows(
 ) -> Result<Vec<Vec<Journal>>, JoinFault>
     requires few { length limits.now ≤ 64 }
     requires known { AreKnown given.now rows.items }
-    ensures joined { IfOk result (λ joined. AreJoined limits.now given.now rows.items joined.items) }
+    ensures joined { IfOk result
+        (λ joined. AreJoined limits.now given.now rows.items joined.items) }
     ensures base { IsErrOf result JoinFault.Base → AllFit limits.now given.now rows.items → ⊥ }
     ensures faults { IfErr result (λ f. (f ≡ JoinFault.Base) ⊎ (f ≡ JoinFault.OutOfMemory)) }
 {
@@ -234,12 +242,17 @@ impl Closed {
         entries: Vec<(u64, EntryList)>,
     ) -> Result<Closed, JoinFault>
         ensures config { IfOk result (λ c. c.config ≡ self.config) }
-        ensures journals { IfOk result (λ c. AreJoined self.config.limits.items epochs.items self.journals.items c.journals.items) }
+        ensures journals { IfOk result
+            (λ c.
+            AreJoined self.config.limits.items epochs.items self.journals.items c.journals.items) }
         ensures rise { IfOk result (λ c. AllRise c.journals.items) }
         ensures sound { IfOk result (λ c. AllSound self.config.limits.items c.journals.items) }
-        ensures counts { IfOk result (λ c. AreCounted epochs.items self.counts.items c.counts.items) }
-        ensures transcripts { IfOk result (λ c. AreFilled entries.items self.transcripts.items c.transcripts.items) }
-        ensures base { IsErrOf result JoinFault.Base → AllFit self.config.limits.items epochs.items self.journals.items → ⊥ }
+        ensures counts { IfOk result
+            (λ c. AreCounted epochs.items self.counts.items c.counts.items) }
+        ensures transcripts { IfOk result
+            (λ c. AreFilled entries.items self.transcripts.items c.transcripts.items) }
+        ensures base { IsErrOf result JoinFault.Base
+            → AllFit self.config.limits.items epochs.items self.journals.items → ⊥ }
         ensures numbers { IsErrOf result JoinFault.Numbers
             → AllFit self.config.limits.items epochs.items self.journals.items
             × NoneRise self.config.limits.items epochs.items self.journals.items }

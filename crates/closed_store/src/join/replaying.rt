@@ -18,9 +18,11 @@ fn serve_all(book: &mut Book, events: &EventList) -> Result<bool, OutOfMemory>
     ensures there { 0 < length book.new }
     ensures replayed { IfOk result (λ b. IsTrue b → (limits : Bounds) (before : List Happened)
         → IsAmid limits (room_for limits) before [] book.old
-        → AreRightReplies (room_for limits) before events.now.items × IsAmid limits (room_for limits) before events.now.items book.new) }
+        → AreRightReplies (room_for limits) before events.now.items
+        × IsAmid limits (room_for limits) before events.now.items book.new) }
     ensures differs { IfOk result (λ b. (limits : Bounds) (before : List Happened)
-        → IsAmid limits (room_for limits) before [] book.old → AreRightReplies (room_for limits) before events.now.items → IsTrue b) }
+        → IsAmid limits (room_for limits) before [] book.old
+        → AreRightReplies (room_for limits) before events.now.items → IsTrue b) }
 {
     for place in 0..events.len() {
         let event = events.event(place);
@@ -72,7 +74,8 @@ fn is_base(one: &Base, other: &Base) -> bool
 /// Whether these are the epochs of one journal from its first on, as a book of these limits gives them. The one error is
 /// that an allocation failed.
 pub(crate) fn replay(alloc: Global, limits: &Limits, epochs: &[&Epoch]) -> Result<bool, OutOfMemory>
-    ensures { IfOk result (λ b. IsTrue b ↔ AreInTurn (room_for limits.now) (map (λ e. e.now) epochs.now)) }
+    ensures { IfOk result (λ b. IsTrue b
+        ↔ AreInTurn (room_for limits.now) (map (λ e. e.now) epochs.now)) }
 {
     let mut book = Book::open(alloc, &[*limits])?;
     for (place, epoch) in epochs.iter().enumerate() {

@@ -40,7 +40,9 @@ pub(crate) fn do_rise(alloc: Global, events: &EventList) -> Result<bool, AllocEr
 
 /// Whether the numbers of each seat rise in each of these journals.
 fn row_rises(alloc: Global, row: &[Journal]) -> Result<bool, AllocError>
-    ensures { IfOk result (λ b. IsTrue b ↔ ((tenant : ℕ) (journal : Kept) → slice_get row.now tenant ≡ Some journal → DoRise journal.events.items)) }
+    ensures { IfOk result (λ b. IsTrue b
+        ↔ ((tenant : ℕ) (journal : Kept) → slice_get row.now tenant ≡ Some journal
+        → DoRise journal.events.items)) }
 {
     for journal in row {
         if !do_rise(alloc, &journal.events)? {

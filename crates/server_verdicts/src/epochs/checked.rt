@@ -108,8 +108,10 @@ impl Checked {
     /// The base at the end of an epoch that follows the last one: it has the next number, begins at the base at the end of
     /// the last one, and is sound. None exactly where it does not follow.
     pub fn follow(&self, alloc: Global, epoch: &Epoch) -> Result<Option<Base>, OutOfMemory>
-        ensures exact { IfOk result (λ end. IsSome end ↔ IsNextEpoch self.now.number self.now.end epoch.now) }
-        ensures end { IfOk result (λ end. IfSome end (IsEnd epoch.now.base epoch.now.events.items)) }
+        ensures exact { IfOk result (λ end. IsSome end
+            ↔ IsNextEpoch self.now.number self.now.end epoch.now) }
+        ensures end { IfOk result
+            (λ end. IfSome end (IsEnd epoch.now.base epoch.now.events.items)) }
     {
         if epoch.number == 0 || epoch.number - 1 != self.number {
             return Ok(None);
@@ -123,7 +125,8 @@ impl Checked {
     /// Loses the journal: an epoch of it did not come here.
     pub(crate) fn lose(&mut self)
         ensures not_right { self.new.standing ≢ Standing.Right }
-        ensures unknown { self.old.standing ≡ Standing.Right → self.new.standing ≡ Standing.Unknown }
+        ensures unknown { self.old.standing ≡ Standing.Right
+            → self.new.standing ≡ Standing.Unknown }
         ensures stays { self.old.standing ≢ Standing.Right → self.new ≡ self.old }
         ensures limits { self.new.limits ≡ self.old.limits }
     {
@@ -140,10 +143,13 @@ impl Checked {
     pub fn take(&mut self, alloc: Global, epoch: Epoch) -> Taken
         ensures receipt { result.number ≡ epoch.number }
         ensures right { self.new.standing ≡ Standing.Right → FollowsEpoch self.old epoch self.new }
-        ensures wrong { self.old.standing ≡ Standing.Right → IsNextEpoch self.old.number self.old.end epoch
+        ensures wrong { self.old.standing ≡ Standing.Right
+            → IsNextEpoch self.old.number self.old.end epoch
             → self.new.standing ≢ Standing.Wrong }
-        ensures kept { self.old.standing ≡ Standing.Right → self.new.standing ≡ Standing.Wrong → self.new.wrong ≡ Some epoch }
-        ensures before { self.new.standing ≡ Standing.Wrong → (self.new.number ≡ self.old.number) × (self.new.end ≡ self.old.end) }
+        ensures kept { self.old.standing ≡ Standing.Right → self.new.standing ≡ Standing.Wrong
+            → self.new.wrong ≡ Some epoch }
+        ensures before { self.new.standing ≡ Standing.Wrong
+            → (self.new.number ≡ self.old.number) × (self.new.end ≡ self.old.end) }
         ensures stays { self.old.standing ≢ Standing.Right → self.new ≡ self.old }
         ensures limits { self.new.limits ≡ self.old.limits }
     {
@@ -180,7 +186,8 @@ fn nothing_yet(alloc: Global, limits: &Limits) -> Reached
 /// not follow, the end stays. The one fault is that an allocation failed.
 fn go_on(alloc: Global, number: u64, end: &mut Reached, epoch: &Epoch) -> Result<bool, OutOfMemory>
     ensures exact { IfOk result (λ yes. IsTrue yes ↔ IsNextEpoch number end.old epoch.now) }
-    ensures led { IfOk result (λ yes. IsTrue yes → IsEnd epoch.now.base epoch.now.events.items end.new) }
+    ensures led { IfOk result (λ yes. IsTrue yes
+        → IsEnd epoch.now.base epoch.now.events.items end.new) }
     ensures stays { IfOk result (λ yes. yes ≡ false → end.new ≡ end.old) }
 {
     if epoch.number == 0 || epoch.number - 1 != number {

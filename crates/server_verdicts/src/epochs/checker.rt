@@ -59,7 +59,8 @@ impl<H: Wait> Sink for Checker<H> {
 impl<H> Checker<H> {
     /// The end that sends to the thread of a partition, if that is there.
     fn queue_of(&self, partition: u32) -> Option<&Sender<QueuedEpoch>>
-        ensures there { IfSome result (λ queue. slice_get self.now.queues.items partition ≡ Some queue.now) }
+        ensures there { IfSome result (λ queue. slice_get self.now.queues.items partition
+            ≡ Some queue.now) }
         ensures not_there { IfNone result (slice_get self.now.queues.items partition ≡ None) }
     {
         self.queues.get(partition as usize)
@@ -82,8 +83,10 @@ impl Checking {
         parts: u32,
         limits: &[Limits],
     ) -> Result<(Checking, Checker<H>), HubFault>
-        ensures places { IfOk result (λ started. HavePlaces (arc_value started.0.known).items parts (length limits.now)) }
-        ensures shared { IfOk result (λ started. arc_value started.1.known ≡ arc_value started.0.known) }
+        ensures places { IfOk result
+            (λ started. HavePlaces (arc_value started.0.known).items parts (length limits.now)) }
+        ensures shared { IfOk result (λ started. arc_value started.1.known
+            ≡ arc_value started.0.known) }
         ensures queues { IfOk result (λ started. vec_len started.1.queues ≡ parts) }
         ensures threads { IfOk result (λ started. vec_len started.0.threads ≡ parts) }
     {
@@ -156,7 +159,8 @@ fn start_one<H: Threads + Wait + Clone + Send + Drop + 'static>(
     ensures queues { OnOk result (vec_len queues.new ≡ vec_len queues.old + 1) }
     ensures threads { OnOk result (vec_len threads.new ≡ vec_len threads.old + 1) }
     ensures failed { OnErr result ((queues.new ≡ queues.old) × (threads.new ≡ threads.old)) }
-    ensures room { (vec_capacity queues.new ≡ vec_capacity queues.old) × (vec_capacity threads.new ≡ vec_capacity threads.old) }
+    ensures room { (vec_capacity queues.new ≡ vec_capacity queues.old)
+        × (vec_capacity threads.new ≡ vec_capacity threads.old) }
 {
     let (queue, cuts) = bounded(alloc, MOST_WAITING)?;
     let handle = rt.clone()?;
@@ -217,7 +221,8 @@ pub fn progress_at<R: Wait>(rt: &R, known: &Known, partition: u32, tenant: u32) 
 
 /// What is known of a tenant's journal at a partition, if they are there.
 fn journal_of(known: &Known, partition: u32, tenant: u32) -> Option<&Mutex<Checked>>
-    ensures there { IfSome result (λ checked. at_place known.now.items partition tenant ≡ Some checked.now) }
+    ensures there { IfSome result (λ checked. at_place known.now.items partition tenant
+        ≡ Some checked.now) }
     ensures not_there { IfNone result (at_place known.now.items partition tenant ≡ None) }
 {
     known.get(partition as usize)?.get(tenant as usize)

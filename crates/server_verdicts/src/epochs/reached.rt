@@ -67,8 +67,10 @@ impl Reached {
     /// as before is. The one fault is that an allocation failed.
     pub(crate) fn play(&mut self, alloc: Global, epoch: &Epoch) -> Result<bool, OutOfMemory>
         requires { epoch.now.base ≡ self.old }
-        ensures exact { IfOk result (λ yes. IsTrue yes ↔ IsSoundFrom epoch.now.base epoch.now.events.items) }
-        ensures led { IfOk result (λ yes. IsTrue yes → IsEnd epoch.now.base epoch.now.events.items self.new) }
+        ensures exact { IfOk result (λ yes. IsTrue yes
+            ↔ IsSoundFrom epoch.now.base epoch.now.events.items) }
+        ensures led { IfOk result (λ yes. IsTrue yes
+            → IsEnd epoch.now.base epoch.now.events.items self.new) }
         ensures stays { IfOk result (λ yes. yes ≡ false → self.new ≡ self.old) }
     {
         let is_sound = play_at(alloc, &mut self.place, epoch)?;
@@ -83,8 +85,10 @@ impl Reached {
 /// there was none. Where it is not, the place holds what some of its calls left. The one fault is that an allocation failed.
 fn play_at(alloc: Global, place: &mut ReachedContent, epoch: &Epoch) -> Result<bool, OutOfMemory>
     requires { epoch.now.base ≡ content_at place.old }
-    ensures exact { IfOk result (λ yes. IsTrue yes ↔ IsSoundFrom epoch.now.base epoch.now.events.items) }
-    ensures led { IfOk result (λ yes. IsTrue yes → IsEnd epoch.now.base epoch.now.events.items (content_at place.new)) }
+    ensures exact { IfOk result (λ yes. IsTrue yes
+        ↔ IsSoundFrom epoch.now.base epoch.now.events.items) }
+    ensures led { IfOk result (λ yes. IsTrue yes
+        → IsEnd epoch.now.base epoch.now.events.items (content_at place.new)) }
 {
     if let ReachedContent::Replica(replica) = place {
         return play_epoch(alloc, replica, epoch);

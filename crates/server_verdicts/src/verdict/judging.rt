@@ -38,7 +38,8 @@ pub fn tell_checks<W: Write>(
     names: &[Name],
     writer: &mut W,
 ) -> Result<(), ProgramFault>
-    ensures { TellsChecks endings.now names.now (W.contents writer.old) (W.contents writer.new) result }
+    ensures { TellsChecks endings.now names.now (W.contents writer.old)
+        (W.contents writer.new) result }
 {
     let tenants = endings.limits.len();
     tell_all(alloc, endings, b"checked ", tenants, names, writer)
@@ -69,7 +70,9 @@ fn is_right_in(
     limits: &Limits,
     tenant: u32,
 ) -> Result<bool, OutOfMemory>
-    ensures told { IfOk result (λ yes. MatchBool yes (IsRightIn limits.now tenant row.now) (IsWrongIn limits.now tenant row.now)) }
+    ensures told { IfOk result
+        (λ yes.
+        MatchBool yes (IsRightIn limits.now tenant row.now) (IsWrongIn limits.now tenant row.now)) }
     ensures untold { IfErr result (λ _. IsUntoldIn limits.now tenant row.now) }
 {
     match row.get(tenant as usize) {
@@ -81,7 +84,8 @@ fn is_right_in(
 /// Whether the journal is under these limits, its epochs were right, and the one that was left in it follows them. Where it
 /// is under others, or an epoch of it was not checked, that counts as an allocation failure.
 fn is_right(alloc: Global, ending: &Ending, limits: &Limits) -> Result<bool, OutOfMemory>
-    ensures told { IfOk result (λ yes. MatchBool yes (IsRight limits.now ending.now) (IsWrong limits.now ending.now)) }
+    ensures told { IfOk result
+        (λ yes. MatchBool yes (IsRight limits.now ending.now) (IsWrong limits.now ending.now)) }
     ensures untold { IfErr result (λ _. IsUntold limits.now ending.now) }
 {
     if !ending.checked.is_under(limits) {

@@ -16,7 +16,8 @@ fn numbers_for(
     partition: u32,
     tenant: u32,
 ) -> Result<Vec<u64>, AllocError>
-    ensures { IfOk result (λ numbers. numbers.items ≡ map (λ e. e.number) (given_for given.now partition tenant)) }
+    ensures { IfOk result (λ numbers. numbers.items
+        ≡ map (λ e. e.number) (given_for given.now partition tenant)) }
 {
     let mut numbers = Vec::new(alloc);
     for part in given {
@@ -47,7 +48,8 @@ fn are_all_below(
     tenant: u32,
     journal: &Journal,
 ) -> Result<bool, AllocError>
-    ensures { IfOk result (λ b. IsTrue b → AreAllBelow journal.now.number (given_for given.now partition tenant)) }
+    ensures { IfOk result (λ b. IsTrue b
+        → AreAllBelow journal.now.number (given_for given.now partition tenant)) }
 {
     let mut numbers = numbers_for(alloc, given, partition, tenant)?;
     numbers.sort()?;
@@ -61,7 +63,9 @@ fn are_all_in_row(
     partition: u32,
     row: &[Journal],
 ) -> Result<bool, AllocError>
-    ensures { IfOk result (λ b. IsTrue b → (tenant : ℕ) (journal : Left) → slice_get row.now tenant ≡ Some journal → AreAllBelow journal.number (given_for given.now partition tenant)) }
+    ensures { IfOk result (λ b. IsTrue b → (tenant : ℕ) (journal : Left)
+        → slice_get row.now tenant ≡ Some journal
+        → AreAllBelow journal.number (given_for given.now partition tenant)) }
 {
     let Ok(tenants) = u32::try_from(row.len()) else {
         return Err(AllocError);
@@ -80,7 +84,9 @@ fn are_all_in_rows(
     given: &[(u32, u32, Epoch)],
     rows: &[Vec<Journal>],
 ) -> Result<bool, AllocError>
-    ensures { IfOk result (λ b. IsTrue b → (partition tenant : ℕ) (journal : Left) → journal_at rows.now partition tenant ≡ Some journal → AreAllBelow journal.number (given_for given.now partition tenant)) }
+    ensures { IfOk result (λ b. IsTrue b → (partition tenant : ℕ) (journal : Left)
+        → journal_at rows.now partition tenant ≡ Some journal
+        → AreAllBelow journal.number (given_for given.now partition tenant)) }
 {
     let Ok(partitions) = u32::try_from(rows.len()) else {
         return Err(AllocError);

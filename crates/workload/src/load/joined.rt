@@ -33,7 +33,8 @@ pub(crate) fn tell_kept<W: Write>(
     names: &[Name],
     writer: &mut W,
 ) -> Result<(), ProgramFault>
-    ensures { IsToldOfKept closed epochs.items names.now (W.contents writer.old) (W.contents writer.new) result }
+    ensures { IsToldOfKept closed epochs.items names.now (W.contents writer.old)
+        (W.contents writer.new) result }
 {
     tell_begun(alloc, &closed, names, writer)?;
     tell_joined(alloc, closed, epochs, names, writer)
@@ -48,7 +49,8 @@ fn tell_joined<W: Write>(
     names: &[Name],
     writer: &mut W,
 ) -> Result<(), ProgramFault>
-    ensures { TellsJoined closed epochs.items names.now (W.contents writer.old) (W.contents writer.new) result }
+    ensures { TellsJoined closed epochs.items names.now (W.contents writer.old)
+        (W.contents writer.new) result }
 {
     let tenants = closed.config.limits.len();
     let answer = closed.join(epochs, Vec::new(alloc));
@@ -65,7 +67,8 @@ fn tell_answer<W: Write>(
     writer: &mut W,
 ) -> Result<(), ProgramFault>
     requires { tenants ≤ 64 }
-    ensures { TellsAnswer tenants answer names.now (W.contents writer.old) (W.contents writer.new) result }
+    ensures { TellsAnswer tenants answer names.now (W.contents writer.old)
+        (W.contents writer.new) result }
 {
     match answer {
         Ok(joined) => tell_verdicts(alloc, &joined, names, writer),

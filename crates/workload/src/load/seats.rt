@@ -58,7 +58,8 @@ pub(crate) fn run_seats<H: Threads + Wait + Sync>(
 ) -> Result<Vec<Transcript>, ProgramFault>
     requires tenants { tenants ≤ 64 }
     requires seats { seats ≤ 16 }
-    ensures all { IfOk result (λ ts. AreOfSeats orders.seed orders.rounds orders.keys (seats_of tenants seats) ts.items) }
+    ensures all { IfOk result
+        (λ ts. AreOfSeats orders.seed orders.rounds orders.keys (seats_of tenants seats) ts.items) }
     ensures refused { IfErr result (λ fault. (fault ≡ NoMemory) ⊎ (fault ≡ Device)) }
 {
     thread::scope(
@@ -67,7 +68,10 @@ pub(crate) fn run_seats<H: Threads + Wait + Sync>(
         |scope| -> Result<Vec<Transcript>, ProgramFault>
             requires tenants { tenants ≤ 64 }
             requires seats { seats ≤ 16 }
-            ensures all { IfOk result (λ ts. AreOfSeats orders.seed orders.rounds orders.keys (seats_of tenants seats) ts.items) }
+            ensures all { IfOk result
+                (λ ts.
+                AreOfSeats orders.seed orders.rounds orders.keys
+                (seats_of tenants seats) ts.items) }
             ensures refused { IfErr result (λ fault. (fault ≡ NoMemory) ⊎ (fault ≡ Device)) }
         {
             let Ok(mut handles) = Vec::with_capacity(alloc, tenants as usize * usize::from(seats))
@@ -102,7 +106,10 @@ fn join_seats<H: Threads>(
     orders: Orders,
 ) -> Result<Vec<Transcript>, ProgramFault>
     requires { All (λ h. h.promise.orders ≡ orders) handles.items }
-    ensures all { IfOk result (λ ts. AreOfSeats orders.seed orders.rounds orders.keys (map (λ h. (h.promise.tenant, h.promise.number)) handles.items) ts.items) }
+    ensures all { IfOk result
+        (λ ts.
+        AreOfSeats orders.seed orders.rounds orders.keys
+        (map (λ h. (h.promise.tenant, h.promise.number)) handles.items) ts.items) }
     ensures refused { IfErr result (λ fault. fault ≡ NoMemory) }
 {
     let mut transcripts = Vec::new(alloc);
@@ -124,8 +131,12 @@ fn join_seat<H: Threads>(
     handle: PromisedHandle<Option<Transcript>, LoadSeat>,
     transcripts: &mut Vec<Transcript>,
 ) -> bool
-    ensures kept { result ≡ true → (t : Left) × IsOfSeat handle.promise.orders.seed handle.promise.orders.rounds handle.promise.orders.keys handle.promise.tenant handle.promise.number t
-        × (transcripts.new.items ≡ transcripts.old.items ++ t ∷ []) }
+    ensures kept { result ≡ true
+        → (let promise = handle.promise in
+        let orders = promise.orders in
+        (t : Left)
+        × IsOfSeat orders.seed orders.rounds orders.keys promise.tenant promise.number t
+        × (transcripts.new.items ≡ transcripts.old.items ++ t ∷ [])) }
     ensures same { result ≡ false → transcripts.new.items ≡ transcripts.old.items }
 {
     match handle.join(rt) {
@@ -137,7 +148,8 @@ fn join_seat<H: Threads>(
 /// Does the rounds of one client. It answers its seat's transcript, or nothing where the seat found no memory, or the tenant
 /// may not have so many clients.
 fn run_seat<H: Wait>(rt: &H, hub: &Hub<Open>, of: LoadSeat) -> Option<Transcript>
-    ensures { IfSome result (IsOfSeat of.orders.seed of.orders.rounds of.orders.keys of.tenant of.number) }
+    ensures { IfSome result
+        (IsOfSeat of.orders.seed of.orders.rounds of.orders.keys of.tenant of.number) }
 {
     let client = Client::new(of.number)?;
     let base = Counter::new(0)?;
@@ -154,7 +166,9 @@ fn run_seat<H: Wait>(rt: &H, hub: &Hub<Open>, of: LoadSeat) -> Option<Transcript
 fn run_rounds<H: Wait>(rt: &H, seat: Seat<'_, Open>, draws: Draws, orders: Orders) -> Transcript
     ensures name { IsNamed result seat.entry.name }
     // What it began are some of the acts that it drew, in their order.
-    ensures began { seat.entry.entries ≡ [] → ArePicked (filter_map act_in result.entries.items) (acts_drawn seat.entry.name.client orders.keys orders.rounds draws.state) }
+    ensures began { seat.entry.entries ≡ []
+        → ArePicked (filter_map act_in result.entries.items)
+        (acts_drawn seat.entry.name.client orders.keys orders.rounds draws.state) }
 {
     let mut seat = seat;
     let mut draws = draws;
@@ -169,7 +183,8 @@ fn run_rounds<H: Wait>(rt: &H, seat: Seat<'_, Open>, draws: Draws, orders: Order
 fn run_round<H: Wait>(rt: &H, seat: &mut Seat<'_, Open>, nth: u32, round: &Round, keys: u32)
     requires { 0 < keys }
     // It does just what was drawn.
-    ensures served { (answer : Told) × IsServed (act_of_round seat.old.name.client keys nth round.now) seat.old answer seat.new }
+    ensures served { (answer : Told)
+        × IsServed (act_of_round seat.old.name.client keys nth round.now) seat.old answer seat.new }
     ensures name { seat.new.name ≡ seat.old.name }
 {
     let count = (round.count as usize).min(MOST_KEYS);

@@ -28,7 +28,8 @@ pub(crate) fn tell_begun<W: Write>(
     names: &[Name],
     writer: &mut W,
 ) -> Result<(), ProgramFault>
-    ensures { TellsBegun closed.now names.now (W.contents writer.old) (W.contents writer.new) result }
+    ensures { TellsBegun closed.now names.now (W.contents writer.old)
+        (W.contents writer.new) result }
 {
     for tenant in 0..closed.config.limits.len().min(names.len()) {
         let begun = count_begun(closed, tenant as u32);
@@ -39,14 +40,16 @@ pub(crate) fn tell_begun<W: Write>(
 
 /// How many operations the sessions of a tenant began. Counts stop at the greatest number.
 fn count_begun(closed: &Closed, tenant: u32) -> Begun
-    ensures { record { puts = result.puts; gets = result.gets; finds = result.finds } ≡ counts_of closed.now tenant }
+    ensures { record { puts = result.puts; gets = result.gets; finds = result.finds }
+        ≡ counts_of closed.now tenant }
 {
     count_in(closed.transcripts.as_slice(), tenant)
 }
 
 /// How many operations these sessions began that are of a tenant.
 fn count_in(transcripts: &[Transcript], tenant: u32) -> Begun
-    ensures { record { puts = result.puts; gets = result.gets; finds = result.finds } ≡ counts_in transcripts.now tenant }
+    ensures { record { puts = result.puts; gets = result.gets; finds = result.finds }
+        ≡ counts_in transcripts.now tenant }
 {
     let mut begun = Begun {
         puts: 0,
@@ -62,9 +65,12 @@ fn count_in(transcripts: &[Transcript], tenant: u32) -> Begun
 impl Begun {
     /// With the operations that a session began, where it is of this tenant.
     fn with_session(self, tenant: u32, transcript: &Transcript) -> Begun
-        ensures puts { result.puts ≡ told_count (self.puts + counts_begun (λ c. c.puts) tenant transcript.now) }
-        ensures gets { result.gets ≡ told_count (self.gets + counts_begun (λ c. c.gets) tenant transcript.now) }
-        ensures finds { result.finds ≡ told_count (self.finds + counts_begun (λ c. c.finds) tenant transcript.now) }
+        ensures puts { result.puts
+            ≡ told_count (self.puts + counts_begun (λ c. c.puts) tenant transcript.now) }
+        ensures gets { result.gets
+            ≡ told_count (self.gets + counts_begun (λ c. c.gets) tenant transcript.now) }
+        ensures finds { result.finds
+            ≡ told_count (self.finds + counts_begun (λ c. c.finds) tenant transcript.now) }
     {
         if transcript.tenant == tenant {
             self.with_all(&transcript.entries)
@@ -75,9 +81,12 @@ impl Begun {
 
     /// With the operations that these entries say were begun.
     fn with_all(self, entries: &EntryList) -> Begun
-        ensures puts { result.puts ≡ told_count (self.puts + sum_by (λ e. (counts_of_entry e).puts) entries.now.items) }
-        ensures gets { result.gets ≡ told_count (self.gets + sum_by (λ e. (counts_of_entry e).gets) entries.now.items) }
-        ensures finds { result.finds ≡ told_count (self.finds + sum_by (λ e. (counts_of_entry e).finds) entries.now.items) }
+        ensures puts { result.puts
+            ≡ told_count (self.puts + sum_by (λ e. (counts_of_entry e).puts) entries.now.items) }
+        ensures gets { result.gets
+            ≡ told_count (self.gets + sum_by (λ e. (counts_of_entry e).gets) entries.now.items) }
+        ensures finds { result.finds
+            ≡ told_count (self.finds + sum_by (λ e. (counts_of_entry e).finds) entries.now.items) }
     {
         let mut begun = self;
         for at in 0..entries.len() {
@@ -90,7 +99,8 @@ impl Begun {
     fn with_operation(self, operation: Option<Operation>) -> Begun
         ensures puts { result.puts ≡ told_count (self.puts + (counts_of_operation operation).puts) }
         ensures gets { result.gets ≡ told_count (self.gets + (counts_of_operation operation).gets) }
-        ensures finds { result.finds ≡ told_count (self.finds + (counts_of_operation operation).finds) }
+        ensures finds { result.finds
+            ≡ told_count (self.finds + (counts_of_operation operation).finds) }
     {
         let Begun { puts, gets, finds } = self;
         match operation {
@@ -121,8 +131,13 @@ fn write_begun<W: Write>(
     begun: Begun,
     writer: &mut W,
 ) -> Result<(), ProgramFault>
-    ensures ok { OnOk result (Appends (W.contents writer.old) (W.contents writer.new) (load_line name (record { puts = begun.puts; gets = begun.gets; finds = begun.finds }))) }
-    ensures err { IfErr result (BreaksOff (λ line. line ≡ load_line name (record { puts = begun.puts; gets = begun.gets; finds = begun.finds })) (W.contents writer.old) (W.contents writer.new)) }
+    ensures ok { OnOk result
+        (Appends (W.contents writer.old) (W.contents writer.new)
+        (load_line name (record { puts = begun.puts; gets = begun.gets; finds = begun.finds }))) }
+    ensures err { IfErr result
+        (BreaksOff (λ line. line
+        ≡ load_line name (record { puts = begun.puts; gets = begun.gets; finds = begun.finds }))
+        (W.contents writer.old) (W.contents writer.new)) }
 {
     let mut line = Vec::from_slice(alloc, b"load ")?;
     line.extend_from_slice(name.as_bytes())?;
