@@ -8,3 +8,4 @@ pub mod Showing
 pub mod CallsLeft
 pub mod Begins
 pub mod Sessions
+pub mod Asking

@@ -58,7 +58,8 @@ impl Begin<'_> {
 
     /// How many calls it sends as it begins, up to 64.
     pub fn calls(&self) -> u32
-        ensures sent { (setup : Setup) (history : History) (act : Asked) → IsBegin setup history act self.now
+        ensures sent { (setup : Setup) (history : History) (act : Asked)
+            → IsBegin setup history act self.now
             → result ≡ length (effect setup history act).sent }
         ensures few { result ≤ 64 }
     {
@@ -68,8 +69,10 @@ impl Begin<'_> {
     /// The answer to the step that begins it, where it sent these rows.
     pub fn answer(&self, rows: Rows) -> Answer
         ensures value { result ≡ begin_answer self.now rows }
-        ensures told { (setup : Setup) (history : History) (act : Asked) → IsBegin setup history act self.now
-            → rows ≡ next_rows history (length (effect setup history act).sent) → (effect setup history act).answer ≡ result }
+        ensures told { (setup : Setup) (history : History) (act : Asked)
+            → IsBegin setup history act self.now
+            → rows ≡ next_rows history (length (effect setup history act).sent)
+            → (effect setup history act).answer ≡ result }
     {
         match self.kind {
             Beginning::Put(stamp, ..) => Answer::PutBegun(stamp, rows),
@@ -81,8 +84,10 @@ impl Begin<'_> {
     /// Does what `answer` does, and writes it into the caller's buffer.
     pub fn answer_into(&self, rows: Rows, answer: &mut Answer)
         ensures value { answer.new ≡ begin_answer self.now rows }
-        ensures told { (setup : Setup) (history : History) (act : Asked) → IsBegin setup history act self.now
-            → rows ≡ next_rows history (length (effect setup history act).sent) → (effect setup history act).answer ≡ answer.new }
+        ensures told { (setup : Setup) (history : History) (act : Asked)
+            → IsBegin setup history act self.now
+            → rows ≡ next_rows history (length (effect setup history act).sent)
+            → (effect setup history act).answer ≡ answer.new }
     {
         match self.kind {
             Beginning::Put(stamp, ..) => *answer = Answer::PutBegun(stamp, rows),

@@ -2,8 +2,8 @@
 ghost use Rattle.std.specs.Prelude.{◌≡◌, ◌<◌, ◌≤◌, false, length, map, slice_get};
 ghost use Rattle.std.specs.Option.{option_map_or};
 ghost use Rattle.stamps.specs.Bounds.{IsParts};
-ghost use Rattle.stamps.specs.Key.{IsTransactionKeys, sorted_keys};
-ghost use Rattle.plain_store.specs.Writing.{keys_written, record_for};
+ghost use Rattle.tenant_sessions.specs.Asking.{MayWrite, PutsCall};
+ghost use Rattle.plain_store.specs.Writing.{record_for};
 ghost use Rattle.tenant_sessions.specs.Parts.{Prepares, Commits, First, Second, Founds, reads_first, reads_second, is_commit_message, searches};
 
 use crate::write_records::WriteRecords;
@@ -166,7 +166,8 @@ fn searches(partition: u32, message: &Message) -> bool
 
 /// Whether there is a key at this place, from 0, and the call is a GET of its latest version.
 fn is_first_at(keys: &[Key], place: usize, call: &Call) -> bool
-    ensures { result ≡ option_map_or (λ key. reads_first key call.now) (slice_get keys.now place) false }
+    ensures { result
+        ≡ option_map_or (λ key. reads_first key call.now) (slice_get keys.now place) false }
 {
     match keys.get(place) {
         Some(key) => reads_first(key, call),
@@ -176,7 +177,8 @@ fn is_first_at(keys: &[Key], place: usize, call: &Call) -> bool
 
 /// Whether there is a late key at this place, from 0, and the call is a GET of some version of it by its stamp.
 fn is_second_at(late: &[Late], place: usize, call: &Call) -> bool
-    ensures { result ≡ option_map_or (λ own. reads_second own.key call.now) (slice_get late.now place) false }
+    ensures { result
+        ≡ option_map_or (λ own. reads_second own.key call.now) (slice_get late.now place) false }
 {
     match late.get(place) {
         Some(own) => reads_second(&own.key, call),
@@ -186,7 +188,9 @@ fn is_second_at(late: &[Late], place: usize, call: &Call) -> bool
 
 /// Whether there is a partition at this place, from 0, and the message's call is a COMMIT at it.
 fn is_commit_at(partitions: &[u8], place: usize, message: &Message) -> bool
-    ensures { result ≡ option_map_or (λ partition. is_commit_message partition message.now) (slice_get partitions.now place) false }
+    ensures { result
+        ≡ option_map_or (λ partition. is_commit_message partition message.now)
+        (slice_get partitions.now place) false }
 {
     match partitions.get(place) {
         Some(partition) => commits(u32::from(*partition), message),
@@ -195,8 +199,8 @@ fn is_commit_at(partitions: &[u8], place: usize, message: &Message) -> bool
 }
 
 impl CallBatch {
-    ghost use Rattle.std.specs.Prelude.{false, Some, None, if◌then◌else◌};
-    ghost use Rattle.tenant_sessions.specs.Parts.{batch_calls, is_answered_at, outgoing_of};
+    ghost use Rattle.std.specs.Prelude.{false, Some, None};
+    ghost use Rattle.tenant_sessions.specs.Parts.{batch_calls, is_answered_at};
 
     /// Searches by this tag.
     pub(crate) fn none(tag: Tag) -> CallBatch {
@@ -216,9 +220,7 @@ impl CallBatch {
 
     /// Makes of it the PREPAREs of these items under this stamp. The write set is that of the items.
     pub(crate) fn prepare(&mut self, stamp: Stamp, items: &[Item], writes: &WriteSet)
-        requires written { 0 < stamp }
-        requires keys { IsTransactionKeys (keys_written items.now) }
-        requires writes { writes.now ≡ sorted_keys (keys_written items.now) }
+        requires { MayWrite stamp items.now writes.now }
         ensures { self.new ≡ Prepares (map (record_for stamp items.now) items.now) }
     {
         self.versions.reset(stamp, items, writes);
@@ -277,9 +279,7 @@ impl CallBatch {
     /// is none, the message is as it was. A call has some hundreds of bytes, so it is written where it stays.
     pub(crate) fn call_into(&self, parts: u32, place: usize, message: &mut Message) -> bool
         requires { IsParts parts }
-        ensures told { (if result then Some (outgoing_of message.new) else None) ≡ slice_get (batch_calls parts self.now) place }
-        ensures rest { message.new ≡ record message.old { partition = message.new.partition; call = message.new.call } }
-        ensures unchanged { result ≡ false → message.new ≡ message.old }
+        ensures { PutsCall (batch_calls parts self.now) place result message.old message.new }
     {
         match self.kind {
             BatchKind::Preparing => self.versions.call_into(parts, place, message),
@@ -329,9 +329,8 @@ impl CallBatch {
     /// Writes the search by this tag at the partition of this number into the message, if there is such a partition.
     fn found_into(tag: Tag, parts: u32, partition: usize, message: &mut Message) -> bool
         requires { IsParts parts }
-        ensures told { (if result then Some (outgoing_of message.new) else None) ≡ slice_get (batch_calls parts (Founds tag)) partition }
-        ensures rest { message.new ≡ record message.old { partition = message.new.partition; call = message.new.call } }
-        ensures unchanged { result ≡ false → message.new ≡ message.old }
+        ensures { PutsCall
+            (batch_calls parts (Founds tag)) partition result message.old message.new }
     {
         if partition >= parts as usize {
             return false;

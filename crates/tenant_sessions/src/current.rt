@@ -1,8 +1,7 @@
 //! The transaction of a client that runs, if one does.
 ghost use Rattle.std.specs.Prelude.{◌≡◌, ◌<◌};
-ghost use Rattle.stamps.specs.Key.{IsTransactionKeys, sorted_keys};
-ghost use Rattle.plain_store.specs.Writing.{keys_written};
 ghost use Rattle.stamps.specs.Bounds.{IsParts};
+ghost use Rattle.tenant_sessions.specs.Asking.{MayWrite};
 
 use crate::MoveKind;
 use crate::begin::Beginning;
@@ -85,7 +84,8 @@ impl Current {
         requires tested { IsTested kind.now }
         requires parts { IsParts parts }
         ensures { (setup : Setup) → setup.partitions ≡ parts → MayBegin (request_begun kind.now)
-            → IsSome self.new × IfSome self.new (λ running. Starts setup (request_begun kind.now) running) }
+            → IsSome self.new
+            × IfSome self.new (λ running. Starts setup (request_begun kind.now) running) }
     {
         self.running.begin(kind, parts);
         self.is_running = true;
@@ -94,12 +94,11 @@ impl Current {
     /// Begins a write of these items under this stamp, in a store of so many partitions (1 to 64). The write set is that of the
     /// items.
     pub(crate) fn begin_put(&mut self, stamp: Stamp, items: &[Item], writes: &WriteSet, parts: u32)
-        requires written { 0 < stamp }
-        requires keys { IsTransactionKeys (keys_written items.now) }
-        requires writes { writes.now ≡ sorted_keys (keys_written items.now) }
+        requires write { MayWrite stamp items.now writes.now }
         requires parts { IsParts parts }
         ensures { (setup : Setup) → setup.partitions ≡ parts
-            → IsSome self.new × IfSome self.new (λ running. Starts setup (Writes stamp items.now) running) }
+            → IsSome self.new
+            × IfSome self.new (λ running. Starts setup (Writes stamp items.now) running) }
     {
         self.running.begin_put(stamp, items, writes, parts);
         self.is_running = true;
@@ -129,12 +128,17 @@ impl Current {
     /// read, and what it does, is put into the caller's buffers.
     pub(crate) fn take(&mut self, message: &Message, readings: &mut Readings, kind: &mut MoveKind)
         ensures idle { self.old ≡ None → (kind.new ≡ MoveKind.Ignored) × (self.new ≡ self.old) }
-        ensures shown { (setup : Setup) (request : Intent) (taken : List Sent) → IsShown setup request taken self.old
-            → Shows setup request taken message.now (moved kind.new readings.new) (λ replies. IsShown setup request replies self.new) }
-        ensures taken { (setup : Setup) (request : Intent) (taken : List Sent) (running : Running) → self.old ≡ Some running
+        ensures shown { (setup : Setup) (request : Intent) (taken : List Sent)
+            → IsShown setup request taken self.old
+            → Shows setup request taken message.now (moved kind.new readings.new)
+            (λ replies. IsShown setup request replies self.new) }
+        ensures taken { (setup : Setup) (request : Intent) (taken : List Sent) (running : Running)
+            → self.old ≡ Some running
             → RunningStands setup request taken running → IsReplyTo setup request taken message.now
-            → TakesMessage setup request taken message.now (moved kind.new readings.new) (λ replies. GoesOn setup request replies self.new) }
-        ensures calls { calls_sent (moved kind.new readings.new) (calls_waiting self.new) + calls_left self.new ≤ calls_left self.old }
+            → TakesMessage setup request taken message.now (moved kind.new readings.new)
+            (λ replies. GoesOn setup request replies self.new) }
+        ensures calls { calls_sent (moved kind.new readings.new) (calls_waiting self.new)
+            + calls_left self.new ≤ calls_left self.old }
     {
         if !self.is_running {
             *kind = MoveKind::Ignored;

@@ -41,7 +41,9 @@ impl Discards {
 
     /// One of this stamp to each of these partitions.
     pub(crate) fn of(stamp: Stamp, partitions: Partitions) -> Discards
-        ensures { result ≡ map (λ (partition : ℕ). let out : Sent = record { partition = partition; call = Discard stamp } in out) partitions }
+        ensures { result ≡ map (λ (partition : ℕ).
+            let out : Sent = record { partition = partition; call = Discard stamp } in out)
+            partitions }
     {
         Discards { stamp, partitions }
     }
@@ -63,7 +65,8 @@ impl Discards {
     /// Writes the `nth` of them, from 0, into the caller's buffer, as the client's transaction of this ticket sends it. Says
     /// whether there is one; where there is none, the place is as it was.
     pub fn message_into(&self, client: Client, ticket: u64, nth: u32, place: &mut Message) -> bool
-        ensures told { (if result then Some place.new else None) ≡ slice_get (map (call_message client ticket) self.now) nth }
+        ensures told { (if result then Some place.new else None)
+            ≡ slice_get (map (call_message client ticket) self.now) nth }
         ensures reply { result ≡ true → place.new.reply ≡ None }
         ensures unchanged { result ≡ false → place.new ≡ place.old }
     {

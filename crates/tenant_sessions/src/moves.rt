@@ -232,7 +232,9 @@ impl MoveKind {
     /// The `nth` of the calls that are sent at the transaction's end, from 0, as the client's transaction of this ticket
     /// sends it. No transaction is waiting for the replies.
     pub fn ending(&self, client: Client, ticket: u64, nth: u32) -> Option<Message>
-        ensures { (readings : List Reading) → result ≡ slice_get (map (call_message client ticket) (ending (moved self.now readings))) nth }
+        ensures { (readings : List Reading)
+            → result
+            ≡ slice_get (map (call_message client ticket) (ending (moved self.now readings))) nth }
     {
         let mut place = unwritten(client);
         if !self.ending_into(client, ticket, nth, &mut place) {
@@ -257,7 +259,8 @@ impl MoveKind {
 
     /// Whether there is a call at this place, from 0, among those that are sent at the transaction's end.
     pub fn has_ending(&self, nth: u32) -> bool
-        ensures { (readings : List Reading) → result ≡ nat_lt nth (length (ending (moved self.now readings))) }
+        ensures { (readings : List Reading)
+            → result ≡ nat_lt nth (length (ending (moved self.now readings))) }
     {
         match self {
             MoveKind::Ended(_, discards) => discards.has(nth),

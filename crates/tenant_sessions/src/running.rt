@@ -1,8 +1,7 @@
 //! A client's running transaction.
 ghost use Rattle.std.specs.Prelude.{◌≡◌, ◌<◌};
 ghost use Rattle.stamps.specs.Bounds.{IsParts};
-ghost use Rattle.stamps.specs.Key.{IsTransactionKeys, sorted_keys};
-ghost use Rattle.plain_store.specs.Writing.{keys_written};
+ghost use Rattle.tenant_sessions.specs.Asking.{MayWrite};
 
 use crate::MoveKind;
 use crate::begin::Beginning;
@@ -94,11 +93,10 @@ impl Running {
 
     /// Makes of it a write of these items under this stamp, which took no reply yet. The write set is that of the items.
     pub(crate) fn begin_put(&mut self, stamp: Stamp, items: &[Item], writes: &WriteSet, parts: u32)
-        requires written { 0 < stamp }
-        requires keys { IsTransactionKeys (keys_written items.now) }
-        requires writes { writes.now ≡ sorted_keys (keys_written items.now) }
+        requires write { MayWrite stamp items.now writes.now }
         requires parts { IsParts parts }
-        ensures { (setup : Setup) → setup.partitions ≡ parts → Starts setup (Writes stamp items.now) self.new }
+        ensures { (setup : Setup) → setup.partitions ≡ parts
+            → Starts setup (Writes stamp items.now) self.new }
     {
         self.writer.reset(stamp, items, writes, parts);
         self.kind = TransactionKind::Put;
@@ -110,7 +108,8 @@ impl Running {
     /// Makes of it a read of these keys, which took no reply yet.
     pub(crate) fn begin_get(&mut self, keys: &[Key], parts: u32)
         requires { IsParts parts }
-        ensures { (setup : Setup) → setup.partitions ≡ parts → MayBegin (Gets keys.now) → Starts setup (Gets keys.now) self.new }
+        ensures { (setup : Setup) → setup.partitions ≡ parts → MayBegin (Gets keys.now)
+            → Starts setup (Gets keys.now) self.new }
     {
         if !self.finder.read_alone(keys) {
             return;
@@ -134,11 +133,16 @@ impl Running {
     /// Takes a reply to one of its calls. Ignored where a reply in its place was taken before. Of a transaction
     /// that ended nothing is said. What was read, and what it does, is put into the caller's buffers.
     pub(crate) fn take(&mut self, message: &Message, readings: &mut Readings, kind: &mut MoveKind)
-        ensures shown { (setup : Setup) (request : Intent) (taken : List Sent) → HasTaken setup request taken self.old.machine
-            → Shows setup request taken message.now (moved kind.new readings.new) (λ replies. HasTaken setup request replies self.new.machine) }
-        ensures takes { (setup : Setup) (request : Intent) (taken : List Sent) → RunningStands setup request taken self.old → IsReplyTo setup request taken message.now
-            → TakesMessage setup request taken message.now (moved kind.new readings.new) (λ replies. RunningStands setup request replies self.new) }
-        ensures calls { calls_sent (moved kind.new readings.new) (length self.new.waiting) + machine_left self.new.machine ≤ machine_left self.old.machine }
+        ensures shown { (setup : Setup) (request : Intent) (taken : List Sent)
+            → HasTaken setup request taken self.old.machine
+            → Shows setup request taken message.now (moved kind.new readings.new)
+            (λ replies. HasTaken setup request replies self.new.machine) }
+        ensures takes { (setup : Setup) (request : Intent) (taken : List Sent)
+            → RunningStands setup request taken self.old → IsReplyTo setup request taken message.now
+            → TakesMessage setup request taken message.now (moved kind.new readings.new)
+            (λ replies. RunningStands setup request replies self.new) }
+        ensures calls { calls_sent (moved kind.new readings.new) (length self.new.waiting)
+            + machine_left self.new.machine ≤ machine_left self.old.machine }
     {
         match self.kind {
             TransactionKind::Put => take_written(
@@ -170,7 +174,8 @@ impl Running {
 
     /// How many of its calls have no reply taken, in the part that it is in: up to 64.
     pub(crate) fn waiting(&self) -> u32
-        ensures value { (setup : Setup) (request : Intent) (taken : List Sent) → RunningStands setup request taken self.now
+        ensures value { (setup : Setup) (request : Intent) (taken : List Sent)
+            → RunningStands setup request taken self.now
             → result ≡ length (waiting_calls setup request taken) }
         ensures waiting { result ≡ length self.now.waiting }
         ensures few { result ≤ 64 }
@@ -182,9 +187,12 @@ impl Running {
     /// whether there is one. Where there is none, the message is as it was.
     pub(crate) fn call_into(&self, nth: u32, message: &mut Message) -> bool
         ensures made { result ≡ nat_lt nth (length self.now.waiting) }
-        ensures told { (setup : Setup) (request : Intent) (taken : List Sent) → RunningStands setup request taken self.now
-            → (if result then Some (outgoing_of message.new) else None) ≡ slice_get (waiting_calls setup request taken) nth }
-        ensures rest { message.new ≡ record message.old { partition = message.new.partition; call = message.new.call } }
+        ensures told { (setup : Setup) (request : Intent) (taken : List Sent)
+            → RunningStands setup request taken self.now
+            → (if result then Some (outgoing_of message.new) else None)
+            ≡ slice_get (waiting_calls setup request taken) nth }
+        ensures rest { message.new
+            ≡ record message.old { partition = message.new.partition; call = message.new.call } }
         ensures unchanged { result ≡ false → message.new ≡ message.old }
     {
         self.waiting.call_into(nth, message)

@@ -19,11 +19,16 @@ use plain_store::{Call, Message, Readings, Refusal, Reply};
 
 /// Offers a reply to the finder's reader.
 fn offer(finder: &mut Finder, message: &Message) -> ReadMoveKind
-    ensures shown { (keys : List Key) (taken : List Message) → StandsFor keys finder.old.reader taken
+    ensures shown { (keys : List Key) (taken : List Message)
+        → StandsFor keys finder.old.reader taken
         → Offers keys taken message.now (told_by finder.new.reader result) finder.new.reader }
-    ensures takes { (setup : Setup) (keys : List Key) (taken : List Message) → StandsFor keys finder.old.reader taken
-        → IsReplyTo setup (Gets keys) taken message.now → TakesRead keys taken message.now (told_by finder.new.reader result) finder.new.reader }
-    ensures few { calls_asked (told_by finder.new.reader result) + calls_left finder.new.reader ≤ calls_left finder.old.reader }
+    ensures takes { (setup : Setup) (keys : List Key) (taken : List Message)
+        → StandsFor keys finder.old.reader taken
+        → IsReplyTo setup (Gets keys) taken message.now
+        → TakesRead keys taken message.now
+        (told_by finder.new.reader result) finder.new.reader }
+    ensures few { calls_asked (told_by finder.new.reader result) + calls_left finder.new.reader
+        ≤ calls_left finder.old.reader }
 {
     match &message.reply {
         Some(reply) => offer_reply(finder, message, reply),
@@ -33,11 +38,16 @@ fn offer(finder: &mut Finder, message: &Message) -> ReadMoveKind
 
 /// Offers the message's reply to the finder's reader.
 fn offer_reply(finder: &mut Finder, message: &Message, reply: &Reply) -> ReadMoveKind
-    ensures shown { (keys : List Key) (taken : List Message) → message.now.reply ≡ Some reply.now → StandsFor keys finder.old.reader taken
+    ensures shown { (keys : List Key) (taken : List Message) → message.now.reply ≡ Some reply.now
+        → StandsFor keys finder.old.reader taken
         → Offers keys taken message.now (told_by finder.new.reader result) finder.new.reader }
-    ensures takes { (setup : Setup) (keys : List Key) (taken : List Message) → message.now.reply ≡ Some reply.now → StandsFor keys finder.old.reader taken
-        → IsReplyTo setup (Gets keys) taken message.now → TakesRead keys taken message.now (told_by finder.new.reader result) finder.new.reader }
-    ensures few { calls_asked (told_by finder.new.reader result) + calls_left finder.new.reader ≤ calls_left finder.old.reader }
+    ensures takes { (setup : Setup) (keys : List Key) (taken : List Message)
+        → message.now.reply ≡ Some reply.now → StandsFor keys finder.old.reader taken
+        → IsReplyTo setup (Gets keys) taken message.now
+        → TakesRead keys taken message.now
+        (told_by finder.new.reader result) finder.new.reader }
+    ensures few { calls_asked (told_by finder.new.reader result) + calls_left finder.new.reader
+        ≤ calls_left finder.old.reader }
 {
     match (&message.call, reply) {
         (Call::Get(key, _), Reply::Get(reply)) => finder.take_kind_alone(
@@ -74,12 +84,17 @@ pub(crate) fn take_read(
     kind: &mut MoveKind,
 )
     requires { IsParts parts }
-    ensures shown { (setup : Setup) (keys : List Key) (taken : List Message) → StandsFor keys finder.old.reader taken
-        → Shows setup (Gets keys) taken message.now (moved kind.new readings.new) (StandsFor keys finder.new.reader) }
-    ensures takes { (setup : Setup) (keys : List Key) (taken : List Message) → setup.partitions ≡ parts → IsReading setup keys taken finder.old.reader waiting.old
+    ensures shown { (setup : Setup) (keys : List Key) (taken : List Message)
+        → StandsFor keys finder.old.reader taken
+        → Shows setup (Gets keys) taken message.now (moved kind.new readings.new)
+        (StandsFor keys finder.new.reader) }
+    ensures takes { (setup : Setup) (keys : List Key) (taken : List Message)
+        → setup.partitions ≡ parts → IsReading setup keys taken finder.old.reader waiting.old
         → IsReplyTo setup (Gets keys) taken message.now
-        → TakesMessage setup (Gets keys) taken message.now (moved kind.new readings.new) (λ replies. IsReading setup keys replies finder.new.reader waiting.new) }
-    ensures calls { calls_sent (moved kind.new readings.new) (length waiting.new) + calls_left finder.new.reader ≤ calls_left finder.old.reader }
+        → TakesMessage setup (Gets keys) taken message.now (moved kind.new readings.new)
+        (λ replies. IsReading setup keys replies finder.new.reader waiting.new) }
+    ensures calls { calls_sent (moved kind.new readings.new) (length waiting.new)
+        + calls_left finder.new.reader ≤ calls_left finder.old.reader }
 {
     match offer(finder, message) {
         ReadMoveKind::Wait => {

@@ -28,10 +28,14 @@ fn read_keys(reply: &Reply)
 /// Offers a reply to the finder.
 fn offer(finder: &mut Finder, message: &Message) -> FindMove
     ensures few { length (keys_found message.now.reply) ≤ count_found message.now.reply }
-    ensures shown { (setup : Setup) (tag : Tag) (taken : List Message) → StandsFor setup tag finder.old taken
-        → Shows setup (Finds tag) taken message.now (found_move result) (StandsFor setup tag finder.new) }
-    ensures takes { (setup : Setup) (tag : Tag) (taken : List Message) → StandsFor setup tag finder.old taken
-        → IsReplyTo setup (Finds tag) taken message.now → TakesFind setup tag taken message.now result finder.new }
+    ensures shown { (setup : Setup) (tag : Tag) (taken : List Message)
+        → StandsFor setup tag finder.old taken
+        → Shows setup (Finds tag) taken message.now (found_move result)
+        (StandsFor setup tag finder.new) }
+    ensures takes { (setup : Setup) (tag : Tag) (taken : List Message)
+        → StandsFor setup tag finder.old taken
+        → IsReplyTo setup (Finds tag) taken message.now
+        → TakesFind setup tag taken message.now result finder.new }
     ensures calls { calls_asked result + calls_left finder.new ≤ calls_left finder.old }
 {
     match &message.reply {
@@ -43,10 +47,14 @@ fn offer(finder: &mut Finder, message: &Message) -> FindMove
 /// Offers the message's reply to the finder.
 fn offer_reply(finder: &mut Finder, message: &Message, reply: &Reply) -> FindMove
     ensures few { length (keys_found (Some reply.now)) ≤ count_found (Some reply.now) }
-    ensures shown { (setup : Setup) (tag : Tag) (taken : List Message) → message.now.reply ≡ Some reply.now → StandsFor setup tag finder.old taken
-        → Shows setup (Finds tag) taken message.now (found_move result) (StandsFor setup tag finder.new) }
-    ensures takes { (setup : Setup) (tag : Tag) (taken : List Message) → message.now.reply ≡ Some reply.now → StandsFor setup tag finder.old taken
-        → IsReplyTo setup (Finds tag) taken message.now → TakesFind setup tag taken message.now result finder.new }
+    ensures shown { (setup : Setup) (tag : Tag) (taken : List Message)
+        → message.now.reply ≡ Some reply.now → StandsFor setup tag finder.old taken
+        → Shows setup (Finds tag) taken message.now (found_move result)
+        (StandsFor setup tag finder.new) }
+    ensures takes { (setup : Setup) (tag : Tag) (taken : List Message)
+        → message.now.reply ≡ Some reply.now → StandsFor setup tag finder.old taken
+        → IsReplyTo setup (Finds tag) taken message.now
+        → TakesFind setup tag taken message.now result finder.new }
     ensures calls { calls_asked result + calls_left finder.new ≤ calls_left finder.old }
 {
     read_keys(reply);
@@ -69,12 +77,17 @@ pub(crate) fn take_found(
     kind: &mut MoveKind,
 )
     requires { IsParts parts }
-    ensures shown { (setup : Setup) (tag : Tag) (taken : List Message) → StandsFor setup tag finder.old taken
-        → Shows setup (Finds tag) taken message.now (moved kind.new readings.new) (StandsFor setup tag finder.new) }
-    ensures takes { (setup : Setup) (tag : Tag) (taken : List Message) → setup.partitions ≡ parts → IsFinding setup tag taken finder.old waiting.old
+    ensures shown { (setup : Setup) (tag : Tag) (taken : List Message)
+        → StandsFor setup tag finder.old taken
+        → Shows setup (Finds tag) taken message.now (moved kind.new readings.new)
+        (StandsFor setup tag finder.new) }
+    ensures takes { (setup : Setup) (tag : Tag) (taken : List Message) → setup.partitions ≡ parts
+        → IsFinding setup tag taken finder.old waiting.old
         → IsReplyTo setup (Finds tag) taken message.now
-        → TakesMessage setup (Finds tag) taken message.now (moved kind.new readings.new) (λ replies. IsFinding setup tag replies finder.new waiting.new) }
-    ensures calls { calls_sent (moved kind.new readings.new) (length waiting.new) + calls_left finder.new ≤ calls_left finder.old }
+        → TakesMessage setup (Finds tag) taken message.now (moved kind.new readings.new)
+        (λ replies. IsFinding setup tag replies finder.new waiting.new) }
+    ensures calls { calls_sent (moved kind.new readings.new) (length waiting.new)
+        + calls_left finder.new ≤ calls_left finder.old }
 {
     match offer(finder, message) {
         FindMove::Wait => {

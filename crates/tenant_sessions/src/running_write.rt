@@ -21,10 +21,13 @@ use stamps::{Item, Stamp};
 
 /// Offers a reply to the writer.
 fn offer(writer: &mut Writer, message: &Message) -> WriteMove
-    ensures shown { (setup : Setup) (stamp : Stamp) (items : List Item) (taken : List Message) → StandsFor setup stamp items writer.old taken
+    ensures shown { (setup : Setup) (stamp : Stamp) (items : List Item) (taken : List Message)
+        → StandsFor setup stamp items writer.old taken
         → OffersWrite setup stamp items taken message.now result writer.new }
-    ensures takes { (setup : Setup) (stamp : Stamp) (items : List Item) (taken : List Message) → StandsFor setup stamp items writer.old taken
-        → IsReplyTo setup (Writes stamp items) taken message.now → TakesWrite setup stamp items taken message.now result writer.new }
+    ensures takes { (setup : Setup) (stamp : Stamp) (items : List Item) (taken : List Message)
+        → StandsFor setup stamp items writer.old taken
+        → IsReplyTo setup (Writes stamp items) taken message.now
+        → TakesWrite setup stamp items taken message.now result writer.new }
     ensures few { calls_asked result writer.new + calls_left writer.new ≤ calls_left writer.old }
 {
     match &message.reply {
@@ -35,10 +38,13 @@ fn offer(writer: &mut Writer, message: &Message) -> WriteMove
 
 /// Offers the message's reply to the writer.
 fn offer_reply(writer: &mut Writer, message: &Message, reply: &Reply) -> WriteMove
-    ensures shown { (setup : Setup) (stamp : Stamp) (items : List Item) (taken : List Message) → message.now.reply ≡ Some reply.now → StandsFor setup stamp items writer.old taken
+    ensures shown { (setup : Setup) (stamp : Stamp) (items : List Item) (taken : List Message)
+        → message.now.reply ≡ Some reply.now → StandsFor setup stamp items writer.old taken
         → OffersWrite setup stamp items taken message.now result writer.new }
-    ensures takes { (setup : Setup) (stamp : Stamp) (items : List Item) (taken : List Message) → message.now.reply ≡ Some reply.now → StandsFor setup stamp items writer.old taken
-        → IsReplyTo setup (Writes stamp items) taken message.now → TakesWrite setup stamp items taken message.now result writer.new }
+    ensures takes { (setup : Setup) (stamp : Stamp) (items : List Item) (taken : List Message)
+        → message.now.reply ≡ Some reply.now → StandsFor setup stamp items writer.old taken
+        → IsReplyTo setup (Writes stamp items) taken message.now
+        → TakesWrite setup stamp items taken message.now result writer.new }
     ensures few { calls_asked result writer.new + calls_left writer.new ≤ calls_left writer.old }
 {
     match (&message.call, reply) {
@@ -54,7 +60,8 @@ fn offer_reply(writer: &mut Writer, message: &Message, reply: &Reply) -> WriteMo
 #[cold]
 #[inline(never)]
 fn discards_of(refusal: Refusal, stamp: Stamp, writer: &Writer) -> Discards
-    ensures ending { (setup : Setup) (items : List Item) (taken : List Message) → StandsFor setup stamp items writer.now taken
+    ensures ending { (setup : Setup) (items : List Item) (taken : List Message)
+        → StandsFor setup stamp items writer.now taken
         → result ≡ ending_calls setup stamp items refusal }
     ensures few { length result ≤ length writer.now.places }
 {
@@ -67,7 +74,8 @@ fn discards_of(refusal: Refusal, stamp: Stamp, writer: &Writer) -> Discards
 /// Waits for the COMMITs of this stamp at these partitions. It stands alone, so that no other reply has room for a part.
 fn await_commits(stamp: Stamp, partitions: Partitions, waiting: &mut Waiting, parts: u32)
     requires { IsParts parts }
-    ensures calls { length (batch_calls parts (Commits stamp partitions)) ≤ 64 → waiting.new ≡ batch_calls parts (Commits stamp partitions) }
+    ensures calls { length (batch_calls parts (Commits stamp partitions)) ≤ 64
+        → waiting.new ≡ batch_calls parts (Commits stamp partitions) }
     ensures few { length waiting.new ≤ length partitions }
 {
     waiting.commit(stamp, partitions, parts);
@@ -83,13 +91,20 @@ pub(crate) fn take_written(
     kind: &mut MoveKind,
 )
     requires { IsParts parts }
-    ensures takes { (setup : Setup) (items : List Item) (taken : List Message) (readings : List Reading) → setup.partitions ≡ parts → IsWriting setup stamp items taken writer.old waiting.old
+    ensures takes { (setup : Setup) (items : List Item) (taken : List Message)
+        (readings : List Reading) → setup.partitions ≡ parts
+        → IsWriting setup stamp items taken writer.old waiting.old
         → IsReplyTo setup (Writes stamp items) taken message.now
-        → TakesMessage setup (Writes stamp items) taken message.now (moved kind.new readings) (λ replies. IsWriting setup stamp items replies writer.new waiting.new) }
-    ensures calls { (readings : List Reading) → calls_sent (moved kind.new readings) (length waiting.new) + calls_left writer.new ≤ calls_left writer.old }
+        → TakesMessage setup (Writes stamp items) taken message.now (moved kind.new readings)
+        (λ replies. IsWriting setup stamp items replies writer.new waiting.new) }
+    ensures calls { (readings : List Reading)
+        → calls_sent (moved kind.new readings) (length waiting.new) + calls_left writer.new
+        ≤ calls_left writer.old }
     // Whatever the message is.
-    ensures shown { (setup : Setup) (items : List Item) (taken : List Message) (readings : List Reading) → StandsFor setup stamp items writer.old taken
-        → Shows setup (Writes stamp items) taken message.now (moved kind.new readings) (StandsFor setup stamp items writer.new) }
+    ensures shown { (setup : Setup) (items : List Item) (taken : List Message)
+        (readings : List Reading) → StandsFor setup stamp items writer.old taken
+        → Shows setup (Writes stamp items) taken message.now (moved kind.new readings)
+        (StandsFor setup stamp items writer.new) }
 {
     match offer(writer, message) {
         WriteMove::Wait => {

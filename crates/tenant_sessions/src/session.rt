@@ -57,25 +57,24 @@ fn counter_told(reply: &Option<Reply>) -> u64
 }
 
 impl ClientSession {
-    ghost use Rattle.std.specs.Prelude.{◌≡◌, ◌≢◌, ◌+◌, ◌<◌, ◌≤◌, ◌^◌, max, nat_lt, true, false, List, length, map, slice_get, Some, None, Ok, Err, IfOk, IfErr, OnOk, OnErr, if◌then◌else◌};
+    ghost use Rattle.std.specs.Prelude.{◌≡◌, ◌+◌, ◌<◌, ◌≤◌, ◌^◌, max, nat_lt, true, false, List, length, map, slice_get, Some, None, Ok, Err, IfOk, IfErr, if◌then◌else◌};
     ghost use Rattle.plain_store.specs.declared.message.Message.{Message as Sent};
     ghost use Rattle.plain_store.specs.History.{Intent, Writes, Gets, Finds};
-    ghost use Rattle.plain_store.specs.Run.{are_bad, call_message};
+    ghost use Rattle.plain_store.specs.Run.{call_message};
     ghost use Rattle.plain_store.specs.Words.{Key, Setup};
     ghost use Rattle.stamps.specs.Bounds.{IsParts};
     ghost use Rattle.stamps.specs.Stamp.{stamp};
-    ghost use Rattle.tenant_sessions.specs.Running.{MayBegin, RunningStands, IsReplyTo, waiting_calls};
-    ghost use Rattle.tenant_sessions.specs.CallsLeft.{calls_left, calls_sent, calls_waiting};
-    ghost use Rattle.tenant_sessions.specs.Moves.{moved};
-    ghost use Rattle.tenant_sessions.specs.Held.{TakesReply, request_begun, drawn_counter, next_ticket, test_open, test_idle, test_put, test_get};
+    ghost use Rattle.tenant_sessions.specs.Running.{MayBegin, RunningStands, waiting_calls};
+    ghost use Rattle.tenant_sessions.specs.CallsLeft.{calls_waiting};
+    ghost use Rattle.tenant_sessions.specs.Held.{request_begun, drawn_counter, next_ticket, test_open, test_idle, test_put, test_get};
     ghost use Rattle.tenant_sessions.specs.Begins.{HasBegun};
-    ghost use Rattle.tenant_sessions.specs.Sessions.{IsBeginOf};
-    ghost use Rattle.tenant_sessions.specs.Showing.{IsShown, Shows};
+    ghost use Rattle.tenant_sessions.specs.Asking.{BeginsIf, StartsIf, TakesIn};
     ghost use Rattle.tenant_sessions.specs.declared.running.Running.{Running};
 
     /// The session that a client's first hello opens. It fails where its allocation failed.
     pub fn hello(alloc: Global, base: Counter) -> Result<ClientSession, OutOfMemory>
-        ensures { IfOk result (λ session. session ≡ record { is_open = true; counter = base; ticket = 0; running = None }) }
+        ensures { IfOk result (λ session. session
+            ≡ record { is_open = true; counter = base; ticket = 0; running = None }) }
     {
         let running = Current::none(alloc)?;
         Ok(ClientSession {
@@ -88,7 +87,8 @@ impl ClientSession {
 
     /// Opens it again, and answers its counter, which is then no less than the base. It fails where it is open (12).
     pub fn reopen(&mut self, base: Counter) -> Result<Counter, Refusal>
-        ensures answer { result ≡ (if self.old.is_open then Err Refusal.Busy else Ok (max self.old.counter base)) }
+        ensures answer { result
+            ≡ (if self.old.is_open then Err Refusal.Busy else Ok (max self.old.counter base)) }
         ensures after { self.new ≡ (if self.old.is_open then self.old
             else record self.old { is_open = true; counter = max base self.old.counter }) }
     {
@@ -112,9 +112,8 @@ impl ClientSession {
     /// It fails where the session is closed (19), a transaction is running (12), there is no item, more than 16 or one key
     /// twice (13), and where the counter is at its greatest (14).
     pub fn begin_put<'a>(&self, client: Client, items: &'a [Item]) -> Result<Begin<'a>, Refusal>
-        ensures refused { IfErr result (λ refusal. test_put self.now items.now ≡ Err refusal) }
-        ensures passed { IfOk result (λ _. test_put self.now items.now ≡ Ok tt) }
-        ensures begun { IfOk result (λ begin. IsBeginOf begin client (Writes (stamp (self.now.counter + 1) client) items.now) (length items.now)) }
+        ensures { BeginsIf (test_put self.now items.now) client
+            (Writes (stamp (self.now.counter + 1) client) items.now) (length items.now) result }
     {
         if let Err(refusal) = self.test_idle() {
             return Err(refusal);
@@ -137,9 +136,8 @@ impl ClientSession {
     /// It fails where the session is closed (19), a transaction is running (12), and where there is no key, more than 16 or
     /// one twice (13).
     pub fn begin_get<'a>(&self, client: Client, keys: &'a [Key]) -> Result<Begin<'a>, Refusal>
-        ensures refused { IfErr result (λ refusal. test_get self.now keys.now ≡ Err refusal) }
-        ensures passed { IfOk result (λ _. test_get self.now keys.now ≡ Ok tt) }
-        ensures begun { IfOk result (λ begin. IsBeginOf begin client (Gets keys.now) (length keys.now)) }
+        ensures { BeginsIf (test_get self.now keys.now) client
+            (Gets keys.now) (length keys.now) result }
     {
         if let Err(refusal) = self.test_idle() {
             return Err(refusal);
@@ -160,9 +158,7 @@ impl ClientSession {
     /// It fails where the session is closed (19), and where a transaction is running (12).
     pub fn begin_find<'a>(&self, client: Client, tag: Tag, parts: u32) -> Result<Begin<'a>, Refusal>
         requires { IsParts parts }
-        ensures refused { IfErr result (λ refusal. test_idle self.now ≡ Err refusal) }
-        ensures passed { IfOk result (λ _. test_idle self.now ≡ Ok tt) }
-        ensures begun { IfOk result (λ begin. IsBeginOf begin client (Finds tag) parts) }
+        ensures { BeginsIf (test_idle self.now) client (Finds tag) parts result }
     {
         if let Err(refusal) = self.test_idle() {
             return Err(refusal);
@@ -177,8 +173,10 @@ impl ClientSession {
     /// Begins a transaction, in a store of so many partitions (1 to 64). Its calls are then told one by one by `call`.
     pub fn start(&mut self, begin: &Begin<'_>, parts: u32)
         requires { IsParts parts }
-        ensures begun { MayBegin (request_begun begin.now.kind) → HasBegun parts (request_begun begin.now.kind) self.old self.new }
-        ensures counter { self.new.counter ≡ max (drawn_counter (request_begun begin.now.kind)) self.old.counter }
+        ensures begun { MayBegin (request_begun begin.now.kind)
+            → HasBegun parts (request_begun begin.now.kind) self.old self.new }
+        ensures counter { self.new.counter
+            ≡ max (drawn_counter (request_begun begin.now.kind)) self.old.counter }
         ensures still_open { self.new.is_open ≡ self.old.is_open }
     {
         self.draw(begin.kind.counter());
@@ -190,11 +188,8 @@ impl ClientSession {
     /// has changed.
     pub fn start_put(&mut self, client: Client, items: &[Item], parts: u32) -> Result<(), Refusal>
         requires { IsParts parts }
-        ensures refused { IfErr result (λ refusal. test_put self.old items.now ≡ Err refusal) }
-        ensures unchanged { OnErr result (self.new ≡ self.old) }
-        ensures passed { OnOk result (test_put self.old items.now ≡ Ok tt) }
-        ensures begun { OnOk result (HasBegun parts (Writes (stamp (self.old.counter + 1) client) items.now) self.old self.new) }
-        ensures still_open { self.new.is_open ≡ self.old.is_open }
+        ensures { StartsIf (test_put self.old items.now) parts
+            (Writes (stamp (self.old.counter + 1) client) items.now) self.old self.new result }
     {
         if let Err(refusal) = self.test_idle() {
             return Err(refusal);
@@ -215,11 +210,8 @@ impl ClientSession {
     /// `begin_get` does, nothing has changed.
     pub fn start_get(&mut self, keys: &[Key], parts: u32) -> Result<(), Refusal>
         requires { IsParts parts }
-        ensures refused { IfErr result (λ refusal. test_get self.old keys.now ≡ Err refusal) }
-        ensures unchanged { OnErr result (self.new ≡ self.old) }
-        ensures passed { OnOk result (test_get self.old keys.now ≡ Ok tt) }
-        ensures begun { OnOk result (HasBegun parts (Gets keys.now) self.old self.new) }
-        ensures still_open { self.new.is_open ≡ self.old.is_open }
+        ensures { StartsIf (test_get self.old keys.now) parts
+            (Gets keys.now) self.old self.new result }
     {
         if let Err(refusal) = self.test_idle() {
             return Err(refusal);
@@ -236,11 +228,7 @@ impl ClientSession {
     /// `begin_find` does, nothing has changed.
     pub fn start_find(&mut self, tag: Tag, parts: u32) -> Result<(), Refusal>
         requires { IsParts parts }
-        ensures refused { IfErr result (λ refusal. test_idle self.old ≡ Err refusal) }
-        ensures unchanged { OnErr result (self.new ≡ self.old) }
-        ensures passed { OnOk result (test_idle self.old ≡ Ok tt) }
-        ensures begun { OnOk result (HasBegun parts (Finds tag) self.old self.new) }
-        ensures still_open { self.new.is_open ≡ self.old.is_open }
+        ensures { StartsIf (test_idle self.old) parts (Finds tag) self.old self.new result }
     {
         if let Err(refusal) = self.test_idle() {
             return Err(refusal);
@@ -253,7 +241,10 @@ impl ClientSession {
     /// Counts a transaction that begins, whose stamp has this counter; 0 where it draws none.
     fn draw(&mut self, counter: u64)
         requires { counter < 2 ^ 40 }
-        ensures { self.new ≡ record self.old { counter = max counter self.old.counter; ticket = next_ticket self.old.ticket } }
+        ensures { self.new ≡ record self.old {
+          counter = max counter self.old.counter;
+          ticket = next_ticket self.old.ticket;
+        } }
     {
         self.raise(counter);
         self.ticket = self.ticket.saturating_add(1);
@@ -263,18 +254,7 @@ impl ClientSession {
     /// reports them one by one; the kind of the move reports the calls with which a transaction ends. One that ends is forgotten. What
     /// was read is put into the caller's buffer.
     pub fn take_into(&mut self, message: &Message, readings: &mut Readings) -> MoveKind
-        ensures idle { self.old.running ≡ None → (result ≡ MoveKind.Ignored) × (self.new ≡ self.old) }
-        ensures late { message.now.ticket ≢ self.old.ticket → (result ≡ MoveKind.Ignored) × (self.new ≡ self.old) }
-        ensures taken { (setup : Setup) (request : Intent) (taken : List Sent) (running : Running) → message.now.ticket ≡ self.old.ticket
-            → self.old.running ≡ Some running → RunningStands setup request taken running → IsReplyTo setup request taken message.now
-            → TakesReply setup request taken message.now self.old (moved result readings.new) self.new }
-        // Whatever the message is.
-        ensures shown { (setup : Setup) (request : Intent) (taken : List Sent) → IsShown setup request taken self.old.running
-            → Shows setup request taken message.now (moved result readings.new) (λ replies. IsShown setup request replies self.new.running) }
-        // Whatever the message is: what a move sends and what may be asked for after it is no more than what might be before.
-        ensures calls { calls_sent (moved result readings.new) (calls_waiting self.new.running) + calls_left self.new.running ≤ calls_left self.old.running }
-        ensures counter { self.old.counter ≤ self.new.counter }
-        ensures still_open { self.new.is_open ≡ self.old.is_open }
+        ensures { TakesIn message.now self.old result readings.new self.new }
     {
         let mut kind = MoveKind::Ignored;
         self.move_into(message, readings, &mut kind);
@@ -283,18 +263,7 @@ impl ClientSession {
 
     /// Does what `take_into` does, and writes the move into the caller's buffer.
     pub fn move_into(&mut self, message: &Message, readings: &mut Readings, kind: &mut MoveKind)
-        ensures idle { self.old.running ≡ None → (kind.new ≡ MoveKind.Ignored) × (self.new ≡ self.old) }
-        ensures late { message.now.ticket ≢ self.old.ticket → (kind.new ≡ MoveKind.Ignored) × (self.new ≡ self.old) }
-        ensures taken { (setup : Setup) (request : Intent) (taken : List Sent) (running : Running) → message.now.ticket ≡ self.old.ticket
-            → self.old.running ≡ Some running → RunningStands setup request taken running → IsReplyTo setup request taken message.now
-            → TakesReply setup request taken message.now self.old (moved kind.new readings.new) self.new }
-        // Whatever the message is.
-        ensures shown { (setup : Setup) (request : Intent) (taken : List Sent) → IsShown setup request taken self.old.running
-            → Shows setup request taken message.now (moved kind.new readings.new) (λ replies. IsShown setup request replies self.new.running) }
-        // Whatever the message is: what a move sends and what may be asked for after it is no more than what might be before.
-        ensures calls { calls_sent (moved kind.new readings.new) (calls_waiting self.new.running) + calls_left self.new.running ≤ calls_left self.old.running }
-        ensures counter { self.old.counter ≤ self.new.counter }
-        ensures still_open { self.new.is_open ≡ self.old.is_open }
+        ensures { TakesIn message.now self.old kind.new readings.new self.new }
     {
         if message.ticket != self.ticket || !self.running.is_some() {
             *kind = MoveKind::Ignored;
@@ -316,8 +285,10 @@ impl ClientSession {
         ensures refused { IfErr result (λ refusal. test_open self.now ≡ Err refusal) }
         ensures passed { IfOk result (λ _. test_open self.now ≡ Ok tt) }
         ensures idle { self.now.running ≡ None → IfOk result (λ count. count ≡ 0) }
-        ensures count { (setup : Setup) (request : Intent) (taken : List Sent) (running : Running) → self.now.running ≡ Some running
-            → RunningStands setup request taken running → IfOk result (λ count. count ≡ length (waiting_calls setup request taken)) }
+        ensures count { (setup : Setup) (request : Intent) (taken : List Sent) (running : Running)
+            → self.now.running ≡ Some running
+            → RunningStands setup request taken running
+            → IfOk result (λ count. count ≡ length (waiting_calls setup request taken)) }
         ensures waiting { IfOk result (λ count. count ≡ calls_waiting self.now.running) }
         ensures few { IfOk result (λ count. count ≤ 64) }
     {
@@ -333,7 +304,9 @@ impl ClientSession {
     /// Closes it, and forgets its transaction. It fails where it is closed (19). Then nothing has changed.
     pub fn stop(&mut self) -> Result<(), Refusal>
         ensures answer { result ≡ test_open self.old }
-        ensures after { self.new ≡ (if self.old.is_open then record self.old { is_open = false; running = None } else self.old) }
+        ensures after { self.new
+            ≡ (if self.old.is_open
+            then record self.old { is_open = false; running = None } else self.old) }
     {
         self.test_open()?;
         self.is_open = false;
@@ -345,9 +318,13 @@ impl ClientSession {
     /// is.
     pub fn call(&self, client: Client, nth: u32) -> Option<Message>
         ensures idle { self.now.running ≡ None → result ≡ None }
-        ensures told { (setup : Setup) (request : Intent) (taken : List Sent) (running : Running) → self.now.running ≡ Some running
+        ensures told { (setup : Setup) (request : Intent) (taken : List Sent) (running : Running)
+            → self.now.running ≡ Some running
             → RunningStands setup request taken running
-            → result ≡ slice_get (map (call_message client self.now.ticket) (waiting_calls setup request taken)) nth }
+            → result
+            ≡ slice_get
+            (map (call_message client self.now.ticket)
+            (waiting_calls setup request taken)) nth }
     {
         let mut place = unwritten(client);
         if !self.call_into(client, nth, &mut place) {
@@ -361,9 +338,12 @@ impl ClientSession {
     pub fn call_into(&self, client: Client, nth: u32, place: &mut Message) -> bool
         ensures idle { self.now.running ≡ None → result ≡ false }
         ensures made { result ≡ nat_lt nth (calls_waiting self.now.running) }
-        ensures told { (setup : Setup) (request : Intent) (taken : List Sent) (running : Running) → self.now.running ≡ Some running
+        ensures told { (setup : Setup) (request : Intent) (taken : List Sent) (running : Running)
+            → self.now.running ≡ Some running
             → RunningStands setup request taken running → (if result then Some place.new else None)
-            ≡ slice_get (map (call_message client self.now.ticket) (waiting_calls setup request taken)) nth }
+            ≡ slice_get
+            (map (call_message client self.now.ticket)
+            (waiting_calls setup request taken)) nth }
         ensures unchanged { result ≡ false → place.new ≡ place.old }
     {
         if !self.call_over(client, nth, place) {
@@ -378,9 +358,13 @@ impl ClientSession {
     pub fn call_over(&self, client: Client, nth: u32, place: &mut Message) -> bool
         ensures idle { self.now.running ≡ None → result ≡ false }
         ensures made { result ≡ nat_lt nth (calls_waiting self.now.running) }
-        ensures told { (setup : Setup) (request : Intent) (taken : List Sent) (running : Running) → self.now.running ≡ Some running
-            → RunningStands setup request taken running → (if result then Some (record place.new { reply = None }) else None)
-            ≡ slice_get (map (call_message client self.now.ticket) (waiting_calls setup request taken)) nth }
+        ensures told { (setup : Setup) (request : Intent) (taken : List Sent) (running : Running)
+            → self.now.running ≡ Some running
+            → RunningStands setup request taken running
+            → (if result then Some (record place.new { reply = None }) else None)
+            ≡ slice_get
+            (map (call_message client self.now.ticket)
+            (waiting_calls setup request taken)) nth }
         ensures reply { place.new.reply ≡ place.old.reply }
         ensures unchanged { result ≡ false → place.new ≡ place.old }
     {

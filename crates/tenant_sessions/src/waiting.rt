@@ -2,9 +2,9 @@
 ghost use Rattle.std.specs.Prelude.{◌≡◌, ◌<◌, ◌≤◌, [], ◌∷◌, ◌++◌, true, nat_lt, min, map, not, filter, length, slice_get};
 ghost use Rattle.std.specs.List.{filter_map, list_all};
 ghost use Rattle.stamps.specs.Bounds.{IsParts};
-ghost use Rattle.stamps.specs.Key.{IsTransactionKeys, sorted_keys};
+ghost use Rattle.tenant_sessions.specs.Asking.{MayWrite, PutsCall};
 ghost use Rattle.plain_store.specs.Finding.{below};
-ghost use Rattle.plain_store.specs.Writing.{keys_written, record_for};
+ghost use Rattle.plain_store.specs.Writing.{record_for};
 ghost use Rattle.tenant_sessions.specs.Parts.{Prepares, Commits, First, Second, Founds, batch_calls, is_answered_at};
 
 use crate::call_batch::CallBatch;
@@ -66,7 +66,8 @@ impl PendingSet {
     /// Keeps the places but for that of the call whose place the message's reply takes.
     fn forget_answered(&mut self, part: &CallBatch, parts: u32, message: &Message)
         requires { IsParts parts }
-        ensures { self.new ≡ filter (λ place. not (is_answered_at (batch_calls parts part.now) message.now place)) self.old }
+        ensures { self.new
+            ≡ filter (λ place. not (is_answered_at (batch_calls parts part.now) message.now place)) self.old }
     {
         keep_unanswered(&mut self.0, part, parts, message);
     }
@@ -103,10 +104,13 @@ fn keep_unanswered(
 /// Makes of them the places of all calls of this part, in a store of so many partitions; of more than 64 the first.
 fn fill_all(places: &mut PendingSet, part: &CallBatch, parts: u32)
     requires { IsParts parts }
-    ensures within { list_all (λ place. nat_lt place (length (batch_calls parts part.now))) places.new ≡ true }
+    ensures within { list_all
+        (λ place. nat_lt place (length (batch_calls parts part.now))) places.new ≡ true }
     ensures all { length (batch_calls parts part.now) ≤ 64
-        → filter_map (slice_get (batch_calls parts part.now)) places.new ≡ batch_calls parts part.now }
-    ensures few { length (filter_map (slice_get (batch_calls parts part.now)) places.new) ≤ length (batch_calls parts part.now) }
+        → filter_map (slice_get (batch_calls parts part.now)) places.new
+        ≡ batch_calls parts part.now }
+    ensures few { length (filter_map (slice_get (batch_calls parts part.now)) places.new)
+        ≤ length (batch_calls parts part.now) }
 {
     places.fill(part.len(parts));
 }
@@ -134,8 +138,8 @@ impl Model for Waiting {
 }
 
 impl Waiting {
-    ghost use Rattle.std.specs.Prelude.{false, Some, None, if◌then◌else◌};
-    ghost use Rattle.tenant_sessions.specs.Parts.{batch_calls, is_replaced_by, outgoing_of};
+    ghost use Rattle.std.specs.Prelude.{false, Some};
+    ghost use Rattle.tenant_sessions.specs.Parts.{batch_calls, is_replaced_by};
 
     /// No calls.
     pub(crate) fn none(tag: Tag) -> Waiting {
@@ -148,11 +152,11 @@ impl Waiting {
 
     /// Makes of them the PREPAREs of these items under this stamp, in a store of so many partitions; and so do the four below.
     pub(crate) fn prepare(&mut self, stamp: Stamp, items: &[Item], writes: &WriteSet, parts: u32)
-        requires written { 0 < stamp }
-        requires keys { IsTransactionKeys (keys_written items.now) }
-        requires writes { writes.now ≡ sorted_keys (keys_written items.now) }
+        requires write { MayWrite stamp items.now writes.now }
         requires parts { IsParts parts }
-        ensures { length (batch_calls parts (Prepares (map (record_for stamp items.now) items.now))) ≤ 64 → self.new ≡ batch_calls parts (Prepares (map (record_for stamp items.now) items.now)) }
+        ensures { length (batch_calls parts (Prepares (map (record_for stamp items.now) items.now)))
+            ≤ 64 → self.new
+            ≡ batch_calls parts (Prepares (map (record_for stamp items.now) items.now)) }
     {
         self.part.prepare(stamp, items, writes);
         fill_all(&mut self.places, &self.part, parts);
@@ -162,7 +166,8 @@ impl Waiting {
     /// The COMMITs of this stamp at these partitions.
     pub(crate) fn commit(&mut self, stamp: Stamp, partitions: Partitions, parts: u32)
         requires parts { IsParts parts }
-        ensures calls { length (batch_calls parts (Commits stamp partitions)) ≤ 64 → self.new ≡ batch_calls parts (Commits stamp partitions) }
+        ensures calls { length (batch_calls parts (Commits stamp partitions)) ≤ 64
+            → self.new ≡ batch_calls parts (Commits stamp partitions) }
         ensures few { length self.new ≤ length partitions }
     {
         self.part.commit(stamp, partitions);
@@ -174,7 +179,8 @@ impl Waiting {
     pub(crate) fn read(&mut self, keys: &[Key], parts: u32)
         requires few { length keys.now ≤ 16 }
         requires parts { IsParts parts }
-        ensures calls { length (batch_calls parts (First keys.now)) ≤ 64 → self.new ≡ batch_calls parts (First keys.now) }
+        ensures calls { length (batch_calls parts (First keys.now)) ≤ 64
+            → self.new ≡ batch_calls parts (First keys.now) }
         ensures few { length self.new ≤ length keys.now }
     {
         self.part.read(keys);
@@ -185,7 +191,8 @@ impl Waiting {
     /// The GETs of these late versions.
     pub(crate) fn read_late(&mut self, late: LateKeys, parts: u32)
         requires parts { IsParts parts }
-        ensures calls { length (batch_calls parts (Second late)) ≤ 64 → self.new ≡ batch_calls parts (Second late) }
+        ensures calls { length (batch_calls parts (Second late)) ≤ 64
+            → self.new ≡ batch_calls parts (Second late) }
         ensures few { length self.new ≤ length late }
     {
         self.part.read_late(late);
@@ -196,7 +203,8 @@ impl Waiting {
     /// The searches by this tag.
     pub(crate) fn search(&mut self, tag: Tag, parts: u32)
         requires parts { IsParts parts }
-        ensures { length (batch_calls parts (Founds tag)) ≤ 64 → self.new ≡ batch_calls parts (Founds tag) }
+        ensures { length (batch_calls parts (Founds tag)) ≤ 64
+            → self.new ≡ batch_calls parts (Founds tag) }
     {
         self.part.search(tag);
         fill_all(&mut self.places, &self.part, parts);
@@ -214,10 +222,7 @@ impl Waiting {
     /// Writes the call at this place among them, from 0, and its partition into the message, and says whether there is one.
     /// Where there is none, the message is as it was.
     pub(crate) fn call_into(&self, nth: u32, message: &mut Message) -> bool
-        ensures made { result ≡ nat_lt nth (length self.now) }
-        ensures told { (if result then Some (outgoing_of message.new) else None) ≡ slice_get self.now nth }
-        ensures rest { message.new ≡ record message.old { partition = message.new.partition; call = message.new.call } }
-        ensures unchanged { result ≡ false → message.new ≡ message.old }
+        ensures { PutsCall self.now nth result message.old message.new }
     {
         let Some(place) = self.places.as_slice().get(nth as usize) else {
             return false;

@@ -2,8 +2,8 @@
 ghost use Rattle.std.specs.Prelude.{◌≡◌, ◌<◌, ◌≤◌, false, length, map, slice_get, take, Contains};
 ghost use Rattle.std.specs.Option.{option_map_or};
 ghost use Rattle.stamps.specs.Bounds.{IsParts};
-ghost use Rattle.stamps.specs.Key.{IsTransactionKeys, sorted_keys};
-ghost use Rattle.plain_store.specs.Writing.{keys_written, record_for};
+ghost use Rattle.tenant_sessions.specs.Asking.{MayWrite, PutsCall};
+ghost use Rattle.plain_store.specs.Writing.{record_for};
 ghost use Rattle.tenant_sessions.specs.Parts.{prepares, record_of};
 
 use plain_store::{Call, Message};
@@ -44,8 +44,8 @@ fn prepares(key: &Key, call: &Call) -> bool
 }
 
 impl WriteRecords {
-    ghost use Rattle.std.specs.Prelude.{false, Some, None, if◌then◌else◌};
-    ghost use Rattle.tenant_sessions.specs.Parts.{Prepares, batch_calls, outgoing_of};
+    ghost use Rattle.std.specs.Prelude.{false, Some, None};
+    ghost use Rattle.tenant_sessions.specs.Parts.{Prepares, batch_calls};
 
     /// No records. The key fills the unused array.
     pub(crate) fn none(filler: Key) -> WriteRecords {
@@ -65,9 +65,7 @@ impl WriteRecords {
 
     /// Makes of them the records of these items under this stamp, with the write set of their keys.
     pub(crate) fn reset(&mut self, stamp: Stamp, items: &[Item], writes: &WriteSet)
-        requires written { 0 < stamp }
-        requires keys { IsTransactionKeys (keys_written items.now) }
-        requires writes { writes.now ≡ sorted_keys (keys_written items.now) }
+        requires { MayWrite stamp items.now writes.now }
         ensures { self.new ≡ map (record_for stamp items.now) items.now }
     {
         let used = &mut self.items[..items.len()];
@@ -86,7 +84,9 @@ impl WriteRecords {
 
     /// Whether there is a record at this place, from 0, and this call prepares one of its key.
     pub(crate) fn is_prepared_at(&self, place: usize, call: &Call) -> bool
-        ensures { result ≡ option_map_or (λ version. prepares version.key call.now) (slice_get self.now place) false }
+        ensures { result
+            ≡ option_map_or (λ version. prepares version.key call.now)
+            (slice_get self.now place) false }
     {
         let items = &self.items[..usize::from(self.len)];
         match items.get(place) {
@@ -99,9 +99,8 @@ impl WriteRecords {
     /// Where there is none, the message is as it was.
     pub(crate) fn call_into(&self, parts: u32, place: usize, message: &mut Message) -> bool
         requires { IsParts parts }
-        ensures told { (if result then Some (outgoing_of message.new) else None) ≡ slice_get (batch_calls parts (Prepares self.now)) place }
-        ensures rest { message.new ≡ record message.old { partition = message.new.partition; call = message.new.call } }
-        ensures unchanged { result ≡ false → message.new ≡ message.old }
+        ensures { PutsCall
+            (batch_calls parts (Prepares self.now)) place result message.old message.new }
     {
         let items = &self.items[..usize::from(self.len)];
         let Some(item) = items.get(place) else {

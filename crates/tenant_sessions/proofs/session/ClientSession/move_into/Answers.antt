@@ -1,4 +1,4 @@
-use Rattle.std.proofs.Common.{sym, ap, ◌∙◌, subst, Option, None}
+use Rattle.std.proofs.Common.{sym, ap, ◌∙◌, subst, Option, None, rules}
 use Rattle.tenant_sessions.specs.declared.running.Running.{Running}
 use Rattle.tenant_sessions.specs.declared.session.ClientSession.{ClientSession}
 use Rattle.tenant_sessions.specs.Moves.{moved}
@@ -7,16 +7,24 @@ use Rattle.tenant_sessions.proofs.Shown.{shows_so}
 use Rattle.tenant_sessions.proofs.session.ClientSession.move_into.Goals.{then-is_last, else-is_last}
 use Rattle.tenant_sessions.proofs.session.ClientSession.move_into.Goals as goal
 
-pub returns-clause-shown : goal.returns-clause-shown
-returns-clause-shown c = λ setup request taken has.
-    let message = c.args.message.now in
-    let move = moved c.take.new.kind c.take.new.readings in
-    let P : Option Running → Type 0 = λ o. Shows setup request taken message move (λ replies. IsShown setup request replies o) in
-    let after : Option Running = c.take.new.self in
-    let shown : P after = c.take.ensures.shown setup request taken has in
-    let raised = ap (λ (s : ClientSession). s.running) c.raise.ensures in
-    elim c.if-is_last.branch [
-      | then-is_last w ↦ subst P (sym (raised ∙ ap (λ (s : ClientSession). s.running) w.self-is ∙ w.forget.ensures))
-          (shows_so setup request taken message move (λ replies. IsShown setup request replies after) (λ replies. IsShown setup request replies None) (λ replies is. tt) shown)
-      | else-is_last w ↦ subst P (sym (raised ∙ ap (λ (s : ClientSession). s.running) w.self-is)) shown
-    ]
+pub returns : goal.returns
+returns c = record {
+  idle = search rules;
+  late = search rules;
+  taken = search rules;
+  shown = λ setup request taken has.
+      let message = c.args.message.now in
+      let move = moved c.take.new.kind c.take.new.readings in
+      let P : Option Running → Type 0 = λ o. Shows setup request taken message move (λ replies. IsShown setup request replies o) in
+      let after : Option Running = c.take.new.self in
+      let shown : P after = c.take.ensures.shown setup request taken has in
+      let raised = ap (λ (s : ClientSession). s.running) c.raise.ensures in
+      elim c.if-is_last.branch [
+        | then-is_last w ↦ subst P (sym (raised ∙ ap (λ (s : ClientSession). s.running) w.self-is ∙ w.forget.ensures))
+            (shows_so setup request taken message move (λ replies. IsShown setup request replies after) (λ replies. IsShown setup request replies None) (λ replies is. tt) shown)
+        | else-is_last w ↦ subst P (sym (raised ∙ ap (λ (s : ClientSession). s.running) w.self-is)) shown
+      ];
+  calls = search rules;
+  counter = search rules;
+  still_open = search rules;
+}

@@ -11,19 +11,22 @@ use Rattle.tenant_sessions.proofs.Begun.{put_tested, put_begins, ok_told}
 use Rattle.tenant_sessions.proofs.Written.{read_held, read_none}
 use Rattle.tenant_sessions.proofs.sessions.Sessions.begin_put.Goals as goal
 
-pub returns-in-None-clause-refused : goal.returns-in-None-clause-refused
-returns-in-None-clause-refused c setup history ran stands rows =
-    refused_unknown setup history c.args.self.now (Put c.args.client c.args.items.now) c.args.client _ _ stands
-    (read_none c.self.inside.parts c.self.inside.limit c.self.inside.clients c.args.self.now c.self.view_is c.args.client c.get.result c.get-2.result c.get.ensures.value c.get-2.ensures.value c.in-None.is) refl rows
+pub returns-in-None : goal.returns-in-None
+returns-in-None c = record {
+  refused = λ setup history ran stands rows.
+      refused_unknown setup history c.args.self.now (Put c.args.client c.args.items.now) c.args.client _ _ stands
+      (read_none c.self.inside.parts c.self.inside.limit c.self.inside.clients c.args.self.now c.self.view_is c.args.client c.get.result c.get-2.result c.get.ensures.value c.get-2.ensures.value c.in-None.is) refl rows;
+  ready = λ setup history ran stands rows. tt;
+}
 
-pub returns-in-Some-clause-refused : goal.returns-in-Some-clause-refused
-returns-in-Some-clause-refused c setup history ran stands rows =
-    let at = read_held c.self.inside.parts c.self.inside.limit c.self.inside.clients c.args.self.now c.self.view_is c.args.client c.get.result c.get-2.result c.in-Some.session c.get.ensures.value c.get-2.ensures.value c.in-Some.is in
-    refuses_so setup history (Put c.args.client c.args.items.now) (test_put c.in-Some.session.now c.args.items.now) (put_tested setup history c.args.self.now c.args.client c.in-Some.session.now stands rows at c.args.items.now) c.begin_put.result c.begin_put.ensures.refused
-
-pub returns-in-Some-clause-ready : goal.returns-in-Some-clause-ready
-returns-in-Some-clause-ready c setup history ran stands rows =
-    let at = read_held c.self.inside.parts c.self.inside.limit c.self.inside.clients c.args.self.now c.self.view_is c.args.client c.get.result c.get-2.result c.in-Some.session c.get.ensures.value c.get-2.ensures.value c.in-Some.is in
-    ok_told (λ (begin : Begin). (test_put c.in-Some.session.now c.args.items.now) ≡ is_passed) (λ (begin : Begin). IsBeginOf begin c.args.client (Writes (stamp (c.in-Some.session.now.counter + 1) c.args.client) c.args.items.now) (length c.args.items.now))
-    (λ (begin : Begin). IsBegin setup history (Put c.args.client c.args.items.now) begin)
-    (λ begin passed of. put_begins setup history c.args.self.now c.args.client c.in-Some.session.now stands rows at c.args.items.now begin (subst IsClient c.get.ensures.value c.get.ensures.valid) passed of) c.begin_put.result c.begin_put.ensures.passed c.begin_put.ensures.begun
+pub returns-in-Some : goal.returns-in-Some
+returns-in-Some c = record {
+  refused = λ setup history ran stands rows.
+      let at = read_held c.self.inside.parts c.self.inside.limit c.self.inside.clients c.args.self.now c.self.view_is c.args.client c.get.result c.get-2.result c.in-Some.session c.get.ensures.value c.get-2.ensures.value c.in-Some.is in
+      refuses_so setup history (Put c.args.client c.args.items.now) (test_put c.in-Some.session.now c.args.items.now) (put_tested setup history c.args.self.now c.args.client c.in-Some.session.now stands rows at c.args.items.now) c.begin_put.result c.begin_put.ensures.refused;
+  ready = λ setup history ran stands rows.
+      let at = read_held c.self.inside.parts c.self.inside.limit c.self.inside.clients c.args.self.now c.self.view_is c.args.client c.get.result c.get-2.result c.in-Some.session c.get.ensures.value c.get-2.ensures.value c.in-Some.is in
+      ok_told (λ (begin : Begin). (test_put c.in-Some.session.now c.args.items.now) ≡ is_passed) (λ (begin : Begin). IsBeginOf begin c.args.client (Writes (stamp (c.in-Some.session.now.counter + 1) c.args.client) c.args.items.now) (length c.args.items.now))
+      (λ (begin : Begin). IsBegin setup history (Put c.args.client c.args.items.now) begin)
+      (λ begin passed of. put_begins setup history c.args.self.now c.args.client c.in-Some.session.now stands rows at c.args.items.now begin (subst IsClient c.get.ensures.value c.get.ensures.valid) passed of) c.begin_put.result c.begin_put.ensures.passed c.begin_put.ensures.begun;
+}

@@ -20,8 +20,8 @@ put_prepare-requires-clause-member c =
     ap (λ n. slice_get (take n v.items) c.args.place) (sym c.from.ensures) ∙ slice_get_read items (length items) c.args.place item refl lookup.3.0 lookup.1 in
     written_at (take v.len v.items) v.writes c.args.place item c.self.invariant.1 own
 
-pub returns-clause-told : goal.returns-clause-told
-returns-clause-told c =
+pub returns : goal.returns
+returns c =
     let v = c.self.inside in
     let item = c.in-Some.item.now in
     let lookup = c.in-Some.ensures.lookup in
@@ -30,6 +30,10 @@ returns-clause-told c =
     ap (λ n. slice_get (take n v.items) c.args.place) (sym c.from.ensures) ∙ slice_get_read items (length items) c.args.place item refl lookup.3.0 lookup.1 in
     let f : Record → Outgoing = λ version. record { partition = home_of version.key c.args.parts; call = Prepare version } in
     let made : ℕ → Call → Outgoing = λ partition call. record { partition = partition; call = call } in
-    made_at f c.args.self.now (batch_calls c.args.parts (Prepares c.args.self.now)) c.args.place (record_of v.stamp v.writes item) (made c.home-message.result c.put_prepare.new.place) refl
-    (version_at v.stamp v.writes (take v.len v.items) c.args.self.now c.args.place item c.self.view_is own)
-    (ap (λ p. made p c.put_prepare.new.place) c.home-message.ensures.partition ∙ ap (made (home_of item.key c.args.parts)) c.put_prepare.ensures)
+    record {
+      told = made_at f c.args.self.now (batch_calls c.args.parts (Prepares c.args.self.now)) c.args.place (record_of v.stamp v.writes item) (made c.home-message.result c.put_prepare.new.place) refl
+          (version_at v.stamp v.writes (take v.len v.items) c.args.self.now c.args.place item c.self.view_is own)
+          (ap (λ p. made p c.put_prepare.new.place) c.home-message.ensures.partition ∙ ap (made (home_of item.key c.args.parts)) c.put_prepare.ensures);
+      rest = refl;
+      unchanged = λ e. cc;
+    }
