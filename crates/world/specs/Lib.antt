@@ -4,3 +4,5 @@ pub mod Opening
 pub mod Running
 pub mod Promises
 pub mod Memory
+pub mod Served
+pub mod Stepping

@@ -1,19 +1,18 @@
 //! Messages that are delivered, and messages that are lost.
-ghost use Rattle.std.specs.Prelude.{◌++◌, [], List, map, take, cond, ◌≡◌, ◌+◌, ◌<◌, ◌≤◌, ◌∷◌, ◌^◌, ℕ, length, false, All, Some, None, IsSome, MatchResult, OnErr};
+ghost use Rattle.std.specs.Prelude.{◌++◌, List, map, take, cond, ◌≡◌, ◌+◌, ◌<◌, ◌≤◌, ◌∷◌, ℕ, length, false, Some, None, IsSome, MatchResult, OnErr};
 ghost use Rattle.stamps.specs.Limits.{max_keys, max_parts, max_rows};
 ghost use Rattle.plain_store.specs.Words.{Setup, setup_of};
 ghost use Rattle.plain_store.specs.declared.step.Act.TheVariants.{Deliver, Lose};
 ghost use Rattle.plain_store.specs.History.{History, message_at};
 ghost use Rattle.plain_store.specs.Run.{moment_of, rows_are_used, with_reply, answer_to, call_message};
-ghost use Rattle.partition.specs.Shelf.{tenants as seats};
-ghost use Rattle.partition.specs.declared.shelf.Shelf.{Shelf as Shelved};
 ghost use Rattle.message_table.specs.Content.{StandsFor as TableStandsFor};
 ghost use Rattle.tenant_sessions.specs.Sessions.{IsRun, sends_calls, ending, waiting, StandsFor as SessionsStandFor};
 ghost use Rattle.tenant_sessions.specs.Moves.{moved};
 ghost use Rattle.plain_store.specs.declared.reading.Reading.{Reading as Told};
 ghost use Rattle.plain_store.specs.declared.message.Message.{Message as Sent};
-ghost use Rattle.world.specs.Standing.{TenantStandsFor, CellsStandFor, TenantSteps, ServesOrStays, OthersStay, answered_in_place};
-ghost use Rattle.world.specs.Memory.{MayTakeMemory, AsksLast};
+ghost use Rattle.world.specs.Standing.{TenantStandsFor, CellsStandFor, TenantSteps, OthersStay, answered_in_place};
+ghost use Rattle.world.specs.Served.{HaveItsCells, ServesAct, TakesAtOnce};
+ghost use Rattle.world.specs.Memory.{MayTakeMemory};
 
 use crate::sending;
 use crate::tenant::Tenant;
@@ -35,12 +34,9 @@ impl Tenant {
         row: u64,
         answer: &mut Answer,
     ) -> Result<(), OutOfMemory>
-        requires parts { 0 < length shelves.old }
-        requires seats { All (λ (shelf : Shelved). number < seats shelf) shelves.old }
-        ensures serves { ServesOrStays self.old self.new shelves.old shelves.new number (Deliver row) (answered_in_place result answer.new) }
-        ensures asks { AsksLast self.old (Deliver row) (answered_in_place result answer.new) }
-        ensures others { OthersStay shelves.old shelves.new number }
-        ensures limits { self.new.limits ≡ self.old.limits }
+        requires { HaveItsCells number shelves.old }
+        ensures { ServesAct (Deliver row) number self.old self.new shelves.old shelves.new
+            (answered_in_place result answer.new) }
     {
         if sending::rows_are_used(&self.table) {
             *answer = Answer::Refused(Refusal::RowsUsed);
@@ -65,16 +61,23 @@ impl Tenant {
         row: u64,
         answer: &mut Answer,
     ) -> Result<(), OutOfMemory>
-        requires parts { 0 < length shelves.old }
-        requires seats { All (λ (shelf : Shelved). number < seats shelf) shelves.old }
+        requires cells { HaveItsCells number shelves.old }
         requires rows { self.old.table.sent + max_parts ≤ max_rows }
-        ensures serves { (setup : Setup) (history : History) (message : Sent) → setup ≡ setup_of (length shelves.old) self.old.limits → IsRun setup history
-            → TenantStandsFor setup history self.old → CellsStandFor setup history shelves.old number
-            → rows_are_used history ≡ false → message_at history row ≡ Some message → message.reply ≡ None
-            → MatchResult (answered_in_place result answer.new) (λ told. TenantSteps setup history (Deliver row) told self.new × CellsStandFor setup (moment_of setup history (Deliver row) ∷ history) shelves.new number)
+        ensures serves { (setup : Setup) (history : History) (message : Sent)
+            → setup ≡ setup_of (length shelves.old) self.old.limits → IsRun setup history
+            → TenantStandsFor setup history self.old
+            → CellsStandFor setup history shelves.old number
+            → rows_are_used history ≡ false → message_at history row ≡ Some message
+            → message.reply ≡ None
+            → MatchResult (answered_in_place result answer.new)
+            (λ told. TenantSteps setup history (Deliver row) told self.new
+            × CellsStandFor setup (moment_of setup history (Deliver row)
+            ∷ history) shelves.new number)
             (λ _. TenantStandsFor setup history self.new × (shelves.new ≡ shelves.old)) }
-        ensures asks { OnErr (answered_in_place result answer.new) ((setup : Setup) (history : History) (message : Sent) → rows_are_used history ≡ false
-            → message_at history row ≡ Some message → message.reply ≡ None → MayTakeMemory history (Deliver row) (answer_to setup history (Deliver row))) }
+        ensures asks { OnErr (answered_in_place result answer.new)
+            ((setup : Setup) (history : History) (message : Sent) → rows_are_used history ≡ false
+            → message_at history row ≡ Some message → message.reply ≡ None
+            → MayTakeMemory history (Deliver row) (answer_to setup history (Deliver row))) }
         ensures others { OthersStay shelves.old shelves.new number }
         ensures limits { self.new.limits ≡ self.old.limits }
     {
@@ -100,11 +103,17 @@ impl Tenant {
     /// first.
     fn deliver_reply(&mut self, row: u64, answer: &mut Answer) -> Result<(), OutOfMemory>
         requires { self.old.table.sent + max_parts ≤ max_rows }
-        ensures takes { (setup : Setup) (history : History) (message : Sent) → IsRun setup history → TenantStandsFor setup history self.old
-            → rows_are_used history ≡ false → message_at history row ≡ Some message → IsSome message.reply
-            → MatchResult (answered_in_place result answer.new) (λ told. TenantSteps setup history (Deliver row) told self.new) (λ _. TenantStandsFor setup history self.new) }
-        ensures asks { OnErr (answered_in_place result answer.new) ((setup : Setup) (history : History) (message : Sent) → rows_are_used history ≡ false
-            → message_at history row ≡ Some message → IsSome message.reply → MayTakeMemory history (Deliver row) (answer_to setup history (Deliver row))) }
+        ensures takes { (setup : Setup) (history : History) (message : Sent) → IsRun setup history
+            → TenantStandsFor setup history self.old
+            → rows_are_used history ≡ false → message_at history row ≡ Some message
+            → IsSome message.reply
+            → MatchResult (answered_in_place result answer.new)
+            (λ told. TenantSteps setup history (Deliver row) told self.new)
+            (λ _. TenantStandsFor setup history self.new) }
+        ensures asks { OnErr (answered_in_place result answer.new)
+            ((setup : Setup) (history : History) (message : Sent) → rows_are_used history ≡ false
+            → message_at history row ≡ Some message → IsSome message.reply
+            → MayTakeMemory history (Deliver row) (answer_to setup history (Deliver row))) }
         ensures limits { self.new.limits ≡ self.old.limits }
     {
         self.table.reserve(MOST_ANSWERED)?;
@@ -127,9 +136,7 @@ impl Tenant {
 
     /// Loses the message of a row.
     pub fn lose(&mut self, row: u64, answer: &mut Answer)
-        ensures takes { (setup : Setup) (history : History) → IsRun setup history → TenantStandsFor setup history self.old
-            → TenantSteps setup history (Lose row) answer.new self.new }
-        ensures limits { self.new.limits ≡ self.old.limits }
+        ensures { TakesAtOnce (Lose row) self.old self.new answer.new }
     {
         if self.table.lose(row) {
             *answer = Answer::Lost;
@@ -152,9 +159,12 @@ fn with_reply(message: &Message, reply: &Reply) -> Message
 fn send_next(sessions: &Sessions, table: &mut Table, client: Client, ticket: u64, taken: &MoveKind)
     requires rows { table.old.sent + max_keys ≤ max_rows }
     requires room { max_keys ≤ table.old.reserved }
-    ensures { (setup : Setup) (history : History) (messages : List Sent) (lost : List ℕ) (readings : List Told) → IsRun setup history
+    ensures { (setup : Setup) (history : History) (messages : List Sent) (lost : List ℕ)
+        (readings : List Told) → IsRun setup history
         → SessionsStandFor setup history sessions.now → TableStandsFor table.old messages lost
-        → TableStandsFor table.new (messages ++ take max_keys (cond (sends_calls (moved taken.now readings)) (waiting setup history client)
+        → TableStandsFor table.new (messages
+        ++ take max_keys
+        (cond (sends_calls (moved taken.now readings)) (waiting setup history client)
         (map (call_message client ticket) (ending (moved taken.now readings))))) lost }
 {
     if taken.sends() {

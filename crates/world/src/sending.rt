@@ -1,5 +1,5 @@
 //! What a step sends.
-ghost use Rattle.std.specs.Prelude.{◌≡◌, ◌+◌, ◌-◌, ◌<◌, ◌≤◌, ◌^◌, ◌++◌, ◌∷◌, [], ℕ, List, map, take, false};
+ghost use Rattle.std.specs.Prelude.{◌≡◌, ◌+◌, ◌-◌, ◌<◌, ◌≤◌, ◌++◌, ◌∷◌, [], ℕ, List, map, take, false};
 ghost use Rattle.stamps.specs.Limits.{max_parts, max_rows};
 ghost use Rattle.plain_store.specs.Words.{Setup};
 ghost use Rattle.plain_store.specs.declared.message.Message.{Message as Sent};
@@ -20,7 +20,9 @@ const MOST_SENT: u64 = limits::MAX_PARTS as u64;
 
 /// Whether there may be too few rows left for what one step sends.
 pub fn rows_are_used(table: &Table) -> bool
-    ensures told { (history : History) → TableStandsFor table.now (messages history) (lost_rows history) → result ≡ rows_are_used history }
+    ensures told { (history : History)
+        → TableStandsFor table.now (messages history) (lost_rows history)
+        → result ≡ rows_are_used history }
     ensures room { result ≡ false → table.now.sent + max_parts ≤ max_rows }
 {
     table.sent() > Table::MAX_ROWS - MOST_SENT
@@ -28,7 +30,8 @@ pub fn rows_are_used(table: &Table) -> bool
 
 /// The rows of the next `count` messages.
 pub fn next_rows(table: &Table, count: u32) -> Rows
-    ensures { (history : History) → TableStandsFor table.now (messages history) (lost_rows history) → result ≡ next_rows history count }
+    ensures { (history : History) → TableStandsFor table.now (messages history) (lost_rows history)
+        → result ≡ next_rows history count }
 {
     let sent = table.sent();
     Rows {
@@ -56,7 +59,8 @@ pub fn send_reserved(table: &mut Table, message: Message) -> u64
 pub fn send_waiting(sessions: &Sessions, table: &mut Table, client: Client, limit: u32)
     requires rows { table.old.sent + limit ≤ max_rows }
     requires room { limit ≤ table.old.reserved }
-    ensures { (setup : Setup) (history : History) (messages : List Sent) (lost : List ℕ) → IsRun setup history
+    ensures { (setup : Setup) (history : History) (messages : List Sent) (lost : List ℕ)
+        → IsRun setup history
         → SessionsStandFor setup history sessions.now → TableStandsFor table.old messages lost
         → TableStandsFor table.new (messages ++ take limit (waiting setup history client)) lost }
 {
@@ -72,8 +76,11 @@ pub fn send_waiting(sessions: &Sessions, table: &mut Table, client: Client, limi
 pub fn send_ending(taken: &MoveKind, table: &mut Table, client: Client, ticket: u64, limit: u32)
     requires rows { table.old.sent + limit ≤ max_rows }
     requires room { limit ≤ table.old.reserved }
-    ensures { (messages : List Sent) (lost : List ℕ) (readings : List Told) → TableStandsFor table.old messages lost
-        → TableStandsFor table.new (messages ++ take limit (map (call_message client ticket) (ending (moved taken.now readings)))) lost }
+    ensures { (messages : List Sent) (lost : List ℕ) (readings : List Told)
+        → TableStandsFor table.old messages lost
+        → TableStandsFor table.new (messages
+        ++ take limit
+        (map (call_message client ticket) (ending (moved taken.now readings)))) lost }
 {
     for nth in 0..limit {
         let Some(message) = taken.ending(client, ticket, nth) else {

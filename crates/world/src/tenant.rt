@@ -1,9 +1,7 @@
 //! One tenant: its limits, its messages and its sessions.
-ghost use Rattle.std.specs.Prelude.{◌≡◌, ◌<◌, length, [], All, IfOk};
+ghost use Rattle.std.specs.Prelude.{◌≡◌, ◌<◌, [], IfOk};
 ghost use Rattle.stamps.specs.Bounds.{IsParts};
 ghost use Rattle.plain_store.specs.Words.{setup_of, IsAct};
-ghost use Rattle.partition.specs.Shelf.{tenants as seats};
-ghost use Rattle.partition.specs.declared.shelf.Shelf.{Shelf as Shelved};
 
 use message_table::Table;
 use partition::Shelf;
@@ -26,14 +24,15 @@ pub struct Tenant {
 }
 
 impl Tenant {
-    ghost use Rattle.world.specs.Standing.{TenantStandsFor, ServesOrStays, OthersStay, answered_in_place};
-    ghost use Rattle.world.specs.Memory.{AsksLast};
+    ghost use Rattle.world.specs.Standing.{TenantStandsFor, answered_in_place};
+    ghost use Rattle.world.specs.Served.{HaveItsCells, ServesAct};
 
     /// A tenant of `parts` partitions that has taken no step. The one error is that an allocation failed.
     pub fn open(alloc: Global, parts: u32, limits: &Limits) -> Result<Tenant, OutOfMemory>
         requires { IsParts parts }
         ensures limits { IfOk result (λ tenant. tenant.limits ≡ limits.now) }
-        ensures stands { IfOk result (λ tenant. TenantStandsFor (setup_of parts limits.now) [] tenant) }
+        ensures stands { IfOk result
+            (λ tenant. TenantStandsFor (setup_of parts limits.now) [] tenant) }
     {
         let sessions = Sessions::open(alloc, parts, limits.clients)?;
         let none: [Reading; 0] = [];
@@ -56,13 +55,10 @@ impl Tenant {
         answer: &mut Answer,
     ) -> Result<(), OutOfMemory>
         requires valid { IsAct act.now }
-        requires parts { 0 < length shelves.old }
-        requires seats { All (λ (shelf : Shelved). number < seats shelf) shelves.old }
-        ensures serves { ServesOrStays self.old self.new shelves.old shelves.new number act.now (answered_in_place result answer.new) }
+        requires cells { HaveItsCells number shelves.old }
         // Memory is asked for after all tests, and not to lose, to stop, to collect or to set what is kept.
-        ensures asks { AsksLast self.old act.now (answered_in_place result answer.new) }
-        ensures others { OthersStay shelves.old shelves.new number }
-        ensures limits { self.new.limits ≡ self.old.limits }
+        ensures { ServesAct act.now number self.old self.new shelves.old shelves.new
+            (answered_in_place result answer.new) }
     {
         match act {
             Act::Hello(client, base) => self.hello(*client, *base, answer),

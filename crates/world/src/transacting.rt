@@ -1,15 +1,15 @@
 //! Steps of a client's session: it opens and closes, begins transactions, and sends its calls again.
-ghost use Rattle.std.specs.Prelude.{◌≡◌, ◌≢◌, ◌+◌, ◌≤◌, ◌∷◌, ◌^◌, false, MatchResult, OnErr};
+ghost use Rattle.std.specs.Prelude.{◌≡◌, ◌≢◌, ◌+◌, ◌≤◌, false, MatchResult, OnErr};
 ghost use Rattle.stamps.specs.Limits.{max_parts, max_rows};
 ghost use Rattle.plain_store.specs.Words.{Setup, IsAct};
 ghost use Rattle.plain_store.specs.declared.step.Act.{Act as Told};
 ghost use Rattle.plain_store.specs.declared.step.Act.TheVariants.{Hello, Put, Get as GetAll, Find as Search, Retry, Stop};
 ghost use Rattle.plain_store.specs.History.{History};
 ghost use Rattle.plain_store.specs.Run.{rows_are_used, answer_to};
-ghost use Rattle.stamps.specs.Bounds.{IsClient};
 ghost use Rattle.tenant_sessions.specs.Sessions.{IsRun, IsBegin};
-ghost use Rattle.world.specs.Standing.{TenantStandsFor, TenantSteps, TakesOrStays, IsBeginning, answered_in_place};
-ghost use Rattle.world.specs.Memory.{MayTakeMemory, AsksLast};
+ghost use Rattle.world.specs.Standing.{TenantStandsFor, TenantSteps, IsBeginning, answered_in_place};
+ghost use Rattle.world.specs.Served.{TakesAct, TakesActOf, TakesAtOnce};
+ghost use Rattle.world.specs.Memory.{MayTakeMemory};
 
 use crate::sending;
 use crate::tenant::Tenant;
@@ -25,9 +25,8 @@ impl Tenant {
         base: Counter,
         answer: &mut Answer,
     ) -> Result<(), OutOfMemory>
-        ensures takes { TakesOrStays self.old self.new (Hello client base) (answered_in_place result answer.new) }
-        ensures asks { AsksLast self.old (Hello client base) (answered_in_place result answer.new) }
-        ensures limits { self.new.limits ≡ self.old.limits }
+        ensures { TakesAct (Hello client base) self.old self.new
+            (answered_in_place result answer.new) }
     {
         match self.sessions.hello(client, base) {
             Ok(counter) => {
@@ -45,9 +44,8 @@ impl Tenant {
         items: &[Item],
         answer: &mut Answer,
     ) -> Result<(), OutOfMemory>
-        ensures takes { IsClient client → TakesOrStays self.old self.new (Put client items.now) (answered_in_place result answer.new) }
-        ensures asks { AsksLast self.old (Put client items.now) (answered_in_place result answer.new) }
-        ensures limits { self.new.limits ≡ self.old.limits }
+        ensures { TakesActOf client (Put client items.now) self.old self.new
+            (answered_in_place result answer.new) }
     {
         if sending::rows_are_used(&self.table) {
             *answer = Answer::Refused(Refusal::RowsUsed);
@@ -69,9 +67,8 @@ impl Tenant {
         keys: &[Key],
         answer: &mut Answer,
     ) -> Result<(), OutOfMemory>
-        ensures takes { IsClient client → TakesOrStays self.old self.new (GetAll client keys.now) (answered_in_place result answer.new) }
-        ensures asks { AsksLast self.old (GetAll client keys.now) (answered_in_place result answer.new) }
-        ensures limits { self.new.limits ≡ self.old.limits }
+        ensures { TakesActOf client (GetAll client keys.now) self.old self.new
+            (answered_in_place result answer.new) }
     {
         if sending::rows_are_used(&self.table) {
             *answer = Answer::Refused(Refusal::RowsUsed);
@@ -88,9 +85,8 @@ impl Tenant {
 
     /// Begins to search for the tag. Room for its calls is reserved before anything changes.
     pub fn find(&mut self, client: Client, tag: Tag, answer: &mut Answer) -> Result<(), OutOfMemory>
-        ensures takes { IsClient client → TakesOrStays self.old self.new (Search client tag) (answered_in_place result answer.new) }
-        ensures asks { AsksLast self.old (Search client tag) (answered_in_place result answer.new) }
-        ensures limits { self.new.limits ≡ self.old.limits }
+        ensures { TakesActOf client (Search client tag) self.old self.new
+            (answered_in_place result answer.new) }
     {
         if sending::rows_are_used(&self.table) {
             *answer = Answer::Refused(Refusal::RowsUsed);
@@ -108,10 +104,15 @@ impl Tenant {
     /// Begins a transaction that passed its tests: reserves room for its calls, starts it, and sends them.
     fn begin(&mut self, begin: &Begin<'_>, answer: &mut Answer) -> Result<(), OutOfMemory>
         requires { self.old.table.sent + max_parts ≤ max_rows }
-        ensures takes { (setup : Setup) (history : History) (act : Told) → IsRun setup history → TenantStandsFor setup history self.old
-            → rows_are_used history ≡ false → IsAct act → IsBeginning act → IsBegin setup history act begin.now
-            → MatchResult (answered_in_place result answer.new) (λ told. TenantSteps setup history act told self.new) (λ _. TenantStandsFor setup history self.new) }
-        ensures asks { OnErr (answered_in_place result answer.new) ((setup : Setup) (history : History) (act : Told) → IsBegin setup history act begin.now
+        ensures takes { (setup : Setup) (history : History) (act : Told) → IsRun setup history
+            → TenantStandsFor setup history self.old
+            → rows_are_used history ≡ false → IsAct act → IsBeginning act
+            → IsBegin setup history act begin.now
+            → MatchResult (answered_in_place result answer.new)
+            (λ told. TenantSteps setup history act told self.new)
+            (λ _. TenantStandsFor setup history self.new) }
+        ensures asks { OnErr (answered_in_place result answer.new)
+            ((setup : Setup) (history : History) (act : Told) → IsBegin setup history act begin.now
             → MayTakeMemory history act (answer_to setup history act)) }
         ensures limits { self.new.limits ≡ self.old.limits }
     {
@@ -126,9 +127,8 @@ impl Tenant {
 
     /// Sends again the calls that the client's transaction has no reply to. Room for them is reserved first.
     pub fn retry(&mut self, client: Client, answer: &mut Answer) -> Result<(), OutOfMemory>
-        ensures takes { TakesOrStays self.old self.new (Retry client) (answered_in_place result answer.new) }
-        ensures asks { AsksLast self.old (Retry client) (answered_in_place result answer.new) }
-        ensures limits { self.new.limits ≡ self.old.limits }
+        ensures { TakesAct (Retry client) self.old self.new
+            (answered_in_place result answer.new) }
     {
         if sending::rows_are_used(&self.table) {
             *answer = Answer::Refused(Refusal::RowsUsed);
@@ -154,9 +154,7 @@ impl Tenant {
 
     /// Closes the client's session, and ends its transaction.
     pub fn stop(&mut self, client: Client, answer: &mut Answer)
-        ensures takes { (setup : Setup) (history : History) → IsRun setup history → TenantStandsFor setup history self.old
-            → TenantSteps setup history (Stop client) answer.new self.new }
-        ensures limits { self.new.limits ≡ self.old.limits }
+        ensures { TakesAtOnce (Stop client) self.old self.new answer.new }
     {
         match self.sessions.stop(client) {
             Ok(()) => *answer = Answer::Stopped,
@@ -167,7 +165,9 @@ impl Tenant {
 
 /// The answer that reports a refusal, where the cause is not an allocation that failed.
 fn refused(refusal: Refusal, answer: &mut Answer) -> Result<(), OutOfMemory>
-    ensures { MatchResult (answered_in_place result answer.new) (λ told. (told ≡ Answer.Refused refusal) × (refusal ≢ Refusal.OutOfMemory)) (λ _. refusal ≡ Refusal.OutOfMemory) }
+    ensures { MatchResult (answered_in_place result answer.new)
+        (λ told. (told ≡ Answer.Refused refusal)
+        × (refusal ≢ Refusal.OutOfMemory)) (λ _. refusal ≡ Refusal.OutOfMemory) }
 {
     match refusal {
         Refusal::OutOfMemory => Err(OutOfMemory),

@@ -10,8 +10,8 @@ ghost use Rattle.plain_store.specs.declared.step.Step.{Step as Stepped};
 ghost use Rattle.world.specs.Content.{parts_of, limits_of};
 ghost use Rattle.world.specs.Standing.{StandsFor, history_of, answered_in_place};
 ghost use Rattle.world.specs.Opening.{IsOpenedShelf, IsFresh};
-ghost use Rattle.world.specs.Promises.{IsPromisedAfter, StepIsPromised, ArePromised, AreCallsOf};
-ghost use Rattle.world.specs.Memory.{StepAsksLast};
+ghost use Rattle.world.specs.Promises.{IsPromisedAfter, ArePromised, AreCallsOf};
+ghost use Rattle.world.specs.Stepping.{StepsOn};
 ghost use Rattle.world.specs.Running.{Ran, added, steps_taken};
 ghost use Rattle.world.specs.declared.tenant.Tenant.{Tenant as Owned};
 
@@ -75,18 +75,7 @@ impl World {
     /// step asks for memory after all its tests, so a step that would be refused asks for none; nor does the loss of a
     /// message, a stop, a collection or a step that sets what collections keep.
     pub fn step(&mut self, step: &Step) -> Result<Answer, OutOfMemory>
-        ensures answer { IfOk result (λ answer. (before : List Stepped) → StandsFor self.old before
-            → answer ≡ store_answer (parts_of self.old) (limits_of self.old) before step.now) }
-        ensures stands { OnOk result ((before : List Stepped) → StandsFor self.old before → StandsFor self.new (before ++ step.now ∷ [])) }
-        ensures unchanged { OnErr result ((before : List Stepped) → StandsFor self.old before → StandsFor self.new before) }
-        // Memory is refused only to a step that is not, and that neither loses nor stops nor collects nor sets what is kept.
-        ensures asks { StepAsksLast self.old step.now result }
-        // Each promise is kept: the answer is read atomic, true, fresh and so on.
-        ensures promised { StepIsPromised self.old step.now result }
-        // The calls that the world holds go home and are few.
-        ensures calls { OnOk result ((before : List Stepped) → StandsFor self.old before → AreCallsOf self.new (before ++ step.now ∷ [])) }
-        ensures parts { parts_of self.new ≡ parts_of self.old }
-        ensures limits { limits_of self.new ≡ limits_of self.old }
+        ensures { StepsOn step.now self.old self.new result }
     {
         let mut answer = Answer::Ignored;
         match self.step_into(step, &mut answer) {
@@ -98,18 +87,7 @@ impl World {
     /// Does what `step` does, and writes the answer into the caller's buffer. Where an allocation failed, what is left there
     /// reports nothing.
     pub fn step_into(&mut self, step: &Step, answer: &mut Answer) -> Result<(), OutOfMemory>
-        ensures answer { IfOk (answered_in_place result answer.new) (λ told. (before : List Stepped) → StandsFor self.old before
-            → told ≡ store_answer (parts_of self.old) (limits_of self.old) before step.now) }
-        ensures stands { OnOk (answered_in_place result answer.new) ((before : List Stepped) → StandsFor self.old before → StandsFor self.new (before ++ step.now ∷ [])) }
-        ensures unchanged { OnErr (answered_in_place result answer.new) ((before : List Stepped) → StandsFor self.old before → StandsFor self.new before) }
-        // Memory is refused only to a step that is not, and that neither loses nor stops nor collects nor sets what is kept.
-        ensures asks { StepAsksLast self.old step.now (answered_in_place result answer.new) }
-        // Each promise is kept: the answer is read atomic, true, fresh and so on.
-        ensures promised { StepIsPromised self.old step.now (answered_in_place result answer.new) }
-        // The calls that the world holds go home and are few.
-        ensures calls { OnOk (answered_in_place result answer.new) ((before : List Stepped) → StandsFor self.old before → AreCallsOf self.new (before ++ step.now ∷ [])) }
-        ensures parts { parts_of self.new ≡ parts_of self.old }
-        ensures limits { limits_of self.new ≡ limits_of self.old }
+        ensures { StepsOn step.now self.old self.new (answered_in_place result answer.new) }
     {
         step.act.read_client();
         let place = step.tenant as usize;
@@ -124,16 +102,22 @@ impl World {
     /// The message of a tenant's row, 1, 2 and so on in the order of sending; none where that row was never sent or was
     /// lost, or where there is no such tenant.
     pub fn message(&self, tenant: u32, row: u64) -> Option<&Message>
-        ensures { (before : List Stepped) (its : Limited) → StandsFor self.now before → slice_get (limits_of self.now) tenant ≡ Some its
-            → option_copied result ≡ message_at (history_of (setup_of (parts_of self.now) its) tenant before) row }
+        ensures { (before : List Stepped) (its : Limited) → StandsFor self.now before
+            → slice_get (limits_of self.now) tenant ≡ Some its
+            → option_copied result
+            ≡ message_at (history_of (setup_of (parts_of self.now) its) tenant before) row }
     {
         self.tenants.get(tenant as usize)?.table.get(row)
     }
 
     /// How many committed versions of an item a tenant's collections keep now; none where there is no such tenant.
     pub fn keep(&self, tenant: u32) -> Option<Keep>
-        ensures { (before : List Stepped) (its : Limited) → StandsFor self.now before → slice_get (limits_of self.now) tenant ≡ Some its
-            → result ≡ Some (keep_in (setup_of (parts_of self.now) its) (history_of (setup_of (parts_of self.now) its) tenant before)) }
+        ensures { (before : List Stepped) (its : Limited) → StandsFor self.now before
+            → slice_get (limits_of self.now) tenant ≡ Some its
+            → result
+            ≡ Some
+            (keep_in (setup_of (parts_of self.now) its)
+            (history_of (setup_of (parts_of self.now) its) tenant before)) }
     {
         Some(self.tenants.get(tenant as usize)?.keep)
     }
@@ -142,13 +126,17 @@ impl World {
     /// this, and the answers are those to the steps before it.
     pub fn run(&mut self, steps: &[Step], answers: &mut Vec<Answer>) -> Result<(), OutOfMemory>
         ensures ran { (before : List Stepped) → StandsFor self.old before
-            → Ran (parts_of self.old) (limits_of self.old) self.new before steps.now answers.old.items answers.new.items (is_ok result) }
+            → Ran (parts_of self.old)
+            (limits_of self.old) self.new before steps.now answers.old.items answers.new.items
+            (is_ok result) }
         // Each tenant is answered as if its own steps were all, and each promise is kept by each answer.
         ensures promised { (before : List Stepped) → StandsFor self.old before
-            → ArePromised (parts_of self.old) (limits_of self.old) before steps.now (added answers.old.items answers.new.items) }
+            → ArePromised (parts_of self.old) (limits_of self.old) before steps.now
+            (added answers.old.items answers.new.items) }
         // The calls that the world holds go home and are few.
         ensures calls { (before : List Stepped) → StandsFor self.old before
-            → AreCallsOf self.new (before ++ steps_taken steps.now answers.old.items answers.new.items) }
+            → AreCallsOf self.new (before
+            ++ steps_taken steps.now answers.old.items answers.new.items) }
         ensures parts { parts_of self.new ≡ parts_of self.old }
         ensures limits { limits_of self.new ≡ limits_of self.old }
     {
@@ -161,10 +149,15 @@ impl World {
     /// Takes one step, and adds its answer, for which it makes room first.
     fn answer(&mut self, step: &Step, answers: &mut Vec<Answer>) -> Result<(), OutOfMemory>
         ensures ok { OnOk result ((before : List Stepped) → StandsFor self.old before
-            → (answers.new.items ≡ answers.old.items ++ store_answer (parts_of self.old) (limits_of self.old) before step.now ∷ []) × StandsFor self.new (before ++ step.now ∷ [])) }
+            → (answers.new.items
+            ≡ answers.old.items
+            ++ store_answer (parts_of self.old) (limits_of self.old) before step.now ∷ [])
+            × StandsFor self.new (before ++ step.now ∷ [])) }
         ensures promised { OnOk result ((before : List Stepped) → StandsFor self.old before
-            → IsPromisedAfter (parts_of self.old) (limits_of self.old) before step.now (store_answer (parts_of self.old) (limits_of self.old) before step.now)) }
-        ensures err { OnErr result ((before : List Stepped) → StandsFor self.old before → StandsFor self.new before) }
+            → IsPromisedAfter (parts_of self.old) (limits_of self.old) before step.now
+            (store_answer (parts_of self.old) (limits_of self.old) before step.now)) }
+        ensures err { OnErr result ((before : List Stepped) → StandsFor self.old before
+            → StandsFor self.new before) }
         ensures kept { OnErr result (answers.new.items ≡ answers.old.items) }
         ensures parts { parts_of self.new ≡ parts_of self.old }
         ensures limits { limits_of self.new ≡ limits_of self.old }
@@ -191,7 +184,8 @@ fn open_shelves(alloc: Global, parts: u32, limits: &[Limits]) -> Result<Vec<Shel
 /// A tenant for each of the limits.
 fn open_tenants(alloc: Global, parts: u32, limits: &[Limits]) -> Result<Vec<Tenant>, OutOfMemory>
     requires { IsParts parts }
-    ensures limits { IfOk result (λ tenants. map (λ (tenant : Owned). tenant.limits) tenants.items ≡ limits.now) }
+    ensures limits { IfOk result (λ tenants. map (λ (tenant : Owned). tenant.limits) tenants.items
+        ≡ limits.now) }
     ensures fresh { IfOk result (λ tenants. All (IsFresh parts) tenants.items) }
 {
     let mut tenants = Vec::with_capacity(alloc, limits.len())?;

@@ -21,7 +21,7 @@ returns-then-place-shelves-clause-serves c setup history message own is stands c
     let parts : setup.partitions ≡ length c.args.shelves.now = ap (λ s. s.partitions) own in
     let room = c.in_ok-reserve.ensures.stands (messages history) (lost_rows history) stands.table in
     let here = sym (c.get.ensures.in_history history room) ∙ ap option_copied c.in-Some.is in
-    let there = partition_within setup (omega (arith, parts, c.requires.parts)) history c.args.row c.in-Some.message.now is here in
+    let there = partition_within setup (omega (arith, parts, c.requires.cells.parts)) history c.args.row c.in-Some.message.now is here in
     absurd (omega (arith, there, parts, c.if-place-shelves.true))
 
 -- the row's message is there
