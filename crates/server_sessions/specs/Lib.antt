@@ -7,3 +7,4 @@ pub mod Ports
 pub mod Places
 pub mod Peers
 pub mod Passing
+pub mod Promised

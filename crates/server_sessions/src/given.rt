@@ -88,7 +88,8 @@ pub(crate) fn ask_seat<G: Gate, H: Wait>(
     request: &Request,
     answer: &mut Given,
 ) -> bool
-    ensures answered { result ≡ true → IsAnswered newest (length hub.now.limits) request.now seat.old answer.new seat.new }
+    ensures answered { result ≡ true
+        → IsAnswered newest (length hub.now.limits) request.now seat.old answer.new seat.new }
     ensures bye { result ≡ false → (request.now ≡ Bye) × (seat.new ≡ seat.old) }
     ensures name { seat.new.name ≡ seat.old.name }
 {
@@ -138,7 +139,8 @@ fn ask_put<G: Gate, H: Wait>(
 #[cold]
 #[inline(never)]
 fn set_keep<G: Gate, H: Wait>(rt: &H, hub: &Hub<G>, tenant: u32, keep: Keep, answer: &mut Given)
-    ensures { answer.new ≡ cond (nat_lt tenant (length hub.now.limits)) (KeepsSoMany keep) (Refused NoTenant) }
+    ensures { answer.new
+        ≡ cond (nat_lt tenant (length hub.now.limits)) (KeepsSoMany keep) (Refused NoTenant) }
 {
     match hub.set_keep(rt, tenant, keep) {
         Ok(()) => answer.answer = Answer::Keeps(keep),

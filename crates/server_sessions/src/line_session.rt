@@ -1,20 +1,19 @@
 //! A session: the lines of one connection, answered by a running store.
-ghost use Rattle.std.specs.Prelude.{◌≡◌, ◌+◌, ◌<◌, ◌≤◌, ◌++◌, true, false, cond, nat_lt, length, vec_len, take, ℕ, List, [], ◌↔◌, Some, None, IfSome, IfNone, IsSome, IsTrue, IfOk, IfErr, OnOk};
+ghost use Rattle.std.specs.Prelude.{◌≡◌, ◌+◌, ◌<◌, ◌≤◌, ◌++◌, true, false, length, take, ℕ, List, [], ◌↔◌, Some, None, IfSome, IfNone, IsSome, IsTrue, IfOk, IfErr, OnOk};
 ghost use Rattle.std.specs.Option.{option_map};
 ghost use Rattle.std.specs.Io.KnownBytes.{Appends, Keeps};
-ghost use Rattle.plain_store.specs.declared.answer.Answer.TheVariants.{Keeps as KeepsSoMany, Ready, Refused};
-ghost use Rattle.plain_store.specs.declared.refusal.Refusal.{Refusal as Cause};
+ghost use Rattle.plain_store.specs.declared.answer.Answer.TheVariants.{Ready, Refused};
 ghost use Rattle.plain_store.specs.declared.refusal.Refusal.TheVariants.{BadLine, NoTenant, OutOfMemory};
 ghost use Rattle.line_protocol.specs.declared.request.Request.TheVariants.{Bye};
 ghost use Rattle.line_protocol.specs.AnswerSpelling.{answer_line};
-ghost use Rattle.line_protocol.specs.ServeSpelling.{IsServeLine};
 ghost use Rattle.line_protocol.specs.Stream.{HasNoLineFeed, IsLine, terminated};
 ghost use Rattle.line_runs.specs.RunAnswers.{Gathers};
-ghost use Rattle.server_sessions.specs.Answered.{BreaksOffIn, EndsBefore, HasAnswered, HasAnsweredSome, IsOfSeat, StaysBehind, TakesBytes, TakesInput};
+ghost use Rattle.server_sessions.specs.Answered.{BreaksOffIn, EndsBefore, IsOfSeat, StaysBehind, TakesBytes, TakesInput};
 ghost use Rattle.server_sessions.specs.declared.line_session.SessionEnd.TheVariants.{Unread};
 ghost use Rattle.server_sessions.specs.Answering.{GoesOnBehind, IsAnsweredBy, IsEndOfInput, IsGreeted, IsLineAnswered, last_line, no_options, refused_as};
 ghost use Rattle.server_sessions.specs.Counting.{counted_as, counted_last, if_counts, kind_of};
-ghost use Rattle.server_sessions.specs.Telling.{BreaksTelling, HasName, IsAnswered, IsAnsweredAndDrained, IsBegun, IsDrained, IsLastLine, IsPut, IsSeated, IsWritten, Tells, seat_tenant};
+ghost use Rattle.server_sessions.specs.Promised.{HasRun, KeepsTelling, MayAnswer};
+ghost use Rattle.server_sessions.specs.Telling.{IsAnsweredAndDrained, IsDrained, IsLastLine, IsSeated, Tells, seat_tenant};
 
 use crate::answer_counts::{AnswerCounts, Counted};
 use crate::given::{Given, ask_seat, put_answer, tell_refusal};
@@ -72,16 +71,8 @@ pub fn run_session<'s, G: Gate, H: Wait, R: Read, W: Write>(
     reader: &mut R,
     writer: &mut W,
 ) -> (Option<Transcript>, Result<(), RunFault>)
-    // A transcript stands there exactly where a seat was opened. Then `ready` and its counter were written, and the answers
-    // that the transcript has, each in its turn.
-    ensures written { IfOk result.1 (λ _. IsWritten false hub.now.epoch result.0 (W.contents writer.old) (W.contents writer.new)) }
-    // At a fault a beginning of that was written, and the transcript stands there just so.
-    ensures begun { IfErr result.1 (λ _. IsBegun false hub.now.epoch result.0 (W.contents writer.old) (W.contents writer.new)) }
-    ensures tenant { IfSome result.0 (λ t. HasName names.now t.tenant) }
-    // Each line of a prefix of the input was answered, in its turn, and then the session ended.
-    ensures answered { IfOk result.1 (λ _. IfSome (R.remaining reader.old) (λ input. HasAnswered no_options hub.now names.now input result.0 (W.contents writer.old) (W.contents writer.new))) }
-    // At a fault a beginning of the answers to such lines was written.
-    ensures broke { IfErr result.1 (λ _. IfSome (R.remaining reader.old) (λ input. HasAnsweredSome no_options hub.now names.now input result.0 (W.contents writer.old) (W.contents writer.new))) }
+    ensures { HasRun no_options hub.now names.now (R.remaining reader.old)
+        (W.contents writer.old) (W.contents writer.new) result.0 result.1 }
 {
     let options = SessionOptions {
         strict: false,
@@ -117,17 +108,8 @@ pub fn run_session_as<'s, G: Gate, H: Wait, R: Read, W: Write>(
     reader: &mut R,
     writer: &mut W,
 ) -> (Option<Transcript>, Result<(), RunFault>)
-    // A transcript stands there exactly where a seat was opened. Then `ready` and its counter were written, and the answers
-    // that the transcript has, each in its turn.
-    ensures written { IfOk result.1 (λ _. IsWritten options.newest hub.now.epoch result.0 (W.contents writer.old) (W.contents writer.new)) }
-    // At a fault a beginning of that was written, and the transcript stands there just so.
-    ensures begun { IfErr result.1 (λ _. IsBegun options.newest hub.now.epoch result.0 (W.contents writer.old) (W.contents writer.new)) }
-    ensures tenant { IfSome result.0 (λ t. HasName names.now t.tenant) }
-    // Each line of a prefix of the input was answered, in its turn, and then the session ended. A strict one goes on only
-    // behind lines that it could read, until it has a seat.
-    ensures answered { IfOk result.1 (λ _. IfSome (R.remaining reader.old) (λ input. HasAnswered options hub.now names.now input result.0 (W.contents writer.old) (W.contents writer.new))) }
-    // At a fault a beginning of the answers to such lines was written.
-    ensures broke { IfErr result.1 (λ _. IfSome (R.remaining reader.old) (λ input. HasAnsweredSome options hub.now names.now input result.0 (W.contents writer.old) (W.contents writer.new))) }
+    ensures { HasRun options hub.now names.now (R.remaining reader.old)
+        (W.contents writer.old) (W.contents writer.new) result.0 result.1 }
 {
     let Ok(mut out) = BytesMut::with_capacity(alloc, GATHERED) else {
         return (None, Err(RunFault::OutOfMemory));
@@ -155,8 +137,10 @@ pub fn run_session_as<'s, G: Gate, H: Wait, R: Read, W: Write>(
 
 // Ends the seat, if one was opened.
 fn end_seat<G: Gate, H: Wait>(rt: &H, seat: Option<Seat<'_, G>>) -> Option<Transcript>
-    ensures counter { option_map (λ t. t.counter) result ≡ option_map (λ s. s.name.counter) seat.entry }
-    ensures entries { option_map (λ t. t.entries.items) result ≡ option_map (λ s. s.entries) seat.entry }
+    ensures counter { option_map (λ t. t.counter) result
+        ≡ option_map (λ s. s.name.counter) seat.entry }
+    ensures entries { option_map (λ t. t.entries.items) result
+        ≡ option_map (λ s. s.entries) seat.entry }
     ensures tenant { option_map (λ t. t.tenant) result ≡ seat_tenant seat.entry }
     ensures whole { IsOfSeat 0 seat.entry result }
 {
@@ -184,8 +168,11 @@ fn finish<W: Write>(ending: SessionEnd, out: &mut BytesMut, writer: &mut W) -> R
     ensures written { OnOk result ((last : List ℕ) × IsLastLine last
         × Appends (W.contents writer.old) (W.contents writer.new) (out.old.items ++ last)) }
     ensures begun { IfErr result (λ _. (last : List ℕ) × (n : ℕ) × IsLastLine last
-        × Appends (W.contents writer.old) (W.contents writer.new) (take n (out.old.items ++ last))) }
-    ensures last { OnOk result (Appends (W.contents writer.old) (W.contents writer.new) (out.old.items ++ last_line ending)) }
+        × Appends (W.contents writer.old) (W.contents writer.new)
+        (take n (out.old.items ++ last))) }
+    ensures last { OnOk result
+        (Appends (W.contents writer.old) (W.contents writer.new) (out.old.items
+        ++ last_line ending)) }
 {
     put_last(ending, out);
     flush(out, writer)
@@ -228,19 +215,23 @@ fn answer_lines<'s, G: Gate, H: Wait, R: Read, W: Write>(
     reader: &mut R,
     writer: &mut W,
 ) -> Result<SessionEnd, RunFault>
-    requires ready { LINE_LIMIT ≤ out.old.spare }
-    requires tenant { IsSeated connection.old.seat connection.old.terms.names.now }
-    ensures ready { OnOk result (LINE_LIMIT ≤ out.new.spare) }
+    requires { MayAnswer LINE_LIMIT out.old.spare connection.old.seat
+        connection.old.terms.names.now }
+    ensures keeps { let terms = connection.old.terms in
+        KeepsTelling terms.options.newest hub.now.epoch connection.new.terms.names.now
+        connection.old.seat connection.new.seat (W.contents writer.old) (W.contents writer.new)
+        out.old.items out.new.items LINE_LIMIT out.new.spare result }
     ensures terms { connection.new.terms ≡ connection.old.terms }
-    ensures tenant { IsSeated connection.new.seat connection.new.terms.names.now }
-    ensures told { OnOk result ((text : List ℕ) × Gathers (W.contents writer.old) (W.contents writer.new) out.old.items out.new.items text
-        × Tells connection.old.terms.options.newest hub.now.epoch connection.old.seat connection.new.seat text) }
-    ensures begun { IfErr result (λ _. BreaksTelling connection.old.terms.options.newest hub.now.epoch connection.old.seat connection.new.seat
-        (W.contents writer.old) (W.contents writer.new) out.old.items) }
-    ensures answered { IfOk result (λ ending. IfSome (R.remaining reader.old) (λ input. TakesInput connection.old.terms.options hub.now connection.old.terms.names.now ending connection.old.seat connection.new.seat
-        input (W.contents writer.old) (W.contents writer.new) out.old.items out.new.items)) }
-    ensures broke { IfErr result (λ _. IfSome (R.remaining reader.old) (λ input. BreaksOffIn connection.old.terms.options hub.now connection.old.terms.names.now connection.old.seat connection.new.seat
-        input (W.contents writer.old) (W.contents writer.new) out.old.items)) }
+    ensures answered { let terms = connection.old.terms in
+        IfOk result (λ ending. IfSome (R.remaining reader.old) (λ input.
+        TakesInput terms.options hub.now terms.names.now ending
+        connection.old.seat connection.new.seat input
+        (W.contents writer.old) (W.contents writer.new) out.old.items out.new.items)) }
+    ensures broke { let terms = connection.old.terms in
+        IfErr result (λ _. IfSome (R.remaining reader.old) (λ input.
+        BreaksOffIn terms.options hub.now terms.names.now
+        connection.old.seat connection.new.seat input
+        (W.contents writer.old) (W.contents writer.new) out.old.items)) }
 {
     let mut lines = Lines::open(connection.alloc)?;
     let mut buffer = read_buffer(connection.alloc)?;
@@ -289,21 +280,23 @@ fn answer_piece<'s, G: Gate, H: Wait, W: Write>(
     piece: &[u8],
     writer: &mut W,
 ) -> Result<Option<SessionEnd>, RunFault>
-    requires ready { LINE_LIMIT ≤ out.old.spare }
     requires waits { HasNoLineFeed lines.old }
-    requires tenant { IsSeated connection.old.seat connection.old.terms.names.now }
-    ensures ready { OnOk result (LINE_LIMIT ≤ out.new.spare) }
+    requires may { MayAnswer LINE_LIMIT out.old.spare connection.old.seat
+        connection.old.terms.names.now }
+    ensures keeps { let terms = connection.old.terms in
+        KeepsTelling terms.options.newest hub.now.epoch connection.new.terms.names.now
+        connection.old.seat connection.new.seat (W.contents writer.old) (W.contents writer.new)
+        out.old.items out.new.items LINE_LIMIT out.new.spare result }
     ensures waits { OnOk result (HasNoLineFeed lines.new) }
     ensures terms { connection.new.terms ≡ connection.old.terms }
-    ensures tenant { IsSeated connection.new.seat connection.new.terms.names.now }
-    ensures told { OnOk result ((text : List ℕ) × Gathers (W.contents writer.old) (W.contents writer.new) out.old.items out.new.items text
-        × Tells connection.old.terms.options.newest hub.now.epoch connection.old.seat connection.new.seat text) }
-    ensures begun { IfErr result (λ _. BreaksTelling connection.old.terms.options.newest hub.now.epoch connection.old.seat connection.new.seat
+    ensures answered { let terms = connection.old.terms in
+        IfOk result (λ ending. TakesBytes terms.options hub.now terms.names.now ending
+        connection.old.seat connection.new.seat (lines.old ++ piece.now) lines.new
+        (W.contents writer.old) (W.contents writer.new) out.old.items out.new.items) }
+    ensures broke { let terms = connection.old.terms in
+        IfErr result (λ _. BreaksOffIn terms.options hub.now terms.names.now
+        connection.old.seat connection.new.seat (lines.old ++ piece.now)
         (W.contents writer.old) (W.contents writer.new) out.old.items) }
-    ensures answered { IfOk result (λ ending. TakesBytes connection.old.terms.options hub.now connection.old.terms.names.now ending connection.old.seat connection.new.seat
-        (lines.old ++ piece.now) lines.new (W.contents writer.old) (W.contents writer.new) out.old.items out.new.items) }
-    ensures broke { IfErr result (λ _. BreaksOffIn connection.old.terms.options hub.now connection.old.terms.names.now connection.old.seat connection.new.seat
-        (lines.old ++ piece.now) (W.contents writer.old) (W.contents writer.new) out.old.items) }
 {
     let mut rest = piece;
     while !rest.is_empty() {
@@ -328,20 +321,22 @@ fn answer_waiting<'s, G: Gate, H: Wait, W: Write>(
     out: &mut BytesMut,
     writer: &mut W,
 ) -> Result<Option<SessionEnd>, RunFault>
-    requires ready { LINE_LIMIT ≤ out.old.spare }
-    requires tenant { IsSeated connection.old.seat connection.old.terms.names.now }
-    ensures ready { OnOk result (LINE_LIMIT ≤ out.new.spare) }
+    requires { MayAnswer LINE_LIMIT out.old.spare connection.old.seat
+        connection.old.terms.names.now }
+    ensures keeps { let terms = connection.old.terms in
+        KeepsTelling terms.options.newest hub.now.epoch connection.new.terms.names.now
+        connection.old.seat connection.new.seat (W.contents writer.old) (W.contents writer.new)
+        out.old.items out.new.items LINE_LIMIT out.new.spare result }
     ensures waits { OnOk result (HasNoLineFeed lines.new) }
     ensures terms { connection.new.terms ≡ connection.old.terms }
-    ensures tenant { IsSeated connection.new.seat connection.new.terms.names.now }
-    ensures told { OnOk result ((text : List ℕ) × Gathers (W.contents writer.old) (W.contents writer.new) out.old.items out.new.items text
-        × Tells connection.old.terms.options.newest hub.now.epoch connection.old.seat connection.new.seat text) }
-    ensures begun { IfErr result (λ _. BreaksTelling connection.old.terms.options.newest hub.now.epoch connection.old.seat connection.new.seat
+    ensures answered { let terms = connection.old.terms in
+        IfOk result (λ ending. TakesBytes terms.options hub.now terms.names.now ending
+        connection.old.seat connection.new.seat lines.old lines.new
+        (W.contents writer.old) (W.contents writer.new) out.old.items out.new.items) }
+    ensures broke { let terms = connection.old.terms in
+        IfErr result (λ _. BreaksOffIn terms.options hub.now terms.names.now
+        connection.old.seat connection.new.seat lines.old
         (W.contents writer.old) (W.contents writer.new) out.old.items) }
-    ensures answered { IfOk result (λ ending. TakesBytes connection.old.terms.options hub.now connection.old.terms.names.now ending connection.old.seat connection.new.seat
-        lines.old lines.new (W.contents writer.old) (W.contents writer.new) out.old.items out.new.items) }
-    ensures broke { IfErr result (λ _. BreaksOffIn connection.old.terms.options hub.now connection.old.terms.names.now connection.old.seat connection.new.seat
-        lines.old (W.contents writer.old) (W.contents writer.new) out.old.items) }
 {
     let Some(line) = lines.next_line() else {
         return Ok(None);
@@ -372,21 +367,26 @@ fn answer_next<'s, G: Gate, H: Wait, W: Write>(
     out: &mut BytesMut,
     writer: &mut W,
 ) -> Result<Option<SessionEnd>, RunFault>
-    requires ready { LINE_LIMIT ≤ out.old.spare }
-    requires tenant { IsSeated connection.old.seat connection.old.terms.names.now }
-    ensures ready { OnOk result (LINE_LIMIT ≤ out.new.spare) }
+    requires { MayAnswer LINE_LIMIT out.old.spare connection.old.seat
+        connection.old.terms.names.now }
+    ensures keeps { let terms = connection.old.terms in
+        KeepsTelling terms.options.newest hub.now.epoch connection.new.terms.names.now
+        connection.old.seat connection.new.seat (W.contents writer.old) (W.contents writer.new)
+        out.old.items out.new.items LINE_LIMIT out.new.spare result }
     ensures terms { connection.new.terms ≡ connection.old.terms }
-    ensures tenant { IsSeated connection.new.seat connection.new.terms.names.now }
-    ensures told { OnOk result ((text : List ℕ) × Gathers (W.contents writer.old) (W.contents writer.new) out.old.items out.new.items text
-        × Tells connection.old.terms.options.newest hub.now.epoch connection.old.seat connection.new.seat text) }
-    ensures begun { IfErr result (λ _. BreaksTelling connection.old.terms.options.newest hub.now.epoch connection.old.seat connection.new.seat
+    ensures answered { let terms = connection.old.terms in
+        IfOk result (λ ending. IsLine line.now
+        → TakesBytes terms.options hub.now terms.names.now ending
+        connection.old.seat connection.new.seat (terminated line.now) []
+        (W.contents writer.old) (W.contents writer.new) out.old.items out.new.items) }
+    ensures broke { let terms = connection.old.terms in
+        IfErr result (λ _. IsLine line.now
+        → BreaksOffIn terms.options hub.now terms.names.now
+        connection.old.seat connection.new.seat (terminated line.now)
         (W.contents writer.old) (W.contents writer.new) out.old.items) }
-    ensures answered { IfOk result (λ ending. IsLine line.now → TakesBytes connection.old.terms.options hub.now connection.old.terms.names.now ending connection.old.seat connection.new.seat
-        (terminated line.now) [] (W.contents writer.old) (W.contents writer.new) out.old.items out.new.items) }
-    ensures broke { IfErr result (λ _. IsLine line.now → BreaksOffIn connection.old.terms.options hub.now connection.old.terms.names.now connection.old.seat connection.new.seat
-        (terminated line.now) (W.contents writer.old) (W.contents writer.new) out.old.items) }
     // A session whose seat answered that an allocation failed does not go on.
-    ensures goes_on { IfOk result (λ ending. ending ≡ None → IsSome connection.new.seat → connection.new.answer ≡ Refused OutOfMemory → ⊥) }
+    ensures goes_on { IfOk result (λ ending. ending ≡ None → IsSome connection.new.seat
+        → connection.new.answer ≡ Refused OutOfMemory → ⊥) }
 {
     if let Some(ending) = connection.answer(rt, hub, line) {
         return Ok(Some(ending));
@@ -402,8 +402,10 @@ fn answer_next<'s, G: Gate, H: Wait, W: Write>(
 fn make_room<W: Write>(out: &mut BytesMut, writer: &mut W) -> Result<(), RunFault>
     requires { LINE_LIMIT ≤ length out.old.items + out.old.spare }
     ensures ready { OnOk result (LINE_LIMIT ≤ out.new.spare) }
-    ensures gathered { OnOk result (Gathers (W.contents writer.old) (W.contents writer.new) out.old.items out.new.items []) }
-    ensures begun { IfErr result (λ _. (n : ℕ) × Appends (W.contents writer.old) (W.contents writer.new) (take n out.old.items)) }
+    ensures gathered { OnOk result
+        (Gathers (W.contents writer.old) (W.contents writer.new) out.old.items out.new.items []) }
+    ensures begun { IfErr result (λ _. (n : ℕ)
+        × Appends (W.contents writer.old) (W.contents writer.new) (take n out.old.items)) }
 {
     if out.capacity() - out.len() < LINE_LIMIT {
         return flush(out, writer);
@@ -417,11 +419,18 @@ impl<'s, G: Gate> Connection<'s, G> {
         requires tenant { IsSeated self.old.seat self.old.terms.names.now }
         ensures terms { self.new.terms ≡ self.old.terms }
         ensures tenant { IsSeated self.new.seat self.new.terms.names.now }
-        ensures told { IfNone result (Tells self.old.terms.options.newest hub.now.epoch self.old.seat self.new.seat (answer_line self.new.answer)) }
-        ensures line { IfNone result (IsLineAnswered self.old.terms.options hub.now self.old.terms.names.now line.now self.old.seat self.new.answer self.new.seat) }
-        ensures goes_on { IfNone result (GoesOnBehind self.old.terms.options self.old.seat line.now) }
-        ensures untold { IfSome result (λ _. Tells self.old.terms.options.newest hub.now.epoch self.old.seat self.new.seat []) }
-        ensures ends { IfSome result (λ ending. EndsBefore self.old.terms.options self.old.seat ending line.now) }
+        ensures told { IfNone result
+            (Tells self.old.terms.options.newest hub.now.epoch self.old.seat self.new.seat
+            (answer_line self.new.answer)) }
+        ensures line { let terms = self.old.terms in
+            IfNone result (IsLineAnswered terms.options hub.now terms.names.now line.now
+            self.old.seat self.new.answer self.new.seat) }
+        ensures goes_on { IfNone result
+            (GoesOnBehind self.old.terms.options self.old.seat line.now) }
+        ensures untold { IfSome result (λ _.
+            Tells self.old.terms.options.newest hub.now.epoch self.old.seat self.new.seat []) }
+        ensures ends { IfSome result
+            (λ ending. EndsBefore self.old.terms.options self.old.seat ending line.now) }
         ensures left { IfSome result (λ _. StaysBehind hub.now.epoch self.old.seat self.new.seat) }
     {
         match read_serve_line(self.alloc, line) {
@@ -440,9 +449,12 @@ impl<'s, G: Gate> Connection<'s, G> {
     fn answer_unread(&mut self, refusal: Refusal) -> Option<SessionEnd>
         ensures terms { self.new.terms ≡ self.old.terms }
         ensures seat { self.new.seat ≡ self.old.seat }
-        ensures answered { IfNone result (self.new.answer ≡ Refused (refused_as self.old.seat refusal)) }
-        ensures goes_on { IfNone result (IsTrue self.old.terms.options.strict → self.old.seat ≡ None → refusal ≡ BadLine → ⊥) }
-        ensures ends { IfSome result (λ ending. (ending ≡ Unread) × IsTrue self.old.terms.options.strict × (self.old.seat ≡ None) × (refusal ≡ BadLine)) }
+        ensures answered { IfNone result (self.new.answer
+            ≡ Refused (refused_as self.old.seat refusal)) }
+        ensures goes_on { IfNone result (IsTrue self.old.terms.options.strict → self.old.seat ≡ None
+            → refusal ≡ BadLine → ⊥) }
+        ensures ends { IfSome result (λ ending. (ending ≡ Unread)
+            × IsTrue self.old.terms.options.strict × (self.old.seat ≡ None) × (refusal ≡ BadLine)) }
     {
         if self.terms.options.strict && self.seat.is_none() && refusal == Refusal::BadLine {
             return Some(SessionEnd::Unread);
@@ -484,9 +496,14 @@ impl<'s, G: Gate> Connection<'s, G> {
         requires tenant { IsSeated self.old.seat self.old.terms.names.now }
         ensures terms { self.new.terms ≡ self.old.terms }
         ensures tenant { IsSeated self.new.seat self.new.terms.names.now }
-        ensures told { result ≡ true → Tells self.old.terms.options.newest hub.now.epoch self.old.seat self.new.seat (answer_line self.new.answer) }
-        ensures bye { result ≡ false → Tells self.old.terms.options.newest hub.now.epoch self.old.seat self.new.seat [] }
-        ensures answered { result ≡ true → IsAnsweredBy self.old.terms.options hub.now self.old.terms.names.now request.now self.old.seat self.new.answer self.new.seat }
+        ensures told { result ≡ true
+            → Tells self.old.terms.options.newest hub.now.epoch self.old.seat self.new.seat
+            (answer_line self.new.answer) }
+        ensures bye { result ≡ false
+            → Tells self.old.terms.options.newest hub.now.epoch self.old.seat self.new.seat [] }
+        ensures answered { let terms = self.old.terms in
+            result ≡ true → IsAnsweredBy terms.options hub.now terms.names.now request.now
+            self.old.seat self.new.answer self.new.seat }
         ensures said_bye { result ≡ false → request.now ≡ Bye }
         ensures left { result ≡ false → StaysBehind hub.now.epoch self.old.seat self.new.seat }
     {
@@ -521,8 +538,10 @@ impl<'s, G: Gate> Connection<'s, G> {
         requires { self.old.seat ≡ None }
         ensures terms { self.new.terms ≡ self.old.terms }
         ensures tenant { IsSeated self.new.seat self.new.terms.names.now }
-        ensures told { Tells self.old.terms.options.newest hub.now.epoch None self.new.seat (answer_line self.new.answer) }
-        ensures greeted { IsGreeted (length hub.now.limits) self.old.terms.names.now name.now client base self.new.answer self.new.seat }
+        ensures told { Tells self.old.terms.options.newest hub.now.epoch None self.new.seat
+            (answer_line self.new.answer) }
+        ensures greeted { IsGreeted (length hub.now.limits) self.old.terms.names.now
+            name.now client base self.new.answer self.new.seat }
     {
         let Some(tenant) = tenant_number(self.terms.names, name) else {
             tell_refusal(Refusal::NoTenant, &mut self.answer);
@@ -534,8 +553,10 @@ impl<'s, G: Gate> Connection<'s, G> {
     // Answers `ready` and the counter of a seat that was opened, which is the connection's from then on; or why none was.
     fn greet(&mut self, opened: Result<Seat<'s, G>, Refusal>)
         ensures terms { self.new.terms ≡ self.old.terms }
-        ensures ready { IfOk opened.entry (λ seat. (self.new.answer ≡ Ready seat.name.counter) × (self.new.seat ≡ Some seat)) }
-        ensures refused { IfErr opened.entry (λ cause. (self.new.answer ≡ Refused cause) × (self.new.seat ≡ self.old.seat)) }
+        ensures ready { IfOk opened.entry (λ seat. (self.new.answer ≡ Ready seat.name.counter)
+            × (self.new.seat ≡ Some seat)) }
+        ensures refused { IfErr opened.entry (λ cause. (self.new.answer ≡ Refused cause)
+            × (self.new.seat ≡ self.old.seat)) }
     {
         match opened {
             Ok(seat) => {
@@ -558,7 +579,9 @@ fn answer_by_seat<G: Gate, H: Wait>(
     request: &Request,
     answer: &mut Given,
 ) -> bool
-    ensures answered { result ≡ true → IsAnsweredAndDrained newest hub.now.epoch (length hub.now.limits) request.now seat.old answer.new seat.new }
+    ensures answered { result ≡ true
+        → IsAnsweredAndDrained newest hub.now.epoch
+        (length hub.now.limits) request.now seat.old answer.new seat.new }
     ensures bye { result ≡ false → IsDrained hub.now.epoch seat.old seat.new }
     ensures said_bye { result ≡ false → request.now ≡ Bye }
     ensures name { seat.new.name ≡ seat.old.name }

@@ -73,10 +73,12 @@ impl ServedConnections {
         left: Option<u32>,
         transcripts: Vec<Transcript>,
     ) -> Result<ServedConnections, AllocError>
-        ensures places { IfOk result (λ served. (vec_len served.places ≡ sessions) × AreFree served.places.items) }
+        ensures places { IfOk result (λ served. (vec_len served.places ≡ sessions)
+            × AreFree served.places.items) }
         ensures left { IfOk result (λ served. (served.left ≡ left) × (served.begun ≡ 0)) }
         ensures transcripts { IfOk result (λ served. served.transcripts ≡ transcripts) }
-        ensures well { IfOk result (λ served. (served.has_failed ≡ false) × (served.has_refused ≡ false) × (served.has_lost ≡ false)) }
+        ensures well { IfOk result (λ served. (served.has_failed ≡ false)
+            × (served.has_refused ≡ false) × (served.has_lost ≡ false)) }
     {
         let places = free_places(alloc, sessions)?;
         Ok(ServedConnections {
@@ -123,7 +125,8 @@ impl ServedConnections {
 
     /// A place for the next connection. None where no more are to be begun, or each place has one.
     pub(crate) fn free_place(&self) -> Option<usize>
-        ensures free { IfSome result (λ place. (self.now.left ≢ Some 0) × (slice_get self.now.places.items place ≡ Some None)) }
+        ensures free { IfSome result (λ place. (self.now.left ≢ Some 0)
+            × (slice_get self.now.places.items place ≡ Some None)) }
         ensures none { IfNone result ((self.now.left ≡ Some 0) ⊎ AreTaken self.now.places.items) }
     {
         if self.left == Some(0) {
@@ -150,7 +153,8 @@ impl ServedConnections {
     /// A connection has begun, and has this place.
     pub(crate) fn begin(&mut self, place: usize, stream: Arc<TcpStream>) -> Receipt
         ensures receipt { result.change ≡ Change.Begun place }
-        ensures places { self.new.places.items ≡ slice_set self.old.places.items place (Some stream) }
+        ensures places { self.new.places.items
+            ≡ slice_set self.old.places.items place (Some stream) }
         ensures left { self.new.left ≡ one_less self.old.left }
         ensures begun { self.new.begun ≡ min (self.old.begun + 1) (2 ^ 64 - 1) }
         ensures others { LeavesTheSame self.old self.new }
@@ -169,8 +173,10 @@ impl ServedConnections {
         ensures receipt { result.change ≡ Change.Ended place }
         ensures places { self.new.places.items ≡ slice_set self.old.places.items place None }
         ensures left { (self.new.left ≡ self.old.left) × (self.new.begun ≡ self.old.begun) }
-        ensures kept { MatchOption transcript (LeavesTheSame self.old self.new) (λ its. IsKeptOrLost its self.old self.new) }
-        ensures others { (self.new.has_failed ≡ self.old.has_failed) × (self.new.has_refused ≡ self.old.has_refused) }
+        ensures kept { MatchOption transcript (LeavesTheSame self.old self.new)
+            (λ its. IsKeptOrLost its self.old self.new) }
+        ensures others { (self.new.has_failed ≡ self.old.has_failed)
+            × (self.new.has_refused ≡ self.old.has_refused) }
     {
         if let Some(transcript) = transcript {
             self.keep(transcript);
@@ -185,10 +191,12 @@ impl ServedConnections {
     pub(crate) fn give_up(&mut self, place: usize) -> Receipt
         ensures receipt { result.change ≡ Change.GivenUp place }
         ensures places { self.new.places.items ≡ slice_set self.old.places.items place None }
-        ensures left { (self.new.left ≡ one_more self.old.left) × (self.new.begun ≡ self.old.begun) }
+        ensures left { (self.new.left ≡ one_more self.old.left)
+            × (self.new.begun ≡ self.old.begun) }
         ensures failed { self.new.has_failed ≡ true }
         ensures transcripts { self.new.transcripts ≡ self.old.transcripts }
-        ensures others { (self.new.has_refused ≡ self.old.has_refused) × (self.new.has_lost ≡ self.old.has_lost) }
+        ensures others { (self.new.has_refused ≡ self.old.has_refused)
+            × (self.new.has_lost ≡ self.old.has_lost) }
     {
         self.has_failed = true;
         self.left = self.left.map(|left| left.saturating_add(1));
@@ -219,8 +227,10 @@ impl ServedConnections {
     /// Keeps the transcript of a session that ended, behind those before. It is lost where it finds no memory.
     fn keep(&mut self, transcript: Transcript)
         ensures kept { IsKeptOrLost transcript self.old self.new }
-        ensures places { (self.new.places ≡ self.old.places) × (self.new.left ≡ self.old.left) × (self.new.begun ≡ self.old.begun) }
-        ensures others { (self.new.has_failed ≡ self.old.has_failed) × (self.new.has_refused ≡ self.old.has_refused) }
+        ensures places { (self.new.places ≡ self.old.places) × (self.new.left ≡ self.old.left)
+            × (self.new.begun ≡ self.old.begun) }
+        ensures others { (self.new.has_failed ≡ self.old.has_failed)
+            × (self.new.has_refused ≡ self.old.has_refused) }
     {
         if self.transcripts.push(transcript).is_err() {
             self.has_lost = true;

@@ -284,7 +284,8 @@ impl<L: Accept> Server<L> {
     /// `accept` that failed is made again once a session has ended or a moment has passed, where its error passes; one that does
     /// not pass ends the server.
     pub(crate) fn next<R: Wait + Clock>(&self, rt: &R) -> Option<(usize, Arc<TcpStream>, Receipt)>
-        ensures given { IfSome result (λ next. L.has_given (listener_of self.now) (arc_value next.1)) }
+        ensures given { IfSome result
+            (λ next. L.has_given (listener_of self.now) (arc_value next.1)) }
         ensures begun { IfSome result (λ next. next.2.change ≡ Begun next.0) }
     {
         for _ in rt.forever() {

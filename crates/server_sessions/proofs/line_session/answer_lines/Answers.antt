@@ -1,4 +1,4 @@
-use Rattle.std.proofs.Common.{◌∙◌, arith}
+use Rattle.std.proofs.Common.{◌∙◌, arith, rules}
 use Rattle.server_sessions.specs.Telling.{BreaksTelling}
 use Rattle.line_runs.proofs.Faults.{at_any}
 use Rattle.server_sessions.proofs.ToldOf.{breaks_after, breaks_at, breaks_here, told_on, told_flushed}
@@ -9,25 +9,30 @@ use Rattle.server_sessions.specs.Answered.{BreaksOffIn}
 use Rattle.server_sessions.proofs.InTurn.{breaks_behind_piece, breaks_in_piece, breaks_run, ends_at_end, ends_in_piece, runs_at_first, runs_on}
 use Rattle.server_sessions.proofs.line_session.answer_lines.Goals as goal
 
-pub returns-in-Some-clause-told : goal.returns-in-Some-clause-told
-returns-in-Some-clause-told g c =
-    told_on c.args.connection.now.terms.options.newest c.args.hub.now.epoch (g.W.Write.contents c.args.writer.now) (g.W.Write.contents c.loop.writer) (g.W.Write.contents c.answer_piece.new.writer) c.args.out.now.items c.loop.out.items c.answer_piece.new.out.items
-    c.args.connection.now.seat c.loop.connection.seat c.answer_piece.new.connection.seat c.loop.invariant.told (rw c.loop.invariant.terms at c.in_ok-ending.ensures.told)
+pub returns-in-Some-clause-keeps : goal.returns-in-Some-clause-keeps
+returns-in-Some-clause-keeps g c = record {
+  ready = search rules;
+  tenant = search rules;
+  told =
+      told_on c.args.connection.now.terms.options.newest c.args.hub.now.epoch (g.W.Write.contents c.args.writer.now) (g.W.Write.contents c.loop.writer) (g.W.Write.contents c.answer_piece.new.writer) c.args.out.now.items c.loop.out.items c.answer_piece.new.out.items
+      c.args.connection.now.seat c.loop.connection.seat c.answer_piece.new.connection.seat c.loop.invariant.told (rw c.loop.invariant.terms at c.in_ok-ending.ensures.keeps.told);
+  begun = search rules;
+}
 
 pub loop-preserved : goal.loop-preserved
 loop-preserved g c =
     let room = c.flush.ensures.room in
-    let ready = c.in_ok-ending.ensures.ready in
+    let ready = c.in_ok-ending.ensures.keeps.ready in
     record {
       some = omega (arith, c.read.auto.buf, c.loop.invariant.some);
       ready = omega (arith, room, ready);
       waits = c.in_ok-ending.ensures.waits;
       terms = c.in_ok-ending.ensures.terms ∙ c.loop.invariant.terms;
-      tenant = c.in_ok-ending.ensures.tenant;
+      tenant = c.in_ok-ending.ensures.keeps.tenant;
       told = told_flushed c.args.connection.now.terms.options.newest c.args.hub.now.epoch (g.W.Write.contents c.args.writer.now) (g.W.Write.contents c.answer_piece.new.writer) (g.W.Write.contents c.flush.new.writer) c.args.out.now.items c.answer_piece.new.out.items c.flush.new.out.items
           c.args.connection.now.seat c.answer_piece.new.connection.seat
           (told_on c.args.connection.now.terms.options.newest c.args.hub.now.epoch (g.W.Write.contents c.args.writer.now) (g.W.Write.contents c.loop.writer) (g.W.Write.contents c.answer_piece.new.writer) c.args.out.now.items c.loop.out.items c.answer_piece.new.out.items
-          c.args.connection.now.seat c.loop.connection.seat c.answer_piece.new.connection.seat c.loop.invariant.told (rw c.loop.invariant.terms at c.in_ok-ending.ensures.told))
+          c.args.connection.now.seat c.loop.connection.seat c.answer_piece.new.connection.seat c.loop.invariant.told (rw c.loop.invariant.terms at c.in_ok-ending.ensures.keeps.told))
           c.in_ok-flush.ensures.written c.flush.ensures.empty;
       answered = runs_on c.args.connection.now.terms.options c.args.hub.now c.args.connection.now.terms.names.now c.args.connection.now.seat c.loop.connection.seat c.answer_piece.new.connection.seat c.loop.lines c.answer_piece.new.lines (take c.in-Ok.taken c.read.new.buf)
           (g.R.Read.remaining c.args.reader.now) (g.R.Read.remaining c.loop.reader) (g.R.Read.remaining c.read.new.self)
@@ -36,54 +41,84 @@ loop-preserved g c =
           c.loop.invariant.answered c.in-Ok.ensures.bytes.0 (rw (c.loop.invariant.terms, c.in_default-ending.is) at c.in_ok-ending.ensures.answered) c.in_ok-flush.ensures.written c.flush.ensures.empty;
     }
 
-pub returns-in_err-lines-clause-begun : goal.returns-in_err-lines-clause-begun
-returns-in_err-lines-clause-begun g c =
-    let writer = g.W.Write.contents c.args.writer.now in
-    let counter = c.args.connection.now.seat in
-    at_any c.from_residual.result (λ fault. BreaksTelling c.args.connection.now.terms.options.newest c.args.hub.now.epoch counter counter writer writer c.args.out.now.items) (λ fault. breaks_here c.args.connection.now.terms.options.newest c.args.hub.now.epoch writer c.args.out.now.items counter)
+pub returns-in_err-lines-clause-keeps : goal.returns-in_err-lines-clause-keeps
+returns-in_err-lines-clause-keeps g c = record {
+  ready = search rules;
+  tenant = search rules;
+  told = search rules;
+  begun =
+      let writer = g.W.Write.contents c.args.writer.now in
+      let counter = c.args.connection.now.seat in
+      at_any c.from_residual.result (λ fault. BreaksTelling c.args.connection.now.terms.options.newest c.args.hub.now.epoch counter counter writer writer c.args.out.now.items) (λ fault. breaks_here c.args.connection.now.terms.options.newest c.args.hub.now.epoch writer c.args.out.now.items counter);
+}
 
-pub returns-in_err-buffer-clause-begun : goal.returns-in_err-buffer-clause-begun
-returns-in_err-buffer-clause-begun g c =
-    let writer = g.W.Write.contents c.args.writer.now in
-    let counter = c.args.connection.now.seat in
-    at_any c.from_residual-in_err-buffer.result (λ fault. BreaksTelling c.args.connection.now.terms.options.newest c.args.hub.now.epoch counter counter writer writer c.args.out.now.items) (λ fault. breaks_here c.args.connection.now.terms.options.newest c.args.hub.now.epoch writer c.args.out.now.items counter)
+pub returns-in_err-buffer-clause-keeps : goal.returns-in_err-buffer-clause-keeps
+returns-in_err-buffer-clause-keeps g c = record {
+  ready = search rules;
+  tenant = search rules;
+  told = search rules;
+  begun =
+      let writer = g.W.Write.contents c.args.writer.now in
+      let counter = c.args.connection.now.seat in
+      at_any c.from_residual-in_err-buffer.result (λ fault. BreaksTelling c.args.connection.now.terms.options.newest c.args.hub.now.epoch counter counter writer writer c.args.out.now.items) (λ fault. breaks_here c.args.connection.now.terms.options.newest c.args.hub.now.epoch writer c.args.out.now.items counter);
+}
 
-pub returns-in_default-clause-begun : goal.returns-in_default-clause-begun
-returns-in_default-clause-begun g c =
-    let first = c.args.connection.now.seat in
-    let last = c.loop.connection.seat in
-    let new = g.W.Write.contents c.loop.writer in
-    breaks_after c.args.connection.now.terms.options.newest c.args.hub.now.epoch (g.W.Write.contents c.args.writer.now) new new c.args.out.now.items c.loop.out.items first last last c.loop.invariant.told (breaks_here c.args.connection.now.terms.options.newest c.args.hub.now.epoch new c.loop.out.items last)
+pub returns-in_default-clause-keeps : goal.returns-in_default-clause-keeps
+returns-in_default-clause-keeps g c = record {
+  ready = search rules;
+  tenant = search rules;
+  told = search rules;
+  begun =
+      let first = c.args.connection.now.seat in
+      let last = c.loop.connection.seat in
+      let new = g.W.Write.contents c.loop.writer in
+      breaks_after c.args.connection.now.terms.options.newest c.args.hub.now.epoch (g.W.Write.contents c.args.writer.now) new new c.args.out.now.items c.loop.out.items first last last c.loop.invariant.told (breaks_here c.args.connection.now.terms.options.newest c.args.hub.now.epoch new c.loop.out.items last);
+}
 
-pub returns-in_err-ending-clause-begun : goal.returns-in_err-ending-clause-begun
-returns-in_err-ending-clause-begun g c =
-    let first = c.args.connection.now.seat in
-    let last = c.answer_piece.new.connection.seat in
-    let old = g.W.Write.contents c.args.writer.now in
-    let new = g.W.Write.contents c.answer_piece.new.writer in
-    at_any c.from_residual-in_err-ending.result (λ fault. BreaksTelling c.args.connection.now.terms.options.newest c.args.hub.now.epoch first last old new c.args.out.now.items)
-    (λ fault. breaks_after c.args.connection.now.terms.options.newest c.args.hub.now.epoch old (g.W.Write.contents c.loop.writer) new c.args.out.now.items c.loop.out.items first c.loop.connection.seat last c.loop.invariant.told (rw c.loop.invariant.terms at c.in_err-ending.ensures.begun))
+pub returns-in_err-ending-clause-keeps : goal.returns-in_err-ending-clause-keeps
+returns-in_err-ending-clause-keeps g c = record {
+  ready = search rules;
+  tenant = search rules;
+  told = search rules;
+  begun =
+      let first = c.args.connection.now.seat in
+      let last = c.answer_piece.new.connection.seat in
+      let old = g.W.Write.contents c.args.writer.now in
+      let new = g.W.Write.contents c.answer_piece.new.writer in
+      at_any c.from_residual-in_err-ending.result (λ fault. BreaksTelling c.args.connection.now.terms.options.newest c.args.hub.now.epoch first last old new c.args.out.now.items)
+      (λ fault. breaks_after c.args.connection.now.terms.options.newest c.args.hub.now.epoch old (g.W.Write.contents c.loop.writer) new c.args.out.now.items c.loop.out.items first c.loop.connection.seat last c.loop.invariant.told (rw c.loop.invariant.terms at c.in_err-ending.ensures.keeps.begun));
+}
 
-pub returns-in_err-flush-clause-begun : goal.returns-in_err-flush-clause-begun
-returns-in_err-flush-clause-begun g c =
-    let first = c.args.connection.now.seat in
-    let last = c.answer_piece.new.connection.seat in
-    let old = g.W.Write.contents c.args.writer.now in
-    let mid = g.W.Write.contents c.answer_piece.new.writer in
-    let new = g.W.Write.contents c.flush.new.writer in
-    let gathered = c.answer_piece.new.out.items in
-    let begun = c.in_err-flush.ensures.begun in
-    at_any c.from_residual-in_err-flush.result (λ fault. BreaksTelling c.args.connection.now.terms.options.newest c.args.hub.now.epoch first last old new c.args.out.now.items)
-    (λ fault. breaks_after c.args.connection.now.terms.options.newest c.args.hub.now.epoch old mid new c.args.out.now.items gathered first last last
-    (told_on c.args.connection.now.terms.options.newest c.args.hub.now.epoch old (g.W.Write.contents c.loop.writer) mid c.args.out.now.items c.loop.out.items gathered first c.loop.connection.seat last c.loop.invariant.told (rw c.loop.invariant.terms at c.in_ok-ending.ensures.told))
-    (breaks_at c.args.connection.now.terms.options.newest c.args.hub.now.epoch mid new gathered last begun.0 begun.1))
+pub returns-in_err-flush-clause-keeps : goal.returns-in_err-flush-clause-keeps
+returns-in_err-flush-clause-keeps g c = record {
+  ready = search rules;
+  tenant = search rules;
+  told = search rules;
+  begun =
+      let first = c.args.connection.now.seat in
+      let last = c.answer_piece.new.connection.seat in
+      let old = g.W.Write.contents c.args.writer.now in
+      let mid = g.W.Write.contents c.answer_piece.new.writer in
+      let new = g.W.Write.contents c.flush.new.writer in
+      let gathered = c.answer_piece.new.out.items in
+      let begun = c.in_err-flush.ensures.begun in
+      at_any c.from_residual-in_err-flush.result (λ fault. BreaksTelling c.args.connection.now.terms.options.newest c.args.hub.now.epoch first last old new c.args.out.now.items)
+      (λ fault. breaks_after c.args.connection.now.terms.options.newest c.args.hub.now.epoch old mid new c.args.out.now.items gathered first last last
+      (told_on c.args.connection.now.terms.options.newest c.args.hub.now.epoch old (g.W.Write.contents c.loop.writer) mid c.args.out.now.items c.loop.out.items gathered first c.loop.connection.seat last c.loop.invariant.told (rw c.loop.invariant.terms at c.in_ok-ending.ensures.keeps.told))
+      (breaks_at c.args.connection.now.terms.options.newest c.args.hub.now.epoch mid new gathered last begun.0 begun.1));
+}
 
-pub returns-clause-begun : goal.returns-clause-begun
-returns-clause-begun g c =
-    let first = c.args.connection.now.seat in
-    let last = c.loop.connection.seat in
-    let new = g.W.Write.contents c.loop.writer in
-    breaks_after c.args.connection.now.terms.options.newest c.args.hub.now.epoch (g.W.Write.contents c.args.writer.now) new new c.args.out.now.items c.loop.out.items first last last c.loop.invariant.told (breaks_here c.args.connection.now.terms.options.newest c.args.hub.now.epoch new c.loop.out.items last)
+pub returns-clause-keeps : goal.returns-clause-keeps
+returns-clause-keeps g c = record {
+  ready = search rules;
+  tenant = search rules;
+  told = search rules;
+  begun =
+      let first = c.args.connection.now.seat in
+      let last = c.loop.connection.seat in
+      let new = g.W.Write.contents c.loop.writer in
+      breaks_after c.args.connection.now.terms.options.newest c.args.hub.now.epoch (g.W.Write.contents c.args.writer.now) new new c.args.out.now.items c.loop.out.items first last last c.loop.invariant.told (breaks_here c.args.connection.now.terms.options.newest c.args.hub.now.epoch new c.loop.out.items last);
+}
 
 pub returns-in-Some-clause-answered : goal.returns-in-Some-clause-answered
 returns-in-Some-clause-answered g c =

@@ -1,4 +1,4 @@
-use Rattle.std.proofs.Common.{[]}
+use Rattle.std.proofs.Common.{[], rules}
 use Rattle.std.proofs.lemmas.Bool.{both_ways}
 use Rattle.line_runs.proofs.Gathering.{Gathers-none}
 use Rattle.line_protocol.specs.AnswerSpelling.{answer_line}
@@ -10,29 +10,50 @@ use Rattle.server_sessions.proofs.ToldOf.{breaks_line, told_line}
 use Rattle.server_sessions.proofs.InTurn.{breaks_at_line, ends_before, ends_without_memory, gathers_line, goes_on}
 use Rattle.server_sessions.proofs.line_session.answer_next.Goals as goal
 
-pub returns-then-ends-clause-told : goal.returns-then-ends-clause-told
-returns-then-ends-clause-told g c =
-    told_line c.args.connection.now.terms.options.newest c.args.hub.now.epoch (g.W.Write.contents c.args.writer.now) (g.W.Write.contents c.make_room.new.writer) c.args.out.now.items c.put_answer.new.out.items c.make_room.new.out.items (answer_line c.answer.new.self.answer)
-    c.args.connection.now.seat c.answer.new.self.seat c.put_answer.ensures.text c.in_default.ensures.told c.in_ok-make_room.ensures.gathered
+pub returns-then-ends-clause-keeps : goal.returns-then-ends-clause-keeps
+returns-then-ends-clause-keeps g c = record {
+  ready = search rules;
+  tenant = search rules;
+  told =
+      told_line c.args.connection.now.terms.options.newest c.args.hub.now.epoch (g.W.Write.contents c.args.writer.now) (g.W.Write.contents c.make_room.new.writer) c.args.out.now.items c.put_answer.new.out.items c.make_room.new.out.items (answer_line c.answer.new.self.answer)
+      c.args.connection.now.seat c.answer.new.self.seat c.put_answer.ensures.text c.in_default.ensures.told c.in_ok-make_room.ensures.gathered;
+  begun = search rules;
+}
 
-pub returns-else-ends-clause-told : goal.returns-else-ends-clause-told
-returns-else-ends-clause-told g c =
-    told_line c.args.connection.now.terms.options.newest c.args.hub.now.epoch (g.W.Write.contents c.args.writer.now) (g.W.Write.contents c.make_room.new.writer) c.args.out.now.items c.put_answer.new.out.items c.make_room.new.out.items (answer_line c.answer.new.self.answer)
-    c.args.connection.now.seat c.answer.new.self.seat c.put_answer.ensures.text c.in_default.ensures.told c.in_ok-make_room.ensures.gathered
+pub returns-else-ends-clause-keeps : goal.returns-else-ends-clause-keeps
+returns-else-ends-clause-keeps g c = record {
+  ready = search rules;
+  tenant = search rules;
+  told =
+      told_line c.args.connection.now.terms.options.newest c.args.hub.now.epoch (g.W.Write.contents c.args.writer.now) (g.W.Write.contents c.make_room.new.writer) c.args.out.now.items c.put_answer.new.out.items c.make_room.new.out.items (answer_line c.answer.new.self.answer)
+      c.args.connection.now.seat c.answer.new.self.seat c.put_answer.ensures.text c.in_default.ensures.told c.in_ok-make_room.ensures.gathered;
+  begun = search rules;
+}
 
-pub returns-in_err-make_room-clause-begun : goal.returns-in_err-make_room-clause-begun
-returns-in_err-make_room-clause-begun g c =
-    let first = c.args.connection.now.seat in
-    let last = c.answer.new.self.seat in
-    let old = g.W.Write.contents c.args.writer.now in
-    let new = g.W.Write.contents c.make_room.new.writer in
-    let begun = c.in_err-make_room.ensures.begun in
-    at_any c.from_residual.result (λ fault. BreaksTelling c.args.connection.now.terms.options.newest c.args.hub.now.epoch first last old new c.args.out.now.items)
-    (λ fault. breaks_line c.args.connection.now.terms.options.newest c.args.hub.now.epoch old new c.args.out.now.items c.put_answer.new.out.items (answer_line c.answer.new.self.answer) first last begun.0 c.put_answer.ensures.text c.in_default.ensures.told begun.1)
+pub returns-in_err-make_room-clause-keeps : goal.returns-in_err-make_room-clause-keeps
+returns-in_err-make_room-clause-keeps g c = record {
+  ready = search rules;
+  tenant = search rules;
+  told = search rules;
+  begun =
+      let first = c.args.connection.now.seat in
+      let last = c.answer.new.self.seat in
+      let old = g.W.Write.contents c.args.writer.now in
+      let new = g.W.Write.contents c.make_room.new.writer in
+      let begun = c.in_err-make_room.ensures.begun in
+      at_any c.from_residual.result (λ fault. BreaksTelling c.args.connection.now.terms.options.newest c.args.hub.now.epoch first last old new c.args.out.now.items)
+      (λ fault. breaks_line c.args.connection.now.terms.options.newest c.args.hub.now.epoch old new c.args.out.now.items c.put_answer.new.out.items (answer_line c.answer.new.self.answer) first last begun.0 c.put_answer.ensures.text c.in_default.ensures.told begun.1);
+}
 
 -- nothing is reported
-pub returns-in-Some-clause-told : goal.returns-in-Some-clause-told
-returns-in-Some-clause-told g c = ([], Gathers-none (g.W.Write.contents c.args.writer.now) c.args.out.now.items, c.in-Some.ensures.untold)
+
+pub returns-in-Some-clause-keeps : goal.returns-in-Some-clause-keeps
+returns-in-Some-clause-keeps g c = record {
+  ready = search rules;
+  tenant = search rules;
+  told = ([], Gathers-none (g.W.Write.contents c.args.writer.now) c.args.out.now.items, c.in-Some.ensures.untold);
+  begun = search rules;
+}
 
 pub returns-then-ends-clause-answered : goal.returns-then-ends-clause-answered
 returns-then-ends-clause-answered g c = λ is.

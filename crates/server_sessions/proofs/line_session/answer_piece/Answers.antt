@@ -1,4 +1,4 @@
-use Rattle.std.proofs.Common.{◌∙◌}
+use Rattle.std.proofs.Common.{◌∙◌, rules}
 use Rattle.server_sessions.specs.Telling.{BreaksTelling}
 use Rattle.line_runs.proofs.Faults.{at_any}
 use Rattle.server_sessions.proofs.ToldOf.{breaks_after, told_on}
@@ -10,19 +10,24 @@ use Rattle.server_sessions.specs.Answered.{BreaksOffIn}
 use Rattle.server_sessions.proofs.InTurn.{breaks_after as breaks_behind, goes_any_after, takes_any_after, takes_so_far, takes_too_long}
 use Rattle.server_sessions.proofs.line_session.answer_piece.Goals as goal
 
-pub returns-then-is_some-clause-told : goal.returns-then-is_some-clause-told
-returns-then-is_some-clause-told g c =
-    told_on c.args.connection.now.terms.options.newest c.args.hub.now.epoch (g.W.Write.contents c.args.writer.now) (g.W.Write.contents c.loop-rest.writer) (g.W.Write.contents c.answer_waiting.new.writer) c.args.out.now.items c.loop-rest.out.items c.answer_waiting.new.out.items
-    c.args.connection.now.seat c.loop-rest.connection.seat c.answer_waiting.new.connection.seat c.loop-rest.invariant.told (rw c.loop-rest.invariant.terms at c.in_ok-ending.ensures.told)
+pub returns-then-is_some-clause-keeps : goal.returns-then-is_some-clause-keeps
+returns-then-is_some-clause-keeps g c = record {
+  ready = search rules;
+  tenant = search rules;
+  told =
+      told_on c.args.connection.now.terms.options.newest c.args.hub.now.epoch (g.W.Write.contents c.args.writer.now) (g.W.Write.contents c.loop-rest.writer) (g.W.Write.contents c.answer_waiting.new.writer) c.args.out.now.items c.loop-rest.out.items c.answer_waiting.new.out.items
+      c.args.connection.now.seat c.loop-rest.connection.seat c.answer_waiting.new.connection.seat c.loop-rest.invariant.told (rw c.loop-rest.invariant.terms at c.in_ok-ending.ensures.keeps.told);
+  begun = search rules;
+}
 
 pub loop-rest-preserved : goal.loop-rest-preserved
 loop-rest-preserved g c = record {
-  ready = c.in_ok-ending.ensures.ready;
+  ready = c.in_ok-ending.ensures.keeps.ready;
   waits = c.in_ok-ending.ensures.waits;
   terms = c.in_ok-ending.ensures.terms ∙ c.loop-rest.invariant.terms;
-  tenant = c.in_ok-ending.ensures.tenant;
+  tenant = c.in_ok-ending.ensures.keeps.tenant;
   told = told_on c.args.connection.now.terms.options.newest c.args.hub.now.epoch (g.W.Write.contents c.args.writer.now) (g.W.Write.contents c.loop-rest.writer) (g.W.Write.contents c.answer_waiting.new.writer) c.args.out.now.items c.loop-rest.out.items c.answer_waiting.new.out.items
-      c.args.connection.now.seat c.loop-rest.connection.seat c.answer_waiting.new.connection.seat c.loop-rest.invariant.told (rw c.loop-rest.invariant.terms at c.in_ok-ending.ensures.told);
+      c.args.connection.now.seat c.loop-rest.connection.seat c.answer_waiting.new.connection.seat c.loop-rest.invariant.told (rw c.loop-rest.invariant.terms at c.in_ok-ending.ensures.keeps.told);
   answered = rw take_rest (goes_any_after c.args.connection.now.terms.options c.args.hub.now c.args.connection.now.terms.names.now c.in_ok-ending.ending c.args.connection.now.seat c.loop-rest.connection.seat c.answer_waiting.new.connection.seat
       (c.args.lines.now ++ c.args.piece.now) c.feed.new.self (drop c.in-Ok.taken c.loop-rest.rest.now) c.answer_waiting.new.lines
       (g.W.Write.contents c.args.writer.now) (g.W.Write.contents c.loop-rest.writer) (g.W.Write.contents c.answer_waiting.new.writer) c.args.out.now.items c.loop-rest.out.items c.answer_waiting.new.out.items
@@ -31,14 +36,19 @@ loop-rest-preserved g c = record {
       (rw c.loop-rest.invariant.terms at c.in_ok-ending.ensures.answered));
 }
 
-pub returns-in_err-ending-clause-begun : goal.returns-in_err-ending-clause-begun
-returns-in_err-ending-clause-begun g c =
-    let first = c.args.connection.now.seat in
-    let last = c.answer_waiting.new.connection.seat in
-    let old = g.W.Write.contents c.args.writer.now in
-    let new = g.W.Write.contents c.answer_waiting.new.writer in
-    at_any c.from_residual.result (λ fault. BreaksTelling c.args.connection.now.terms.options.newest c.args.hub.now.epoch first last old new c.args.out.now.items)
-    (λ fault. breaks_after c.args.connection.now.terms.options.newest c.args.hub.now.epoch old (g.W.Write.contents c.loop-rest.writer) new c.args.out.now.items c.loop-rest.out.items first c.loop-rest.connection.seat last c.loop-rest.invariant.told (rw c.loop-rest.invariant.terms at c.in_err-ending.ensures.begun))
+pub returns-in_err-ending-clause-keeps : goal.returns-in_err-ending-clause-keeps
+returns-in_err-ending-clause-keeps g c = record {
+  ready = search rules;
+  tenant = search rules;
+  told = search rules;
+  begun =
+      let first = c.args.connection.now.seat in
+      let last = c.answer_waiting.new.connection.seat in
+      let old = g.W.Write.contents c.args.writer.now in
+      let new = g.W.Write.contents c.answer_waiting.new.writer in
+      at_any c.from_residual.result (λ fault. BreaksTelling c.args.connection.now.terms.options.newest c.args.hub.now.epoch first last old new c.args.out.now.items)
+      (λ fault. breaks_after c.args.connection.now.terms.options.newest c.args.hub.now.epoch old (g.W.Write.contents c.loop-rest.writer) new c.args.out.now.items c.loop-rest.out.items first c.loop-rest.connection.seat last c.loop-rest.invariant.told (rw c.loop-rest.invariant.terms at c.in_err-ending.ensures.keeps.begun));
+}
 
 pub returns-then-is_some-clause-answered : goal.returns-then-is_some-clause-answered
 returns-then-is_some-clause-answered g c =

@@ -2,35 +2,42 @@ use Rattle.server_sessions.specs.Telling.{BreaksTelling}
 use Rattle.line_runs.proofs.Faults.{at_any}
 use Rattle.server_sessions.specs.Answered.{BreaksOffIn}
 use Rattle.server_sessions.proofs.ToldOf.{begun_after, breaks_after, breaks_here, told_after, told_kept}
-use Rattle.std.proofs.Common.{Some, None}
+use Rattle.std.proofs.Common.{Some, None, rules}
 use Rattle.line_protocol.specs.Held.{HandsOut}
 use Rattle.server_sessions.proofs.InTurn.{breaks_before, breaks_waiting, takes_nothing, takes_waiting}
 use Rattle.server_sessions.proofs.line_session.answer_waiting.Goals as goal
 
-pub returns-clause-told : goal.returns-clause-told
-returns-clause-told g c =
-    let first = c.args.connection.now.seat in
-    let old = g.W.Write.contents c.args.writer.now in
-    let mid = g.W.Write.contents c.find_peer.new.writer in
-    told_after c.args.connection.now.terms.options.newest c.args.hub.now.epoch c.answer_next.result old mid (g.W.Write.contents c.answer_next.new.writer) c.args.out.now.items c.args.out.now.items c.answer_next.new.out.items
-    first first c.answer_next.new.connection.seat (told_kept c.args.connection.now.terms.options.newest c.args.hub.now.epoch old mid c.args.out.now.items first c.find_peer.ensures) c.answer_next.ensures.told
+pub returns-clause-keeps : goal.returns-clause-keeps
+returns-clause-keeps g c = record {
+  ready = search rules;
+  tenant = search rules;
+  told =
+      let first = c.args.connection.now.seat in
+      let old = g.W.Write.contents c.args.writer.now in
+      let mid = g.W.Write.contents c.find_peer.new.writer in
+      told_after c.args.connection.now.terms.options.newest c.args.hub.now.epoch c.answer_next.result old mid (g.W.Write.contents c.answer_next.new.writer) c.args.out.now.items c.args.out.now.items c.answer_next.new.out.items
+      first first c.answer_next.new.connection.seat (told_kept c.args.connection.now.terms.options.newest c.args.hub.now.epoch old mid c.args.out.now.items first c.find_peer.ensures) c.answer_next.ensures.keeps.told;
+  begun =
+      let first = c.args.connection.now.seat in
+      let old = g.W.Write.contents c.args.writer.now in
+      let mid = g.W.Write.contents c.find_peer.new.writer in
+      begun_after c.args.connection.now.terms.options.newest c.args.hub.now.epoch c.answer_next.result old mid (g.W.Write.contents c.answer_next.new.writer) c.args.out.now.items c.args.out.now.items
+      first first c.answer_next.new.connection.seat (told_kept c.args.connection.now.terms.options.newest c.args.hub.now.epoch old mid c.args.out.now.items first c.find_peer.ensures) c.answer_next.ensures.keeps.begun;
+}
 
-pub returns-clause-begun : goal.returns-clause-begun
-returns-clause-begun g c =
-    let first = c.args.connection.now.seat in
-    let old = g.W.Write.contents c.args.writer.now in
-    let mid = g.W.Write.contents c.find_peer.new.writer in
-    begun_after c.args.connection.now.terms.options.newest c.args.hub.now.epoch c.answer_next.result old mid (g.W.Write.contents c.answer_next.new.writer) c.args.out.now.items c.args.out.now.items
-    first first c.answer_next.new.connection.seat (told_kept c.args.connection.now.terms.options.newest c.args.hub.now.epoch old mid c.args.out.now.items first c.find_peer.ensures) c.answer_next.ensures.begun
-
-pub returns-in_err-find_peer-clause-begun : goal.returns-in_err-find_peer-clause-begun
-returns-in_err-find_peer-clause-begun g c =
-    let counter = c.args.connection.now.seat in
-    let old = g.W.Write.contents c.args.writer.now in
-    let new = g.W.Write.contents c.find_peer.new.writer in
-    let out = c.args.out.now.items in
-    at_any c.from_residual.result (λ fault. BreaksTelling c.args.connection.now.terms.options.newest c.args.hub.now.epoch counter counter old new out)
-    (λ fault. breaks_after c.args.connection.now.terms.options.newest c.args.hub.now.epoch old new new out out counter counter counter (told_kept c.args.connection.now.terms.options.newest c.args.hub.now.epoch old new out counter c.find_peer.ensures) (breaks_here c.args.connection.now.terms.options.newest c.args.hub.now.epoch new out counter))
+pub returns-in_err-find_peer-clause-keeps : goal.returns-in_err-find_peer-clause-keeps
+returns-in_err-find_peer-clause-keeps g c = record {
+  ready = search rules;
+  tenant = search rules;
+  told = search rules;
+  begun =
+      let counter = c.args.connection.now.seat in
+      let old = g.W.Write.contents c.args.writer.now in
+      let new = g.W.Write.contents c.find_peer.new.writer in
+      let out = c.args.out.now.items in
+      at_any c.from_residual.result (λ fault. BreaksTelling c.args.connection.now.terms.options.newest c.args.hub.now.epoch counter counter old new out)
+      (λ fault. breaks_after c.args.connection.now.terms.options.newest c.args.hub.now.epoch old new new out out counter counter counter (told_kept c.args.connection.now.terms.options.newest c.args.hub.now.epoch old new out counter c.find_peer.ensures) (breaks_here c.args.connection.now.terms.options.newest c.args.hub.now.epoch new out counter));
+}
 
 pub returns-in_default-clause-answered : goal.returns-in_default-clause-answered
 returns-in_default-clause-answered g c =

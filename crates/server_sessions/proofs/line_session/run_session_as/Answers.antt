@@ -1,52 +1,55 @@
-use Rattle.std.proofs.Common.{None, [], refl}
+use Rattle.std.proofs.Common.{None, [], refl, rules}
 use Rattle.std.proofs.KnownBytes.{Appends-nil}
 use Rattle.server_sessions.proofs.ToldOf.{breaks_here, session_begun, session_broken, session_written}
 use Rattle.server_sessions.proofs.InTurn.{breaks_run, runs_at_first, session_answered, session_breaks, session_breaks_last}
 use Rattle.server_sessions.proofs.line_session.run_session_as.Goals as goal
 
-pub returns-in-Ok-ended-clause-written : goal.returns-in-Ok-ended-clause-written
-returns-in-Ok-ended-clause-written g c =
-    session_written c.args.options.newest c.args.hub.now.epoch c.finish.result c.answer_lines-ended.new.connection.seat _ (g.W.Write.contents c.args.writer.now) (g.W.Write.contents c.answer_lines-ended.new.writer) (g.W.Write.contents c.finish.new.writer)
-    c.answer_lines-ended.new.out.items (rw c.in-Ok.ensures.items at c.in-Ok-ended.ensures.told) c.finish.ensures.written
-    (record { counter = c.end_seat-transcript.ensures.counter; entries = c.end_seat-transcript.ensures.entries })
+pub returns-in-Ok-ended : goal.returns-in-Ok-ended
+returns-in-Ok-ended g c = record {
+  written =
+      session_written c.args.options.newest c.args.hub.now.epoch c.finish.result c.answer_lines-ended.new.connection.seat _ (g.W.Write.contents c.args.writer.now) (g.W.Write.contents c.answer_lines-ended.new.writer) (g.W.Write.contents c.finish.new.writer)
+      c.answer_lines-ended.new.out.items (rw c.in-Ok.ensures.items at c.in-Ok-ended.ensures.keeps.told) c.finish.ensures.written
+      (record { counter = c.end_seat-transcript.ensures.counter; entries = c.end_seat-transcript.ensures.entries });
+  begun =
+      session_broken c.args.options.newest c.args.hub.now.epoch c.finish.result c.answer_lines-ended.new.connection.seat _ (g.W.Write.contents c.args.writer.now) (g.W.Write.contents c.answer_lines-ended.new.writer) (g.W.Write.contents c.finish.new.writer)
+      c.answer_lines-ended.new.out.items (rw c.in-Ok.ensures.items at c.in-Ok-ended.ensures.keeps.told) c.finish.ensures.begun
+      (record { counter = c.end_seat-transcript.ensures.counter; entries = c.end_seat-transcript.ensures.entries });
+  tenant = search rules;
+  answered =
+      session_answered c.args.options c.args.hub.now c.args.names.now c.finish.result c.in-Ok-ended.ending c.answer_lines-ended.new.connection.seat _ (g.R.Read.remaining c.args.reader.now)
+      (g.W.Write.contents c.args.writer.now) (g.W.Write.contents c.answer_lines-ended.new.writer) (g.W.Write.contents c.finish.new.writer) c.answer_lines-ended.new.out.items
+      (rw c.in-Ok.ensures.items at c.in-Ok-ended.ensures.answered) c.finish.ensures.last c.end_seat-transcript.ensures.whole;
+  broke =
+      session_breaks_last c.args.options c.args.hub.now c.args.names.now c.finish.result c.in-Ok-ended.ending c.answer_lines-ended.new.connection.seat _ (g.R.Read.remaining c.args.reader.now)
+      (g.W.Write.contents c.args.writer.now) (g.W.Write.contents c.answer_lines-ended.new.writer) (g.W.Write.contents c.finish.new.writer) c.answer_lines-ended.new.out.items
+      (rw c.in-Ok.ensures.items at c.in-Ok-ended.ensures.answered) c.finish.ensures.begun c.end_seat-transcript.ensures.whole;
+}
 
-pub returns-in_default-clause-begun : goal.returns-in_default-clause-begun
-returns-in_default-clause-begun g c =
-    session_begun c.args.options.newest c.args.hub.now.epoch None None (g.W.Write.contents c.args.writer.now) (g.W.Write.contents c.args.writer.now)
-    (breaks_here c.args.options.newest c.args.hub.now.epoch (g.W.Write.contents c.args.writer.now) [] None) (record { counter = refl; entries = refl })
+pub returns-in_default : goal.returns-in_default
+returns-in_default g c = record {
+  written = search rules;
+  begun =
+      session_begun c.args.options.newest c.args.hub.now.epoch None None (g.W.Write.contents c.args.writer.now) (g.W.Write.contents c.args.writer.now)
+      (breaks_here c.args.options.newest c.args.hub.now.epoch (g.W.Write.contents c.args.writer.now) [] None) (record { counter = refl; entries = refl });
+  tenant = search rules;
+  answered = search rules;
+  broke =
+      let hub = c.args.hub.now in
+      let input = g.R.Read.remaining c.args.reader.now in
+      let writer = g.W.Write.contents c.args.writer.now in
+      session_breaks c.args.options hub c.args.names.now None None input writer writer
+      (breaks_run c.args.options hub c.args.names.now None None [] input input writer writer writer [] [] 0 (runs_at_first c.args.options hub c.args.names.now None input writer [] [] refl) (Appends-nil writer)) refl;
+}
 
-pub returns-in-Ok-ended-clause-begun : goal.returns-in-Ok-ended-clause-begun
-returns-in-Ok-ended-clause-begun g c =
-    session_broken c.args.options.newest c.args.hub.now.epoch c.finish.result c.answer_lines-ended.new.connection.seat _ (g.W.Write.contents c.args.writer.now) (g.W.Write.contents c.answer_lines-ended.new.writer) (g.W.Write.contents c.finish.new.writer)
-    c.answer_lines-ended.new.out.items (rw c.in-Ok.ensures.items at c.in-Ok-ended.ensures.told) c.finish.ensures.begun
-    (record { counter = c.end_seat-transcript.ensures.counter; entries = c.end_seat-transcript.ensures.entries })
-
-pub returns-clause-begun : goal.returns-clause-begun
-returns-clause-begun g c =
-    session_begun c.args.options.newest c.args.hub.now.epoch c.answer_lines-ended.new.connection.seat _ (g.W.Write.contents c.args.writer.now) (g.W.Write.contents c.answer_lines-ended.new.writer)
-    (rw c.in-Ok.ensures.items at c.in-Err.ensures.begun) (record { counter = c.end_seat-transcript.ensures.counter; entries = c.end_seat-transcript.ensures.entries })
-
-pub returns-in-Ok-ended-clause-answered : goal.returns-in-Ok-ended-clause-answered
-returns-in-Ok-ended-clause-answered g c =
-    session_answered c.args.options c.args.hub.now c.args.names.now c.finish.result c.in-Ok-ended.ending c.answer_lines-ended.new.connection.seat _ (g.R.Read.remaining c.args.reader.now)
-    (g.W.Write.contents c.args.writer.now) (g.W.Write.contents c.answer_lines-ended.new.writer) (g.W.Write.contents c.finish.new.writer) c.answer_lines-ended.new.out.items
-    (rw c.in-Ok.ensures.items at c.in-Ok-ended.ensures.answered) c.finish.ensures.last c.end_seat-transcript.ensures.whole
-
-pub returns-in_default-clause-broke : goal.returns-in_default-clause-broke
-returns-in_default-clause-broke g c =
-    let hub = c.args.hub.now in
-    let input = g.R.Read.remaining c.args.reader.now in
-    let writer = g.W.Write.contents c.args.writer.now in
-    session_breaks c.args.options hub c.args.names.now None None input writer writer
-    (breaks_run c.args.options hub c.args.names.now None None [] input input writer writer writer [] [] 0 (runs_at_first c.args.options hub c.args.names.now None input writer [] [] refl) (Appends-nil writer)) refl
-
-pub returns-in-Ok-ended-clause-broke : goal.returns-in-Ok-ended-clause-broke
-returns-in-Ok-ended-clause-broke g c =
-    session_breaks_last c.args.options c.args.hub.now c.args.names.now c.finish.result c.in-Ok-ended.ending c.answer_lines-ended.new.connection.seat _ (g.R.Read.remaining c.args.reader.now)
-    (g.W.Write.contents c.args.writer.now) (g.W.Write.contents c.answer_lines-ended.new.writer) (g.W.Write.contents c.finish.new.writer) c.answer_lines-ended.new.out.items
-    (rw c.in-Ok.ensures.items at c.in-Ok-ended.ensures.answered) c.finish.ensures.begun c.end_seat-transcript.ensures.whole
-
-pub returns-clause-broke : goal.returns-clause-broke
-returns-clause-broke g c =
-    session_breaks c.args.options c.args.hub.now c.args.names.now c.answer_lines-ended.new.connection.seat _ (g.R.Read.remaining c.args.reader.now) (g.W.Write.contents c.args.writer.now) (g.W.Write.contents c.answer_lines-ended.new.writer)
-    (rw c.in-Ok.ensures.items at c.in-Err.ensures.broke) c.end_seat-transcript.ensures.whole
+pub returns : goal.returns
+returns g c = record {
+  written = search rules;
+  begun =
+      session_begun c.args.options.newest c.args.hub.now.epoch c.answer_lines-ended.new.connection.seat _ (g.W.Write.contents c.args.writer.now) (g.W.Write.contents c.answer_lines-ended.new.writer)
+      (rw c.in-Ok.ensures.items at c.in-Err.ensures.keeps.begun) (record { counter = c.end_seat-transcript.ensures.counter; entries = c.end_seat-transcript.ensures.entries });
+  tenant = search rules;
+  answered = search rules;
+  broke =
+      session_breaks c.args.options c.args.hub.now c.args.names.now c.answer_lines-ended.new.connection.seat _ (g.R.Read.remaining c.args.reader.now) (g.W.Write.contents c.args.writer.now) (g.W.Write.contents c.answer_lines-ended.new.writer)
+      (rw c.in-Ok.ensures.items at c.in-Err.ensures.broke) c.end_seat-transcript.ensures.whole;
+}

@@ -1,0 +1,41 @@
+-- What the calls that answer the lines of a connection ask for, and what they promise alike.
+use Rattle.std.specs.Prelude.{◌≤◌, ℕ, Bool, List, Option, Result, IfOk, IfErr, IfSome, OnOk}
+use Rattle.closed_store.specs.declared.transcript.Transcript.{Transcript}
+use Rattle.hub.specs.Hubs.{ConfigView}
+use Rattle.hub.specs.Seats.{SeatView}
+use Rattle.line_runs.specs.RunAnswers.{Gathers}
+use Rattle.line_runs.specs.declared.fault.RunFault.{RunFault}
+use Rattle.server_sessions.specs.declared.session_options.SessionOptions.{SessionOptions}
+use Rattle.server_sessions.specs.Answered.{HasAnswered, HasAnsweredSome}
+use Rattle.server_sessions.specs.Telling.{BreaksTelling, HasName, IsBegun, IsSeated, IsWritten, Tells}
+
+-- there is room for so long a line, and the seat, if there is one, is of a tenant that goes by one of these names
+pub record MayAnswer (line spare : ℕ) (seat : Option SeatView) (names : List (List ℕ)) : Type 0 where
+  pub ready : line ≤ spare
+  pub tenant : IsSeated seat names
+
+-- What was reported while lines were answered, from the first seat to the last, was gathered or written, or, at a fault,
+-- a beginning of it was written. There is room for the next line, and the seat is still of a tenant that goes by one of
+-- these names.
+pub record KeepsTelling {X : Type 0} (newest : Bool) (epoch : ℕ) (names : List (List ℕ)) (first last : Option SeatView)
+    (old new : Option (List ℕ)) (before after : List ℕ) (line spare : ℕ) (result : Result X RunFault) : Type 0 where
+  pub ready : OnOk result (line ≤ spare)
+  pub tenant : IsSeated last names
+  pub told : OnOk result ((text : List ℕ) × Gathers old new before after text × Tells newest epoch first last text)
+  pub begun : IfErr result (λ fault. BreaksTelling newest epoch first last old new before)
+
+-- What a session over this input leaves, if all of the input is known.
+pub record HasRun (options : SessionOptions) (hub : ConfigView) (names : List (List ℕ)) (input old new : Option (List ℕ))
+    (transcript : Option Transcript) (result : Result (Unit {0}) RunFault) : Type 0 where
+  -- A transcript stands there exactly where a seat was opened. Then `ready` and its counter were written, and the
+  -- answers that the transcript has, each in its turn.
+  pub written : IfOk result (λ done. IsWritten options.newest hub.epoch transcript old new)
+  -- at a fault a beginning of that was written, and the transcript stands there just so
+  pub begun : IfErr result (λ fault. IsBegun options.newest hub.epoch transcript old new)
+  -- it is of a tenant that goes by one of these names
+  pub tenant : IfSome transcript (λ t. HasName names t.tenant)
+  -- Each line of a prefix of the input was answered, in its turn, and then the session ended. A strict one goes on only
+  -- behind lines that it could read, until it has a seat.
+  pub answered : IfOk result (λ done. IfSome input (λ stream. HasAnswered options hub names stream transcript old new))
+  -- at a fault a beginning of the answers to such lines was written
+  pub broke : IfErr result (λ fault. IfSome input (λ stream. HasAnsweredSome options hub names stream transcript old new))
