@@ -1,12 +1,14 @@
 -- What is looked up of a tenant's transcripts: the first of each seat, and the client's session right before each.
 use Rattle.std.specs.Prelude.{◌≡◌, ◌⊎◌, ◌<◌, ℕ, List, Option, Some, MatchOption, nat_eq, length, slice_get}
 use Rattle.indexmap.specs.IndexMap.{IndexMap, get}
+use Rattle.closed_store.specs.declared.closed.Closed.{Closed}
 use Rattle.closed_store.specs.declared.transcript.Transcript.{Transcript}
+use Rattle.settle.specs.declared.progress.Progress.{Progress}
 use Rattle.settle.specs.declared.progress.TranscriptState.{TranscriptState}
 use Rattle.settle.specs.declared.progress.TranscriptState.TheVariants.{Over}
 use Rattle.settle.specs.declared.session_order.SessionOrder.{SessionOrder}
 use Rattle.settle.specs.Fronts.{ComesBefore}
-use Rattle.settle.specs.Standing.{NoneOfSeat, IsSlot}
+use Rattle.settle.specs.Standing.{NoneOfSeat, IsSized, IsSlot}
 
 -- a transcript of the tenant, at its place
 abbrev pub IsOfTenant : List Transcript → ℕ → ℕ → Transcript → Type 0
@@ -85,6 +87,11 @@ pub record AreBefore (transcripts : List Transcript) (tenant count : ℕ) (befor
 pub record IsSessionOrder (transcripts : List Transcript) (tenant : ℕ) (places : SessionOrder) : Type 0 where
   pub slots : AreSlots transcripts tenant (length transcripts) places.slots
   pub befores : AreBefore transcripts tenant (length transcripts) places.before.items
+
+-- the progress is one through what was left of a closed store, and the order is that of the tenant's sessions in it
+pub record BelongTo (closed : Closed) (tenant : ℕ) (progress : Progress) (order : SessionOrder) : Type 0 where
+  pub sized : IsSized closed progress
+  pub places : IsSessionOrder closed.transcripts.items tenant order
 
 -- the session at the place, if there is one, is over
 abbrev pub IsSessionOver : List TranscriptState → Option ℕ → Type 0

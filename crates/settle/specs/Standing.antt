@@ -1,6 +1,6 @@
 -- What progress stands for: the steps that were taken so far.
 use Rattle.std.specs.Prelude.{◌++◌, ◌==◌, cond, ◌≡◌, ◌≢◌, ◌<◌, ◌≤◌, ℕ, List, [], ◌∷◌, map, drop, length, slice_get}
-use Rattle.std.specs.Prelude.{All, Option, Some, None, MatchOption, Result, MatchResult}
+use Rattle.std.specs.Prelude.{All, Bool, false, IsTrue, Option, Some, None, MatchOption, Result, IfErr, OnOk, MatchResult}
 use Rattle.std.specs.Global.{Vec}
 use Rattle.closed_store.specs.declared.closed.Closed.{Closed}
 use Rattle.entry_list.specs.declared.kinds.Entry.{Entry}
@@ -142,6 +142,11 @@ AfterNoted closed tenant progress P =
     let input = input_of closed tenant progress.replay.limits in
     (trace : Trace) → IsNotedOf input trace progress → P input trace
 
+-- of each run of a tenant's input whose steps were taken, the test says whether this is so
+pub record TellsWhether (closed : Closed) (tenant : ℕ) (progress : Progress) (test : Bool) (P : Input → Trace → Type 0) : Type 0 where
+  pub over : AfterItsSteps closed tenant progress (λ input trace. IsTrue test → P input trace)
+  pub left : AfterItsSteps closed tenant progress (λ input trace. test ≡ false → P input trace → ⊥)
+
 -- and the Keep step before a step of this origin too
 pub record IsReady (input : Input) (trace : Trace) (origin : Origin) (progress : Progress) : Type 0 where
   pub noted : IsNotedReady input trace origin progress
@@ -246,6 +251,22 @@ abbrev pub IsWithinNext : Closed → Option Next → Type 0
 IsWithinNext closed None = Unit {0}
 IsWithinNext closed (Some next) = IsWithin closed (origin_of next.source)
 
+-- a search chose this: of each run of a tenant's input whose steps were taken it is so, and what was chosen is there
+pub record IsChosen (closed : Closed) (tenant : ℕ) (progress : Progress) (P : Input → Trace → Option Next → Type 0) (next : Option Next)
+    : Type 0 where
+  pub choice : AfterItsSteps closed tenant progress (λ input trace. P input trace next)
+  pub within : IsWithinNext closed next
+
+-- this was done, or there was no memory
+pub record DoneOrNoMemory (result : Result (Unit {0}) SettleFault) (P : Type 0) : Type 0 where
+  pub ok : OnOk result P
+  pub err : IfErr result (λ fault. fault ≡ OutOfMemory)
+
+-- the lists are as many as before, and the limits are the same
+pub record KeepsSize (old new : Progress) : Type 0 where
+  pub sized : (closed : Closed) → IsSized closed old → IsSized closed new
+  pub limits : new.replay.limits ≡ old.replay.limits
+
 -- the run differs at the step, or there was no memory
 abbrev pub FaultsAt : Input → Trace → Origin → Act → SettleFault → Type 0
 FaultsAt input trace origin act Mismatch = AgreesAt input trace origin act → ⊥
@@ -272,3 +293,10 @@ TakesOne input source act old new result =
     → IsFound input trace source
     → MatchResult result (λ _. HasTakenSteps input (record { origin = origin_of source; act = act } ∷ trace) new)
     (FaultsAt input trace (origin_of source) act)
+
+-- it takes such a step, the lists are as many as before, and the limits are the same
+pub record TakesStep (closed : Closed) (tenant : ℕ) (source : Source) (act : Act) (old new : Progress)
+    (result : Result (Unit {0}) SettleFault) : Type 0 where
+  pub takes : TakesOne (input_of closed tenant old.replay.limits) source act old new result
+  pub sized : IsSized closed new
+  pub limits : new.replay.limits ≡ old.replay.limits

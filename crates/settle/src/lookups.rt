@@ -1,5 +1,5 @@
 //! What is looked up in journals and transcripts.
-ghost use Rattle.std.specs.Prelude.{◌≡◌, ◌↔◌, ◌<◌, IsTrue, MatchOption, length, slice_get};
+ghost use Rattle.std.specs.Prelude.{◌≡◌, ◌↔◌, ◌<◌, IsTrue, length, slice_get};
 ghost use Rattle.std.specs.Option.{option_copied, option_map};
 ghost use Rattle.partition.specs.PackedEvents.{caller_of};
 ghost use Rattle.stamps.specs.declared.bounds.Limits.{Limits};

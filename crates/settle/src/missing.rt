@@ -2,10 +2,9 @@
 ghost use Rattle.std.specs.Prelude.{ℕ, false, ◌≡◌, ◌<◌, IsTrue, length, IfErr, OnOk};
 ghost use Rattle.stamps.specs.declared.bounds.Limits.{Limits as Limited};
 ghost use Rattle.settle.specs.Input.{input_of, events_of_partition};
-ghost use Rattle.settle.specs.Trace.{Trace};
 ghost use Rattle.settle.specs.Fronts.{TakesAll, IsEventOf, NoneIsFree, IsSeatOverAt, IsUnsentAt};
-ghost use Rattle.settle.specs.Standing.{AfterItsSteps, IsSized, IsOverOf, IsDone};
-ghost use Rattle.settle.specs.Sessions.{IsSessionOrder};
+ghost use Rattle.settle.specs.Standing.{AfterItsSteps, TellsWhether, IsSized, IsOverOf, IsDone};
+ghost use Rattle.settle.specs.Sessions.{IsSessionOrder, BelongTo};
 ghost use Rattle.settle.specs.Verdict.{IsFaulty, AreSameLimits, LimitsDiffer, HasJournal, HasJournals};
 
 use crate::SettleFault;
@@ -181,10 +180,8 @@ impl Progress {
     /// Whether all steps were taken.
     pub fn is_whole(&self, closed: &Closed, tenant: u32) -> bool
         requires sized { IsSized closed.now self.now }
-        ensures whole { AfterItsSteps closed.now tenant self.now (λ input trace. IsTrue result
-            → TakesAll input trace) }
-        ensures left { AfterItsSteps closed.now tenant self.now (λ input trace. result ≡ false
-            → TakesAll input trace → ⊥) }
+        ensures { TellsWhether closed.now tenant self.now result
+            (λ input trace. TakesAll input trace) }
     {
         self.are_over(closed, tenant) && self.are_done(closed, tenant)
     }
@@ -209,10 +206,8 @@ impl Progress {
     fn is_over_at(&self, closed: &Closed, tenant: u32, place: usize) -> bool
         requires sized { IsSized closed.now self.now }
         requires place { place < length closed.now.transcripts.items }
-        ensures over { AfterItsSteps closed.now tenant self.now (λ input trace. IsTrue result
-            → IsOverOf input trace place) }
-        ensures left { AfterItsSteps closed.now tenant self.now (λ input trace. result ≡ false
-            → IsOverOf input trace place → ⊥) }
+        ensures { TellsWhether closed.now tenant self.now result
+            (λ input trace. IsOverOf input trace place) }
     {
         if closed.transcripts[place].tenant != tenant {
             return true;
@@ -238,8 +233,7 @@ impl Progress {
 
     /// Why no step can come next, though some are left: an event is missing the call of its seat, or steps wait for each other.
     pub fn why_stuck(&self, closed: &Closed, tenant: u32, places: &SessionOrder) -> SettleFault
-        requires sized { IsSized closed.now self.now }
-        requires places { IsSessionOrder closed.now.transcripts.items tenant places.now }
+        requires { BelongTo closed.now tenant self.now places.now }
         ensures { AfterItsSteps closed.now tenant self.now (λ input trace. NoneIsFree input trace
             → (TakesAll input trace → ⊥)
             → IsFaulty closed.now tenant self.now.replay.limits result) }
@@ -260,13 +254,10 @@ impl Progress {
         places: &SessionOrder,
         partition: usize,
     ) -> bool
-        requires sized { IsSized closed.now self.now }
-        requires places { IsSessionOrder closed.now.transcripts.items tenant places.now }
+        requires given { BelongTo closed.now tenant self.now places.now }
         requires partition { partition < closed.now.config.parts }
-        ensures unsent { AfterItsSteps closed.now tenant self.now (λ input trace. IsTrue result
-            → IsUnsentAt input trace partition) }
-        ensures sent { AfterItsSteps closed.now tenant self.now (λ input trace. result ≡ false
-            → IsUnsentAt input trace partition → ⊥) }
+        ensures { TellsWhether closed.now tenant self.now result
+            (λ input trace. IsUnsentAt input trace partition) }
     {
         let Some(event) = self.next_event(closed, tenant, partition) else {
             return false;
@@ -283,10 +274,8 @@ impl Progress {
     /// Whether all steps of a seat were taken.
     fn is_seat_over(&self, closed: &Closed, tenant: u32, seat: u64) -> bool
         requires sized { IsSized closed.now self.now }
-        ensures over { AfterItsSteps closed.now tenant self.now (λ input trace. IsTrue result
-            → (place : ℕ) → IsSeatOverAt input trace seat place) }
-        ensures left { AfterItsSteps closed.now tenant self.now (λ input trace. result ≡ false
-            → ((place : ℕ) → IsSeatOverAt input trace seat place) → ⊥) }
+        ensures { TellsWhether closed.now tenant self.now result
+            (λ input trace. (place : ℕ) → IsSeatOverAt input trace seat place) }
     {
         for place in 0..closed.transcripts.len() {
             if !self.is_seat_over_at(closed, tenant, seat, place) {
@@ -300,10 +289,8 @@ impl Progress {
     fn is_seat_over_at(&self, closed: &Closed, tenant: u32, seat: u64, place: usize) -> bool
         requires sized { IsSized closed.now self.now }
         requires place { place < length closed.now.transcripts.items }
-        ensures over { AfterItsSteps closed.now tenant self.now (λ input trace. IsTrue result
-            → IsSeatOverAt input trace seat place) }
-        ensures left { AfterItsSteps closed.now tenant self.now (λ input trace. result ≡ false
-            → IsSeatOverAt input trace seat place → ⊥) }
+        ensures { TellsWhether closed.now tenant self.now result
+            (λ input trace. IsSeatOverAt input trace seat place) }
     {
         if closed.transcripts[place].seat != seat {
             return true;

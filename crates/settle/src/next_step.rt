@@ -1,19 +1,19 @@
 //! Which step may come next.
-ghost use Rattle.std.specs.Prelude.{false, ◌≡◌, ◌≢◌, ◌↔◌, ◌<◌, ◌≤◌, ◌⊎◌, ◌∷◌, [], ℕ, IsTrue, length, slice_get, Option, Some, None, IfOk, MatchOption};
+ghost use Rattle.std.specs.Prelude.{false, ◌≡◌, ◌↔◌, ◌<◌, ◌≤◌, ℕ, IsTrue, length, slice_get, Option, Some, None, IfOk};
 ghost use Rattle.settle.specs.Input.{Input, input_of, transcripts_in};
 ghost use Rattle.settle.specs.Program.{Doing, TranscriptItem, Greets, Begins, Takes, at_place, doing_of};
 ghost use Rattle.settle.specs.Trace.{OfTranscript, OfJournal, Trace, call_rows};
 ghost use Rattle.settle.specs.Fronts.{ComesBefore, IsTranscriptAt, MayTake};
 ghost use Rattle.settle.specs.Words.{Act as Acted};
-ghost use Rattle.settle.specs.Sessions.{IsSessionOrder, IsSessionOver};
-ghost use Rattle.settle.specs.Standing.{AfterItsSteps, AfterNoted, IsSized, IsNotedOf, HasTakenSteps, Chooses, GivesNow, RepliesNow, IsChoice, IsChoiceOf, IsChoiceBetween, MayBeNext, IsWithinNext, IsCompared, rest_of};
+ghost use Rattle.settle.specs.Sessions.{IsSessionOrder, IsSessionOver, BelongTo};
+ghost use Rattle.settle.specs.Standing.{AfterItsSteps, AfterNoted, IsSized, IsNotedOf, HasTakenSteps, Chooses, GivesNow, RepliesNow, IsChosen, IsChoice, IsChoiceOf, IsChoiceBetween, MayBeNext, IsWithinNext, IsCompared, rest_of};
 ghost use Rattle.settle.specs.declared.progress.TranscriptState.TheVariants.{Open, Over as IsOverStage};
 ghost use Rattle.closed_store.specs.declared.closed.Closed.{Closed as Left};
 ghost use Rattle.closed_store.specs.declared.transcript.Transcript.{Transcript as Noted};
 
 use crate::lookups::{at_place, is_event_of, is_request};
 use crate::progress::{Progress, TranscriptState};
-use crate::search_order::Search;
+use crate::search_order::SearchOrder;
 use crate::session_order::SessionOrder;
 use closed_store::{Closed, Entry, Transcript};
 use partition::Event;
@@ -45,13 +45,11 @@ impl Progress {
         closed: &Closed,
         tenant: u32,
         places: &SessionOrder,
-        search: Search,
+        search: SearchOrder,
     ) -> Result<Option<Next>, OutOfMemory>
-        requires sized { IsSized closed.now self.now }
-        requires places { IsSessionOrder closed.now.transcripts.items tenant places.now }
-        ensures choice { IfOk result (λ next. AfterItsSteps closed.now tenant self.now
-            (λ input trace. IsChoice input trace next)) }
-        ensures within { IfOk result (λ next. IsWithinNext closed.now next) }
+        requires { BelongTo closed.now tenant self.now places.now }
+        ensures { IfOk result (λ next. IsChosen closed.now tenant self.now
+            (λ input trace next. IsChoice input trace next) next) }
     {
         if let Some(next) = self.next_at(alloc, closed, tenant, places, search.first)? {
             return Ok(Some(next));
@@ -71,11 +69,9 @@ impl Progress {
         places: &SessionOrder,
         place: usize,
     ) -> Result<Option<Next>, OutOfMemory>
-        requires sized { IsSized closed.now self.now }
-        requires places { IsSessionOrder closed.now.transcripts.items tenant places.now }
-        ensures choice { IfOk result (λ next. AfterItsSteps closed.now tenant self.now
-            (λ input trace. MayBeNext input trace next)) }
-        ensures within { IfOk result (λ next. IsWithinNext closed.now next) }
+        requires { BelongTo closed.now tenant self.now places.now }
+        ensures { IfOk result (λ next. IsChosen closed.now tenant self.now
+            (λ input trace next. MayBeNext input trace next) next) }
     {
         if place >= closed.transcripts.len() {
             return Ok(None);
@@ -92,12 +88,10 @@ impl Progress {
         places: &SessionOrder,
         from: usize,
     ) -> Result<Option<Next>, OutOfMemory>
-        requires sized { IsSized closed.now self.now }
-        requires places { IsSessionOrder closed.now.transcripts.items tenant places.now }
-        ensures choice { IfOk result (λ next. AfterItsSteps closed.now tenant self.now
-            (λ input trace. IsChoiceOf input trace OfTranscript
-            (length closed.now.transcripts.items) next)) }
-        ensures within { IfOk result (λ next. IsWithinNext closed.now next) }
+        requires { BelongTo closed.now tenant self.now places.now }
+        ensures { IfOk result (λ next. IsChosen closed.now tenant self.now
+            (λ input trace next. IsChoiceOf input trace OfTranscript
+            (length closed.now.transcripts.items) next) next) }
     {
         let count = closed.transcripts.len();
         let middle = from.min(count);
@@ -117,12 +111,10 @@ impl Progress {
         first: usize,
         end: usize,
     ) -> Result<Option<Next>, OutOfMemory>
-        requires sized { IsSized closed.now self.now }
-        requires places { IsSessionOrder closed.now.transcripts.items tenant places.now }
+        requires given { BelongTo closed.now tenant self.now places.now }
         requires end { end ≤ length closed.now.transcripts.items }
-        ensures choice { IfOk result (λ next. AfterItsSteps closed.now tenant self.now
-            (λ input trace. IsChoiceBetween input trace first end next)) }
-        ensures within { IfOk result (λ next. IsWithinNext closed.now next) }
+        ensures { IfOk result (λ next. IsChosen closed.now tenant self.now
+            (λ input trace next. IsChoiceBetween input trace first end next) next) }
     {
         for place in first..end {
             if let Some(next) = self.next_of_transcript(alloc, closed, tenant, places, place)? {
@@ -134,11 +126,10 @@ impl Progress {
 
     /// A step that a journal gives and that may come next, if there is one.
     fn next_of_journals(&self, closed: &Closed, tenant: u32, places: &SessionOrder) -> Option<Next>
-        requires sized { IsSized closed.now self.now }
-        requires places { IsSessionOrder closed.now.transcripts.items tenant places.now }
-        ensures choice { AfterItsSteps closed.now tenant self.now
-            (λ input trace. IsChoiceOf input trace OfJournal closed.now.config.parts result) }
-        ensures within { IsWithinNext closed.now result }
+        requires { BelongTo closed.now tenant self.now places.now }
+        ensures { IsChosen closed.now tenant self.now
+            (λ input trace next.
+            IsChoiceOf input trace OfJournal closed.now.config.parts next) result }
     {
         for partition in 0..closed.config.parts {
             if let Some(next) = self.next_of_journal(closed, tenant, places, partition) {
@@ -157,12 +148,10 @@ impl Progress {
         places: &SessionOrder,
         place: usize,
     ) -> Result<Option<Next>, OutOfMemory>
-        requires sized { IsSized closed.now self.now }
-        requires places { IsSessionOrder closed.now.transcripts.items tenant places.now }
+        requires given { BelongTo closed.now tenant self.now places.now }
         requires place { place < length closed.now.transcripts.items }
-        ensures choice { IfOk result (λ next. AfterItsSteps closed.now tenant self.now
-            (λ input trace. Chooses input trace (OfTranscript place) next)) }
-        ensures within { IfOk result (λ next. IsWithinNext closed.now next) }
+        ensures { IfOk result (λ next. IsChosen closed.now tenant self.now
+            (λ input trace next. Chooses input trace (OfTranscript place) next) next) }
     {
         let transcript = &closed.transcripts[place];
         if transcript.tenant != tenant {
@@ -185,8 +174,7 @@ impl Progress {
         places: &SessionOrder,
         place: usize,
     ) -> Option<Next>
-        requires sized { IsSized closed.now self.now }
-        requires places { IsSessionOrder closed.now.transcripts.items tenant places.now }
+        requires given { BelongTo closed.now tenant self.now places.now }
         requires place { place < length closed.now.transcripts.items }
         ensures gives { let input = input_of closed.now tenant self.now.replay.limits in
             (trace : Trace) (transcript : Noted) → HasTakenSteps input trace self.now
@@ -316,12 +304,10 @@ impl Progress {
         places: &SessionOrder,
         partition: u32,
     ) -> Option<Next>
-        requires sized { IsSized closed.now self.now }
-        requires places { IsSessionOrder closed.now.transcripts.items tenant places.now }
+        requires given { BelongTo closed.now tenant self.now places.now }
         requires partition { partition < closed.now.config.parts }
-        ensures choice { AfterItsSteps closed.now tenant self.now
-            (λ input trace. Chooses input trace (OfJournal partition) result) }
-        ensures within { IsWithinNext closed.now result }
+        ensures { IsChosen closed.now tenant self.now
+            (λ input trace next. Chooses input trace (OfJournal partition) next) result }
     {
         if self.is_early(closed, tenant, places, partition) {
             return None;
@@ -343,8 +329,7 @@ impl Progress {
 
     /// Whether the call of a journal's next event was not sent yet, as the event's seat and number tell alone.
     fn is_early(&self, closed: &Closed, tenant: u32, places: &SessionOrder, partition: u32) -> bool
-        requires sized { IsSized closed.now self.now }
-        requires places { IsSessionOrder closed.now.transcripts.items tenant places.now }
+        requires given { BelongTo closed.now tenant self.now places.now }
         requires partition { partition < closed.now.config.parts }
         ensures { AfterItsSteps closed.now tenant self.now (λ input trace. IsTrue result
             → (act : Acted) → MayTake input trace (OfJournal partition) act → ⊥) }

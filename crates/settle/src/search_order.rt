@@ -6,27 +6,27 @@ use crate::session_order::SessionOrder;
 /// Where the next step is looked for first. Each step lets one transcript go on at most: its own, that of the seat whose event
 /// it was, or the client's next session. So a search that asks that one, and then one that gave no step yet, seldom asks more.
 #[derive(Clone, Copy)]
-pub struct Search {
+pub struct SearchOrder {
     /// The place of the transcript that is asked first.
     pub first: usize,
     /// The transcripts in front of this place were asked; those from it on are asked before them.
     pub fresh: usize,
 }
 
-impl Search {
+impl SearchOrder {
     /// The search for the first step.
-    pub fn new() -> Search {
-        Search { first: 0, fresh: 0 }
+    pub fn new() -> SearchOrder {
+        SearchOrder { first: 0, fresh: 0 }
     }
 
     /// The search for the step after one of this origin, which was taken.
-    pub fn after(self, progress: &Progress, places: &SessionOrder, source: &Source) -> Search {
+    pub fn after(self, progress: &Progress, places: &SessionOrder, source: &Source) -> SearchOrder {
         match source {
-            Source::Transcript(place, _) => Search {
+            Source::Transcript(place, _) => SearchOrder {
                 first: progress.goes_on(places, *place),
                 fresh: self.fresh_after(*place),
             },
-            Source::Journal(_, event) => Search {
+            Source::Journal(_, event) => SearchOrder {
                 first: places.slot_of(event.seat()).unwrap_or(self.first),
                 fresh: self.fresh,
             },

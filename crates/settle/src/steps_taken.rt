@@ -1,15 +1,14 @@
 //! Taking a step.
-ghost use Rattle.std.specs.Prelude.{IsTrue, ◌≡◌, ◌≢◌, ◌↔◌, ◌<◌, ◌≤◌, ◌++◌, ◌∷◌, [], List, drop, ℕ, length, slice_get, Option, Some, None, IfOk, OnOk, OnErr, IfErr, MatchResult, MatchOption};
+ghost use Rattle.std.specs.Prelude.{IsTrue, ◌≡◌, ◌≢◌, ◌↔◌, ◌<◌, ◌++◌, ◌∷◌, [], List, drop, ℕ, length, slice_get, Option, Some, None, OnOk, MatchOption};
 ghost use Rattle.plain_store.specs.History.{History};
 ghost use Rattle.settle.specs.Input.{Input, setup_for, input_of};
-ghost use Rattle.settle.specs.Words.{Act as Acted, SetKeep, Answer as Told};
-ghost use Rattle.settle.specs.Program.{TranscriptItem, noted, items_of};
+ghost use Rattle.settle.specs.Words.{Act as Acted, SetKeep};
+ghost use Rattle.settle.specs.Program.{TranscriptItem, noted};
 ghost use Rattle.settle.specs.Trace.{at_seat, Trace, after, with_act, keep_before, keep_told, rows_sent, row_replied, numbers};
 ghost use Rattle.settle.specs.Fronts.{IsNextEvent, Delivers};
-ghost use Rattle.settle.specs.Standing.{rest_of, IsCompared, AreAll, IsNoted, Advances, reply_told, IsSized, origin_of, IsNotedOf, IsReady, HasTakenSteps, NotesOne, TakesOne, IsWithin, IsPushed};
-ghost use Rattle.settle.specs.Sessions.{IsSessionOrder};
+ghost use Rattle.settle.specs.Standing.{rest_of, IsCompared, AreAll, IsNoted, Advances, reply_told, origin_of, IsNotedOf, IsReady, HasTakenSteps, NotesOne, TakesOne, TakesStep, KeepsSize, DoneOrNoMemory, IsWithin, IsPushed};
+ghost use Rattle.settle.specs.Sessions.{BelongTo};
 ghost use Rattle.settle.specs.Replaying.{Plays, Replays, step_of};
-ghost use Rattle.closed_store.specs.declared.closed.Closed.{Closed as Left};
 ghost use Rattle.settle.specs.declared.next_step.Source.TheVariants.{Transcript as FromTranscript, Journal as FromJournal};
 ghost use Rattle.settle.specs.Trace.{OfJournal};
 
@@ -32,13 +31,9 @@ impl Progress {
         places: &SessionOrder,
         next: Next,
     ) -> Result<(), SettleFault>
-        requires sized { IsSized closed.now self.old }
-        requires places { IsSessionOrder closed.now.transcripts.items tenant places.now }
+        requires given { BelongTo closed.now tenant self.old places.now }
         requires within { IsWithin closed.now (origin_of next.source) }
-        ensures takes { TakesOne (input_of closed.now tenant self.old.replay.limits)
-            next.source next.act self.old self.new result }
-        ensures sized { IsSized closed.now self.new }
-        ensures limits { self.new.replay.limits ≡ self.old.replay.limits }
+        ensures { TakesStep closed.now tenant next.source next.act self.old self.new result }
     {
         let Next { source, act } = next;
         match source {
@@ -61,13 +56,10 @@ impl Progress {
         reply: &Option<Reply>,
         act: Act,
     ) -> Result<(), SettleFault>
-        requires sized { IsSized closed.now self.old }
-        requires places { IsSessionOrder closed.now.transcripts.items tenant places.now }
+        requires given { BelongTo closed.now tenant self.old places.now }
         requires place { place < length closed.now.transcripts.items }
-        ensures takes { TakesOne (input_of closed.now tenant self.old.replay.limits)
-            (FromTranscript place reply.now) act self.old self.new result }
-        ensures sized { IsSized closed.now self.new }
-        ensures limits { self.new.replay.limits ≡ self.old.replay.limits }
+        ensures { TakesStep closed.now tenant (FromTranscript place reply.now) act
+            self.old self.new result }
     {
         let step = Step { tenant: 0, act };
         match self.note_item(closed, tenant, places, place, reply, &step) {
@@ -88,8 +80,7 @@ impl Progress {
         requires { partition < length self.old.replies.items }
         ensures takes { (input : Input) → input.tenant ≡ tenant
             → TakesOne input (FromJournal partition event.now) act self.old self.new result }
-        ensures sized { (closed : Left) → IsSized closed self.old → IsSized closed self.new }
-        ensures limits { self.new.replay.limits ≡ self.old.replay.limits }
+        ensures keeps { KeepsSize self.old self.new }
     {
         if let Err(fault) = self.make_ready(tenant, event) {
             return Err(fault);
@@ -103,14 +94,12 @@ impl Progress {
 
     /// Takes the Keep step that stands right before the step of a journal's next event, if there is one.
     fn make_ready(&mut self, tenant: u32, event: &Event) -> Result<(), SettleFault>
-        ensures ready { OnOk result ((input : Input) (trace : Trace) (partition : ℕ)
+        ensures ready { DoneOrNoMemory result ((input : Input) (trace : Trace) (partition : ℕ)
             → input.tenant ≡ tenant → HasTakenSteps input trace self.old
             → IsNextEvent input trace partition event.now
             → IsReady input trace (OfJournal partition) self.new) }
-        ensures err { IfErr result (λ fault. fault ≡ SettleFault.OutOfMemory) }
-        ensures sized { (closed : Left) → IsSized closed self.old → IsSized closed self.new }
         ensures replies { self.new.replies ≡ self.old.replies }
-        ensures limits { self.new.replay.limits ≡ self.old.replay.limits }
+        ensures keeps { KeepsSize self.old self.new }
     {
         match self.keep_before(event) {
             Some(keep) => self.set_keep(tenant, keep),
@@ -135,16 +124,14 @@ impl Progress {
 
     /// Takes a Keep step.
     fn set_keep(&mut self, tenant: u32, keep: Keep) -> Result<(), SettleFault>
-        ensures played { OnOk result ((input : Input) (acts : List Acted) (history : History)
-            → Plays input acts history self.old.replay
+        ensures played { DoneOrNoMemory result ((input : Input) (acts : List Acted)
+            (history : History) → Plays input acts history self.old.replay
             → Plays input (acts ++ SetKeep keep ∷ [])
             (with_act (setup_for input) (SetKeep keep) history) self.new.replay) }
         ensures steps { OnOk result (self.new.steps.items
             ≡ self.old.steps.items ++ step_of tenant (SetKeep keep) ∷ []) }
-        ensures err { IfErr result (λ fault. fault ≡ SettleFault.OutOfMemory) }
-        ensures stages { self.new.stages ≡ self.old.stages }
-        ensures sent { self.new.sent ≡ self.old.sent }
-        ensures replies { self.new.replies ≡ self.old.replies }
+        ensures rest { self.new
+            ≡ record self.old { replay = self.new.replay; steps = self.new.steps } }
         ensures limits { self.new.replay.limits ≡ self.old.replay.limits }
     {
         let _named = no_reply();
@@ -166,14 +153,12 @@ impl Progress {
         reply: &Option<Reply>,
         step: &Step,
     ) -> Result<(), SettleFault>
-        requires sized { IsSized closed.now self.old }
-        requires places { IsSessionOrder closed.now.transcripts.items tenant places.now }
+        requires given { BelongTo closed.now tenant self.old places.now }
         requires place { place < length closed.now.transcripts.items }
         requires step { step.now.tenant ≡ 0 }
         ensures notes { NotesOne (input_of closed.now tenant self.old.replay.limits)
             (FromTranscript place reply.now) step.now.act self.old self.new result }
-        ensures sized { IsSized closed.now self.new }
-        ensures limits { self.new.replay.limits ≡ self.old.replay.limits }
+        ensures keeps { KeepsSize self.old self.new }
         ensures steps { self.new.steps ≡ self.old.steps }
     {
         let _named = no_reply();
@@ -218,8 +203,7 @@ impl Progress {
         requires step { step.now.tenant ≡ 0 }
         ensures notes { (input : Input) → NotesOne input (FromJournal partition event.now)
             step.now.act self.old self.new result }
-        ensures sized { (closed : Left) → IsSized closed self.old → IsSized closed self.new }
-        ensures limits { self.new.replay.limits ≡ self.old.replay.limits }
+        ensures keeps { KeepsSize self.old self.new }
         ensures steps { self.new.steps ≡ self.old.steps }
     {
         let _named = no_reply();
@@ -343,8 +327,8 @@ fn row_replied(answer: &Answer, event: &Event) -> Option<u64>
 
 /// Adds a step of the tenant.
 fn push_step(steps: &mut Vec<Step>, tenant: u32, act: Act) -> Result<(), SettleFault>
-    ensures ok { OnOk result (steps.new.items ≡ steps.old.items ++ step_of tenant act ∷ []) }
-    ensures err { IfErr result (λ fault. fault ≡ SettleFault.OutOfMemory) }
+    ensures { DoneOrNoMemory result
+        (steps.new.items ≡ steps.old.items ++ step_of tenant act ∷ []) }
 {
     steps.reserve(1)?;
     steps.push_reserved(Step { tenant, act });
@@ -354,8 +338,8 @@ fn push_step(steps: &mut Vec<Step>, tenant: u32, act: Act) -> Result<(), SettleF
 /// Adds a row to the list at a place.
 fn push_at(lists: &mut Vec<Vec<u64>>, place: usize, row: u64) -> Result<(), SettleFault>
     requires { place < length lists.old.items }
-    ensures ok { OnOk result (IsPushed lists.old.items lists.new.items place (row ∷ [])) }
-    ensures err { IfErr result (λ fault. fault ≡ SettleFault.OutOfMemory) }
+    ensures pushed { DoneOrNoMemory result
+        (IsPushed lists.old.items lists.new.items place (row ∷ [])) }
     ensures len { length lists.new.items ≡ length lists.old.items }
 {
     let list = &mut lists[place];
@@ -367,9 +351,8 @@ fn push_at(lists: &mut Vec<Vec<u64>>, place: usize, row: u64) -> Result<(), Sett
 /// Adds the rows of the calls that a step sent to the list at a place.
 fn push_rows_at(lists: &mut Vec<Vec<u64>>, place: usize, answer: &Answer) -> Result<(), SettleFault>
     requires { place < length lists.old.items }
-    ensures ok { OnOk result
+    ensures pushed { DoneOrNoMemory result
         (IsPushed lists.old.items lists.new.items place (rows_sent answer.now)) }
-    ensures err { IfErr result (λ fault. fault ≡ SettleFault.OutOfMemory) }
     ensures len { length lists.new.items ≡ length lists.old.items }
 {
     push_rows(&mut lists[place], answer)
@@ -377,8 +360,7 @@ fn push_rows_at(lists: &mut Vec<Vec<u64>>, place: usize, answer: &Answer) -> Res
 
 /// Adds the rows of the calls that a step sent.
 fn push_rows(list: &mut Vec<u64>, answer: &Answer) -> Result<(), SettleFault>
-    ensures ok { OnOk result (list.new.items ≡ list.old.items ++ rows_sent answer.now) }
-    ensures err { IfErr result (λ fault. fault ≡ SettleFault.OutOfMemory) }
+    ensures { DoneOrNoMemory result (list.new.items ≡ list.old.items ++ rows_sent answer.now) }
 {
     if let Some(rows) = rows_sent(answer) {
         for row in rows.first..=rows.last {

@@ -1,14 +1,14 @@
 //! The verdict.
-ghost use Rattle.std.specs.Prelude.{◌≡◌, MatchResult};
+ghost use Rattle.std.specs.Prelude.{MatchResult};
 ghost use Rattle.settle.specs.Input.{input_of};
 ghost use Rattle.settle.specs.Trace.{Trace};
 ghost use Rattle.settle.specs.Fronts.{NoneIsFree};
-ghost use Rattle.settle.specs.Standing.{IsSized, HasTakenSteps};
-ghost use Rattle.settle.specs.Sessions.{IsSessionOrder};
+ghost use Rattle.settle.specs.Standing.{HasTakenSteps};
+ghost use Rattle.settle.specs.Sessions.{IsSessionOrder, BelongTo};
 ghost use Rattle.settle.specs.Verdict.{IsVerdictFor, Settles, IsFaulty, HasJournals, limits_at};
 
 use crate::progress::Progress;
-use crate::search_order::Search;
+use crate::search_order::SearchOrder;
 use crate::session_order::SessionOrder;
 use crate::{SettleFault, missing};
 use closed_store::Closed;
@@ -52,7 +52,7 @@ fn play(
         (IsFaulty closed.now tenant limits.now) }
 {
     let mut progress = Progress::open(alloc, closed, limits)?;
-    let mut search = Search::new();
+    let mut search = SearchOrder::new();
     for step in 0..u64::MAX {
         let _step = step;
         let before = search;
@@ -78,8 +78,7 @@ fn verdict(
     tenant: u32,
     places: &SessionOrder,
 ) -> Result<Vec<Step>, SettleFault>
-    requires sized { IsSized closed.now progress }
-    requires places { IsSessionOrder closed.now.transcripts.items tenant places.now }
+    requires given { BelongTo closed.now tenant progress places.now }
     requires journals { HasJournals closed.now tenant progress.replay.limits }
     ensures { (trace : Trace)
         → HasTakenSteps (input_of closed.now tenant progress.replay.limits) trace progress

@@ -11,8 +11,8 @@ use Rattle.settle.proofs.progress.Progress.greeting.Goals as goal
 pub returns-then-not-is_past-clause-gives : goal.returns-then-not-is_past-clause-gives
 returns-then-not-is_past-clause-gives c trace transcript stands its act gives =
     let input = input_of c.args.closed.now c.args.tenant c.args.self.now.replay.limits in
-    earlier_left input trace c.args.self.now stands c.args.place transcript c.requires.sized.stages c.before-2.result
-    (c.before-2.ensures c.args.closed.now.transcripts.items c.args.tenant transcript c.requires.places its)
+    earlier_left input trace c.args.self.now stands c.args.place transcript c.requires.given.sized.stages c.before-2.result
+    (c.before-2.ensures c.args.closed.now.transcripts.items c.args.tenant transcript c.requires.given.places its)
     (λ past. both_ways c.is_past.result c.if-not-is_past.true (c.is_past.ensures.1 past)) gives.1
 
 pub returns-clause-gives : goal.returns-clause-gives
@@ -24,6 +24,6 @@ returns-clause-gives c trace transcript stands its =
       (
         ap (λ (t : Transcript). Hello t.client t.base) same,
         earlier_over input trace c.args.self.now stands c.args.place transcript c.before-2.result
-            (c.before-2.ensures c.args.closed.now.transcripts.items c.args.tenant transcript c.requires.places its) (c.is_past.ensures.0 c.if-not-is_past.false),
+            (c.before-2.ensures c.args.closed.now.transcripts.items c.args.tenant transcript c.requires.given.places its) (c.is_past.ensures.0 c.if-not-is_past.false),
       ),
     )

@@ -3,8 +3,11 @@ use Rattle.settle.proofs.Words.{if_ok_map}
 use Rattle.settle.proofs.Choices.{choice_of}
 use Rattle.settle.proofs.progress.Progress.next.Goals as goal
 
-pub returns-in-None-clause-choice : goal.returns-in-None-clause-choice
-returns-in-None-clause-choice c =
+pub returns-in-None : goal.returns-in-None
+returns-in-None c =
     if_ok_map c.next_of_transcripts.result _ _
-    (λ next choice trace stands. choice_of (input_of c.args.closed.now c.args.tenant c.args.self.now.replay.limits) trace next (c.in-None.ensures.choice trace stands) (choice trace stands))
-    c.next_of_transcripts.ensures.choice
+    (λ next chosen. record {
+      choice = λ trace stands. choice_of (input_of c.args.closed.now c.args.tenant c.args.self.now.replay.limits) trace next (c.in-None.ensures.choice trace stands) (chosen.choice trace stands);
+      within = chosen.within;
+    })
+    c.next_of_transcripts.ensures

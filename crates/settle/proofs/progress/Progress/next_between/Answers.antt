@@ -10,5 +10,5 @@ loop-place-preserved c trace stands =
     none_more_between input trace c.args.first c.loop-place.place (c.loop-place.invariant trace stands)
     (none_chosen input trace (OfTranscript c.loop-place.place) c.in_ok-next.field-0 c.in_default.is (c.in_ok-next.ensures.choice trace stands))
 
-pub returns-clause-choice : goal.returns-clause-choice
-returns-clause-choice c trace stands k from within act may = c.loop-place.invariant trace stands k from (omega (arith, within, c.loop-place-test.false)) act may
+pub returns : goal.returns
+returns c = record { choice = λ trace stands k from within act may. c.loop-place.invariant trace stands k from (omega (arith, within, c.loop-place-test.false)) act may; within = tt }

@@ -9,5 +9,5 @@ loop-partition-preserved c trace stands =
     let input = input_of c.args.closed.now c.args.tenant c.args.self.now.replay.limits in
     none_more input trace OfJournal c.loop-partition.partition (c.loop-partition.invariant trace stands) (c.in_default.ensures.choice trace stands)
 
-pub returns-clause-choice : goal.returns-clause-choice
-returns-clause-choice c trace stands k within act may = c.loop-partition.invariant trace stands k (omega (arith, within, c.loop-partition-test.false)) act may
+pub returns : goal.returns
+returns c = record { choice = λ trace stands k within act may. c.loop-partition.invariant trace stands k (omega (arith, within, c.loop-partition-test.false)) act may; within = tt }

@@ -23,7 +23,7 @@ returns-clause-notes c input trace noted may next =
     let valid = brought_act input trace c.args.partition may.0 c.args.step.now.act may.2 in
     let is = c.in_ok-answer.ensures.answer input (acts_before input trace (OfJournal c.args.partition)) (ready input trace (OfJournal c.args.partition)) noted.replays in
     let brought = (c.brings.ensures input (acts_before input trace (OfJournal c.args.partition)) (ready input trace (OfJournal c.args.partition)) noted.replays).0 c.if-not-brings.false in
-    match_pushed input trace (OfJournal c.args.partition) c.args.step.now.act c.push_at.result _ _ c.push_at.ensures.ok c.push_at.ensures.err
+    match_pushed input trace (OfJournal c.args.partition) c.args.step.now.act c.push_at.result _ _ c.push_at.ensures.pushed.ok c.push_at.ensures.pushed.err
     (λ pushed. (
       journal_noted input trace c.args.partition c.args.step.now.act c.args.self.now c.step.new.self c.push_at.new.lists c.in-Some.row noted (c.in_ok-answer.ensures.stands input (acts_before input trace (OfJournal c.args.partition)) (ready input trace (OfJournal c.args.partition)) noted.replays)
           (c.in-Some.ensures.1 ∙ ap row_replied is) pushed,

@@ -25,7 +25,7 @@ returns-in_default-clause-notes c trace noted may found =
     let at = slice_get_read c.args.closed.now.transcripts.items _ c.args.place transcript refl c.requires.place c.index-transcript.ensures in
     let next = indexed input trace c.args.place c.args.step.now.act transcript at may in
     has_slot input trace c.args.place c.args.step.now.act transcript next.1
-    (c.in_default.ensures c.args.closed.now.transcripts.items c.args.tenant c.requires.places)
+    (c.in_default.ensures c.args.closed.now.transcripts.items c.args.tenant c.requires.given.places)
 
 pub returns-in_default-next_stage-clause-notes : goal.returns-in_default-next_stage-clause-notes
 returns-in_default-next_stage-clause-notes c trace noted may found agrees =
@@ -33,7 +33,7 @@ returns-in_default-next_stage-clause-notes c trace noted may found agrees =
     let transcript = c.index-transcript.result.now in
     let stage = c.index-stage.result.now in
     let at = slice_get_read c.args.closed.now.transcripts.items _ c.args.place transcript refl c.requires.place c.index-transcript.ensures in
-    let staged = slice_get_read c.args.self.now.stages.items _ c.args.place stage (sym c.requires.sized.stages) c.requires.place c.index-stage.ensures in
+    let staged = slice_get_read c.args.self.now.stages.items _ c.args.place stage (sym c.requires.given.sized.stages) c.requires.place c.index-stage.ensures in
     let next = indexed input trace c.args.place c.args.step.now.act transcript at may in
     let is_at = noted.stages c.args.place transcript stage next.1 staged in
     let first = first_left input trace c.args.place c.args.step.now.act transcript next.1 stage next.0 is_at next.2 in
@@ -42,8 +42,8 @@ returns-in_default-next_stage-clause-notes c trace noted may found agrees =
 
 pub push_rows_at-requires : goal.push_rows_at-requires
 push_rows_at-requires c =
-    let slotted = c.in-Some.ensures c.args.closed.now.transcripts.items c.args.tenant c.requires.places in
-    subst (λ n. c.in-Some.slot < n) (sym c.requires.sized.sent) (slice_get_within c.args.closed.now.transcripts.items c.in-Some.slot slotted.transcript slotted.there)
+    let slotted = c.in-Some.ensures c.args.closed.now.transcripts.items c.args.tenant c.requires.given.places in
+    subst (λ n. c.in-Some.slot < n) (sym c.requires.given.sized.sent) (slice_get_within c.args.closed.now.transcripts.items c.in-Some.slot slotted.transcript slotted.there)
 
 pub returns-clause-notes : goal.returns-clause-notes
 returns-clause-notes c trace noted may found =
@@ -51,15 +51,15 @@ returns-clause-notes c trace noted may found =
     let transcript = c.index-transcript.result.now in
     let stage = c.index-stage.result.now in
     let at = slice_get_read c.args.closed.now.transcripts.items _ c.args.place transcript refl c.requires.place c.index-transcript.ensures in
-    let staged = slice_get_read c.args.self.now.stages.items _ c.args.place stage (sym c.requires.sized.stages) c.requires.place c.index-stage.ensures in
+    let staged = slice_get_read c.args.self.now.stages.items _ c.args.place stage (sym c.requires.given.sized.stages) c.requires.place c.index-stage.ensures in
     let next = indexed input trace c.args.place c.args.step.now.act transcript at may in
     let is_at = noted.stages c.args.place transcript stage next.1 staged in
     let first = first_left input trace c.args.place c.args.step.now.act transcript next.1 stage next.0 is_at next.2 in
     let is = c.in_ok-answer.ensures.answer input (acts_of input trace) (after input trace) noted.replays in
     let on = subst (λ a. Advances transcript stage next.0 a c.in-Some-next_stage.next) is (c.in-Some-next_stage.ensures next.0 is_at.compared first) in
     let takes = subst (Delivers (after input trace) c.args.step.now.act) (found transcript next.0 next.1 next.2) ((c.delivers.ensures input trace noted.replays).0 c.if-not-delivers.false) in
-    let slotted = c.in-Some.ensures c.args.closed.now.transcripts.items c.args.tenant c.requires.places in
-    match_pushed input trace (OfTranscript c.args.place) c.args.step.now.act c.push_rows_at.result _ _ c.push_rows_at.ensures.ok c.push_rows_at.ensures.err
+    let slotted = c.in-Some.ensures c.args.closed.now.transcripts.items c.args.tenant c.requires.given.places in
+    match_pushed input trace (OfTranscript c.args.place) c.args.step.now.act c.push_rows_at.result _ _ c.push_rows_at.ensures.pushed.ok c.push_rows_at.ensures.pushed.err
     (λ pushed. (
       transcript_noted input trace c.args.place c.args.step.now.act transcript next.1 c.args.self.now c.step.new.self _ c.push_rows_at.new.lists stage c.in-Some-next_stage.next next.0 c.in-Some.slot
           noted (c.in_ok-answer.ensures.stands input (acts_of input trace) (after input trace) noted.replays) staged next.2 on refl slotted

@@ -1,4 +1,4 @@
-use Rattle.std.proofs.Common.{◌∷◌, [], ◌++◌, refl, ap, ◌∙◌}
+use Rattle.std.proofs.Common.{rules, ◌∷◌, [], ◌++◌, refl, ap, ◌∙◌}
 use Rattle.settle.specs.Input.{input_of}
 use Rattle.settle.specs.Trace.{OfTranscript}
 use Rattle.settle.specs.Replaying.{step_of}
@@ -6,12 +6,25 @@ use Rattle.settle.proofs.Words.{match_pushed}
 use Rattle.settle.proofs.Taken.{ready_already, written}
 use Rattle.settle.proofs.progress.Progress.take_of_transcript.Goals as goal
 
-pub returns-in-Ok-clause-takes : goal.returns-in-Ok-clause-takes
-returns-in-Ok-clause-takes c trace stands may found =
-    let input = input_of c.args.closed.now c.args.tenant c.args.self.now.replay.limits in
-    let origin = OfTranscript c.args.place in
-    let old = c.args.self.now in
-    let ready = ready_already input trace origin old stands refl in
-    match_pushed input trace origin c.args.act c.push_step.result _ _ c.push_step.ensures.ok c.push_step.ensures.err
-    (λ pushed. written input trace origin c.args.act old c.note_item.new.self _ ready may (c.in-Ok.ensures.notes trace ready.noted may found) refl refl refl refl
-    (pushed ∙ ap (λ steps. steps.items ++ step_of c.args.tenant c.args.act ∷ []) c.note_item.ensures.steps))
+pub returns-in-Ok : goal.returns-in-Ok
+returns-in-Ok c = record {
+  takes = λ trace stands may found.
+      let input = input_of c.args.closed.now c.args.tenant c.args.self.now.replay.limits in
+      let origin = OfTranscript c.args.place in
+      let old = c.args.self.now in
+      let ready = ready_already input trace origin old stands refl in
+      match_pushed input trace origin c.args.act c.push_step.result _ _ c.push_step.ensures.ok c.push_step.ensures.err
+      (λ pushed. written input trace origin c.args.act old c.note_item.new.self _ ready may (c.in-Ok.ensures.notes trace ready.noted may found) refl refl refl refl
+      (pushed ∙ ap (λ steps. steps.items ++ step_of c.args.tenant c.args.act ∷ []) c.note_item.ensures.steps));
+  sized =
+      let sized = c.note_item.ensures.keeps.sized c.args.closed.now c.requires.given.sized in
+      record { stages = sized.stages; sent = sized.sent; replies = sized.replies };
+  limits = c.note_item.ensures.keeps.limits;
+}
+
+pub returns-in-Err : goal.returns-in-Err
+returns-in-Err c = record {
+  takes = search rules;
+  sized = c.note_item.ensures.keeps.sized c.args.closed.now c.requires.given.sized;
+  limits = c.note_item.ensures.keeps.limits;
+}

@@ -12,13 +12,13 @@ loop-partition-preserved c trace stands k within at =
     let p = c.loop-partition.partition in
     elim (cases_lt k p) [
       | inl h ↦ c.loop-partition.invariant trace stands k h at
-      | inr h ↦ let same : k ≡ p = omega (arith, h, within) in c.is_unsent.ensures.sent trace stands c.if-is_unsent.false (subst (IsUnsentAt input trace) same at)
+      | inr h ↦ let same : k ≡ p = omega (arith, h, within) in c.is_unsent.ensures.left trace stands c.if-is_unsent.false (subst (IsUnsentAt input trace) same at)
     ]
 
 pub returns-then-is_unsent : goal.returns-then-is_unsent
 returns-then-is_unsent c trace stands none left =
     let input = input_of c.args.closed.now c.args.tenant c.args.self.now.replay.limits in
-    inr (inr (inr (inl (unsent input trace c.args.self.now c.loop-partition.partition stands none (c.is_unsent.ensures.unsent trace stands c.if-is_unsent.true)))))
+    inr (inr (inr (inl (unsent input trace c.args.self.now c.loop-partition.partition stands none (c.is_unsent.ensures.over trace stands c.if-is_unsent.true)))))
 
 pub returns : goal.returns
 returns c trace stands none left =
