@@ -1,0 +1,6 @@
+pub mod Lists
+pub mod Counts
+pub mod Following
+pub mod Steps
+pub mod Shown
+pub mod Servings

@@ -1,0 +1,4 @@
+pub mod Entries
+pub mod Legal
+pub mod Rules
+pub mod Asking

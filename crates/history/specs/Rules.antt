@@ -1,0 +1,53 @@
+-- The rule between a history and the words that count its entries, and what the steps tell.
+use Rattle.std.specs.Prelude.{ℕ, ◌≡◌, ◌==◌, ◌+◌, ◌<◌, ◌⊎◌, Bool, true, false, List, [], ◌∷◌, ◌++◌, MatchBool, length}
+use Rattle.logbook.specs.Pages.{Cell, Step, View, Book, Named, cell, nib, may_make}
+use Rattle.plain_store.specs.Words.{◌∈◌}
+use Rattle.history.specs.declared.entry.HistoryEntry.{HistoryEntry}
+use Rattle.history.specs.declared.entry.HistoryEntry.TheVariants.{Opened, Arrived}
+use Rattle.history.specs.Entries.{own, count}
+use Rattle.history.specs.Legal.{IsLegal, first_client}
+
+-- the words of the register and of the partitions are there from the start, a client's once it has an entry
+abbrev pub IsHome : ℕ → List HistoryEntry → Type 0
+IsHome k log = (k < first_client) ⊎ (0 < count k log)
+
+-- a word is the number of its entries; there is one for each client that joined, and the history is legal
+pub record IsRuleKept (cells : List Cell) (log : List HistoryEntry) : Type 0 where
+  pub size : length cells ≡ first_client + count 0 log
+  pub words : (k : ℕ) → IsHome k log → (k < length cells) × (cell cells k ≡ (count k log, true))
+  pub legal : IsLegal log
+
+abbrev pub word_of : ℕ → Book → Named
+word_of k b = record { tracked = true; key = k; book = b }
+
+-- whether it is a history of a store that was just opened
+abbrev pub is_opening : List HistoryEntry → Bool
+is_opening [] = false
+is_opening (Opened setting ∷ []) = true
+is_opening (e ∷ log) = false
+
+-- the entry was added where the word had so many
+abbrev pub IsAdded : ℕ → ℕ → HistoryEntry → List HistoryEntry → List HistoryEntry → Type 0
+IsAdded k entries e seen now =
+    (between : List HistoryEntry) × (now ≡ (seen ++ between) ++ e ∷ []) × (count k (seen ++ between) ≡ entries) × IsLegal now
+
+abbrev pub Looks : Step HistoryEntry → View HistoryEntry ℕ → ℕ → View HistoryEntry ℕ → Type 0
+Looks s v found w = (count s.key w.0 ≡ found) × IsLegal w.0
+
+abbrev pub Adds : Step HistoryEntry → View HistoryEntry ℕ → ℕ → View HistoryEntry ℕ → Type 0
+Adds s v found w = MatchBool (found == s.old) (IsAdded s.key s.old s.ask v.0 w.0) (IsLegal w.0)
+
+-- a client joined, and the right to make its word is had
+abbrev pub Joins : Step HistoryEntry → View HistoryEntry ℕ → ℕ → View HistoryEntry ℕ → Type 0
+Joins s v found w =
+    MatchBool (found == s.old) ((w.1.0 ≡ nib may_make (first_client + s.old) 0) × (s.ask ∈ w.0) × IsLegal w.0) (IsLegal w.0)
+
+-- the word of an arrival
+abbrev pub arrived : HistoryEntry → ℕ
+arrived (Arrived word) = word
+-- no other entry is one
+arrived e = 0
+
+-- the word that was made counts, and its one entry is this one
+abbrev pub Arrives : Step HistoryEntry → View HistoryEntry ℕ → ℕ → View HistoryEntry ℕ → Type 0
+Arrives s v found w = (own (arrived s.ask) w.0 ≡ s.ask ∷ []) × (count 0 w.0 ≡ found) × IsLegal w.0

@@ -1,0 +1,234 @@
+//! Beginnings of the history that were seen.
+ghost use Rattle.std.specs.Prelude.{◌≡◌, ◌≢◌, ◌+◌, ◌<◌, ◌^◌, [], ◌∷◌, MatchBool, IfSome, None, true};
+ghost use mathlib.Core.List.{IsPrefix};
+ghost use Rattle.plain_store.specs.Words.{◌∈◌};
+ghost use Rattle.history.specs.declared.entry.HistoryEntry.TheVariants.{Joined, Arrived, Decided};
+ghost use Rattle.history.specs.declared.entry.JoinedClient.{JoinedClient as WhoJoined};
+ghost use Rattle.history.specs.Asking.{began_by, served_by};
+ghost use Rattle.history.specs.Entries.{is_of, own, count};
+ghost use Rattle.history.specs.Legal.{IsLegal, MayFollow, MayBegin, MayDecide};
+ghost use Rattle.history.specs.Rules.{IsHome, IsAdded, is_opening};
+
+use crate::entry::{CallToServe, Decision, HistoryEntry, JoinedClient, WriteToBegin};
+use crate::rule::{Add, Arrive, Join, Law, Look, Naming, Nothing};
+use crate::tallies::Tally;
+use logbook::{Offer, Plain, Seen, Word};
+use std::marker::{Model, PhantomData};
+
+/// A step's report, which trades nothing.
+type Report = Offer<HistoryEntry, u64, Law, Nothing>;
+
+/// How many words stand before those of the clients.
+const FIRST_CLIENT: u64 = 65;
+
+/// A beginning of the history that was seen, which contracts see as its entries. It takes no bytes, and can be copied, sent and
+/// kept: it is evidence of what was entered.
+#[derive(Drop)]
+pub struct Front<J: Naming> {
+    seen: Seen<HistoryEntry, u64, Law>,
+    of: PhantomData<J>,
+}
+
+impl<J: Naming> Model for Front<J> {
+    ghost use Rattle.std.specs.Prelude.{◌≡◌, List};
+    ghost use Rattle.history.specs.declared.entry.HistoryEntry.{HistoryEntry};
+    ghost use Rattle.history.specs.Legal.{IsLegal};
+
+    ghost Value = { List HistoryEntry };
+
+    ghost view = { λ f. f.seen.log };
+
+    ghost invariant = { λ f. (f.seen.book ≡ J.book) × IsLegal f.seen.log };
+}
+
+impl<J: Naming> Front<J> {
+    // What was seen of a history that was just opened.
+    pub(crate) fn of(seen: Seen<HistoryEntry, u64, Law>) -> Front<J>
+        requires book { seen.book ≡ J.book }
+        requires opening { is_opening seen.log ≡ true }
+        ensures { result ≡ seen.log }
+    {
+        Front {
+            seen,
+            of: PhantomData,
+        }
+    }
+
+    /// A copy.
+    pub fn again(&self) -> Front<J>
+        ensures same { result ≡ self.now }
+        ensures legal { IsLegal result }
+    {
+        Front {
+            seen: self.seen.again(),
+            of: PhantomData,
+        }
+    }
+
+    /// From now on it has seen what both have.
+    pub fn learn(&mut self, other: &Front<J>)
+        ensures this { IsPrefix self.old self.new }
+        ensures that { IsPrefix other.now self.new }
+        ensures legal { IsLegal self.new }
+    {
+        self.seen.learn(&other.seen);
+    }
+
+    /// Sees the history as it is now, and answers how many entries of a word it has.
+    pub fn look(&mut self, tally: &Tally<J>) -> u64
+        requires home { IsHome tally.now.key self.old }
+        ensures later { IsPrefix self.old self.new }
+        ensures counted { result ≡ count tally.now.key self.new }
+        ensures legal { IsLegal self.new }
+    {
+        let mut offer: Report = self.seen.plain::<Nothing, u64, Arrive>(&0);
+        tally.word.load::<Look, Nothing>(&mut self.seen, &mut offer)
+    }
+
+    /// Adds the entry that is reported of, where the word has as many entries as were seen here, and sees what the evidence has. Says
+    /// whether it did; it did not where there are other entries of the word.
+    fn add<X, M: Plain<X, HistoryEntry, u64>>(
+        &mut self,
+        tally: &Tally<J>,
+        entries: u64,
+        evidence: &Front<J>,
+        about: &X,
+    ) -> bool
+        requires room { entries < 2 ^ 62 }
+        requires home { IsHome tally.now.key self.old }
+        requires apart { tally.now.key ≢ 0 }
+        requires counted { count tally.now.key self.old ≡ entries }
+        requires its { is_of tally.now.key (M.ask about.now) ≡ true }
+        requires plain { M.state about.now ≡ None }
+        requires may { ∥ MayFollow self.old evidence.now (M.ask about.now) ∥₁ }
+        ensures later { IsPrefix self.old self.new }
+        ensures evidence { IsPrefix evidence.now self.new }
+        ensures added { MatchBool result (IsAdded tally.now.key entries (M.ask about.now) self.old self.new) (IsLegal self.new) }
+    {
+        self.seen.learn(&evidence.seen);
+        let mut offer: Report = self.seen.plain::<Nothing, X, M>(about);
+        let mut pen = self.seen.no_pen();
+        let found = tally
+            .word
+            .compare_exchange::<Add, Nothing>(
+                entries,
+                entries + 1,
+                &mut self.seen,
+                &mut offer,
+                &mut pen,
+            );
+        found == entries
+    }
+
+    /// Enters that a partition serves a call, and says whether it did. It did not where the partition has served other calls than
+    /// were seen here. It has seen then what the evidence has.
+    pub fn serve(
+        &mut self,
+        tally: &Tally<J>,
+        entries: u64,
+        evidence: &Front<J>,
+        asked: &CallToServe<'_>,
+    ) -> bool
+        requires room { entries < 2 ^ 62 }
+        requires partition { (tally.now.key ≡ asked.now.partition + 1) × (asked.now.partition < 64) }
+        requires counted { count tally.now.key self.old ≡ entries }
+        ensures later { IsPrefix self.old self.new }
+        ensures evidence { IsPrefix evidence.now self.new }
+        ensures added { MatchBool result (IsAdded tally.now.key entries (served_by asked.now) self.old self.new) (IsLegal self.new) }
+    {
+        self.add::<CallToServe<'_>, Add>(tally, entries, evidence, asked)
+    }
+
+    /// Enters that a put of a client began, and says whether it did. It did not where the client has other entries than were seen
+    /// here.
+    pub fn begin(&mut self, tally: &Tally<J>, entries: u64, begun: &WriteToBegin<'_>) -> bool
+        requires room { entries < 2 ^ 62 }
+        requires client { (tally.now.key ≡ begun.now.word) × (64 < begun.now.word) × (0 < entries) }
+        requires counted { count tally.now.key self.old ≡ entries }
+        requires may { ∥ MayFollow self.old self.old (began_by begun.now) ∥₁ }
+        ensures later { IsPrefix self.old self.new }
+        ensures added { MatchBool result (IsAdded tally.now.key entries (began_by begun.now) self.old self.new) (IsLegal self.new) }
+    {
+        let evidence = self.again();
+        self.add::<WriteToBegin<'_>, Add>(tally, entries, &evidence, begun)
+    }
+
+    /// Enters that a put of a client is decided, and says whether it did. It did not where the client has other entries than were
+    /// seen here. The evidence shows that all its items are prepared.
+    pub fn decide(
+        &mut self,
+        tally: &Tally<J>,
+        entries: u64,
+        evidence: &Front<J>,
+        decision: &Decision,
+    ) -> bool
+        requires room { entries < 2 ^ 62 }
+        requires client { (tally.now.key ≡ decision.now.word) × (64 < decision.now.word) × (0 < entries) }
+        requires counted { count tally.now.key self.old ≡ entries }
+        requires may { ∥ MayDecide evidence.now decision.now ∥₁ }
+        ensures later { IsPrefix self.old self.new }
+        ensures evidence { IsPrefix evidence.now self.new }
+        ensures added { MatchBool result (IsAdded tally.now.key entries (Decided decision.now) self.old self.new) (IsLegal self.new) }
+    {
+        self.add::<Decision, Add>(tally, entries, evidence, decision)
+    }
+
+    /// Enters that a client comes for the first time, as the so many-th (from 0) of all clients, and answers its word. None where
+    /// others came than were seen here.
+    pub fn join(
+        &mut self,
+        register: &Tally<J>,
+        joined: u64,
+        tenant: u32,
+        client: stamps::Client,
+    ) -> Option<Tally<J>>
+        requires room { joined < 2 ^ 62 }
+        requires register { register.now.key ≡ 0 }
+        requires counted { count 0 self.old ≡ joined }
+        requires new { (other : WhoJoined) → Joined other ∈ self.old → other.tenant ≡ tenant → other.client ≡ client → ⊥ }
+        ensures later { IsPrefix self.old self.new }
+        ensures legal { IsLegal self.new }
+        ensures key { IfSome result (λ tally. tally.key ≡ joined + 65) }
+        ensures joined { IfSome result (λ tally. Joined (record { word = tally.key; tenant = tenant; client = client }) ∈ self.new) }
+        ensures alone { IfSome result (λ tally. own tally.key self.new ≡ Arrived tally.key ∷ []) }
+        ensures counted { IfSome result (λ _. count 0 self.new ≡ joined + 1) }
+    {
+        let key = joined + FIRST_CLIENT;
+        let member = JoinedClient {
+            word: key,
+            tenant,
+            client,
+        };
+        let mut offer: Report = self.seen.plain::<Nothing, JoinedClient, Join>(&member);
+        let mut pen = self.seen.no_pen();
+        let found = register
+            .word
+            .compare_exchange::<Join, Nothing>(
+                joined,
+                joined + 1,
+                &mut self.seen,
+                &mut offer,
+                &mut pen,
+            );
+        if found != joined {
+            return None;
+        }
+        let word = Word::tracked(1, &mut pen);
+        let mut offer: Report = self.seen.plain::<Nothing, u64, Arrive>(&key);
+        let found = register.word.compare_exchange::<Arrive, Nothing>(
+            joined + 1,
+            joined + 1,
+            &mut self.seen,
+            &mut offer,
+            &mut pen,
+        );
+        if found != joined + 1 {
+            return None;
+        }
+        Some(Tally {
+            key,
+            word,
+            of: PhantomData,
+        })
+    }
+}

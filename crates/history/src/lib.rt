@@ -1,0 +1,18 @@
+//! The one history of a running store. It exists in proofs alone: its threads share words, of which each counts the entries of one
+//! partition or of one client, and carry evidence of what was entered, which takes no bytes.
+#![tactic(auto)]
+
+mod entry;
+mod front;
+mod history_laws;
+mod rule;
+mod tallies;
+
+pub use entry::{
+    AllLimits, CallToServe, Decision, HistoryEntry, JoinedClient, ServedCall, StoreOpening,
+    StoreToOpen, Write, WriteToBegin,
+};
+pub use front::Front;
+pub use history_laws::a_stamp_has_one_write;
+pub use rule::{Law, Naming};
+pub use tallies::{NewHistory, PartitionWords, Tally};

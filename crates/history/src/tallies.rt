@@ -1,0 +1,122 @@
+//! A history that was opened, and its words.
+ghost use Rattle.std.specs.Prelude.{◌≡◌, ◌+◌, ◌<◌, ◌↔◌, [], ◌∷◌, IsSome, IfSome, true};
+ghost use Rattle.history.specs.declared.entry.HistoryEntry.TheVariants.{Opened as WasOpened};
+ghost use Rattle.history.specs.Rules.{is_opening, word_of};
+
+use crate::entry::{HistoryEntry, StoreToOpen};
+use crate::front::Front;
+use crate::rule::{Law, Naming};
+use logbook::{Pens, Seen, Start, Word};
+use stamps::Limits;
+use std::marker::PhantomData;
+
+/// The words of the register and of the partitions.
+const WORDS: usize = 65;
+
+const PARTITIONS: u32 = 64;
+
+/// The history of a store that was just opened, which has no name yet.
+#[derive(Drop)]
+pub struct NewHistory {
+    register: Word<HistoryEntry, u64, Law>,
+    partitions: Pens,
+    seen: Seen<HistoryEntry, u64, Law>,
+    pub ghost opening: { is_opening seen.log ≡ true },
+    pub ghost register_is: { register ≡ word_of 0 seen.book },
+    pub ghost book_is: { partitions.book ≡ seen.book },
+    pub ghost next_is: { partitions.next ≡ 1 },
+    pub ghost left_is: { partitions.left ≡ 64 },
+}
+
+impl NewHistory {
+    ghost use Rattle.std.specs.Prelude.{◌≡◌, [], ◌∷◌};
+    ghost use Rattle.history.specs.declared.entry.HistoryEntry.TheVariants.{Opened as WasOpened};
+
+    /// The history of a store of so many partitions, in which each tenant has these limits. The n-th are those of tenant n.
+    pub fn new(parts: u32, limits: &[Limits]) -> NewHistory
+        ensures { result.seen.log ≡ WasOpened (record { parts = parts; limits = limits.now }) ∷ [] }
+    {
+        let given = StoreToOpen { parts, limits };
+        let (seen, mut pens) = Seen::open_row::<StoreToOpen<'_>, Law>(
+            &given,
+            Start::alone(),
+            WORDS,
+        );
+        let mut pen = pens.take();
+        NewHistory {
+            register: Word::tracked(0, &mut pen),
+            partitions: pens,
+            seen,
+        }
+    }
+
+    /// The words under a name, and what was seen of the history: its opening.
+    pub fn named<J: Naming>(self) -> (Tally<J>, PartitionWords<J>, Front<J>)
+        requires { self.seen.book ≡ J.book }
+        ensures register { result.0.key ≡ 0 }
+        ensures partitions { result.1.next ≡ 0 }
+        ensures front { result.2 ≡ self.seen.log }
+    {
+        let NewHistory {
+            register,
+            partitions,
+            seen,
+        } = self;
+        (
+            Tally {
+                key: 0,
+                word: register,
+                of: PhantomData,
+            },
+            PartitionWords {
+                next: 0,
+                pens: partitions,
+                of: PhantomData,
+            },
+            Front::of(seen),
+        )
+    }
+}
+
+/// A word of the history: how many entries it has. Who holds it adds them; nobody else has the same.
+#[derive(Drop)]
+pub struct Tally<J: Naming> {
+    /// 0 of the register, p + 1 of partition p, from 65 on of a client.
+    pub key: u64,
+    pub(crate) word: Word<HistoryEntry, u64, Law>,
+    pub(crate) of: PhantomData<J>,
+    ghost word_is: { word ≡ word_of key J.book },
+}
+
+/// The words of the partitions that nobody took yet.
+#[derive(Drop)]
+pub struct PartitionWords<J: Naming> {
+    /// The partition whose word comes next.
+    pub next: u32,
+    pens: Pens,
+    of: PhantomData<J>,
+    ghost book_is: { pens.book ≡ J.book },
+    ghost next_is: { pens.next ≡ next + 1 },
+    ghost left_is: { pens.left + next ≡ 64 },
+}
+
+impl<J: Naming> PartitionWords<J> {
+    /// The next partition's word. None after 64.
+    pub fn take(&mut self) -> Option<Tally<J>>
+        ensures exact { IsSome result ↔ (self.old.next < 64) }
+        ensures key { IfSome result (λ tally. tally.key ≡ self.old.next + 1) }
+        ensures next { IfSome result (λ _. self.new.next ≡ self.old.next + 1) }
+    {
+        if self.next >= PARTITIONS {
+            return None;
+        }
+        let mut pen = self.pens.take();
+        let key = u64::from(self.next) + 1;
+        self.next += 1;
+        Some(Tally {
+            key,
+            word: Word::tracked(0, &mut pen),
+            of: PhantomData,
+        })
+    }
+}
