@@ -1,0 +1,159 @@
+//! A partition's book beside what it has seen of the history.
+ghost use Rattle.std.specs.Prelude.{◌≡◌, ◌⊎◌, ◌+◌, ◌<◌, ◌↔◌, map, length, true, IfOk, IfErr, OnErr, IsErrOf, IsSomeAnd};
+ghost use mathlib.Core.List.{IsPrefix};
+ghost use Rattle.partition.specs.Accounts.{before_at, events_at, new_account, IsCut, IsEntered, IsPastAt, IsReplyInEpoch};
+ghost use Rattle.partition.specs.Events.{event};
+ghost use Rattle.partition.specs.Journals.{IsLate};
+ghost use Rattle.history.specs.Entries.{limits_of, StandsInHistory};
+ghost use Rattle.history.specs.Legal.{IsLegal};
+ghost use Rattle.history.specs.Rules.{is_opening};
+ghost use Rattle.traced_book.specs.Traced.{AreTraced, IsStretch};
+
+use crate::entering::Entering;
+use history::{CallToServe, Front, Naming, Tally};
+use partition::{Book, Caller, Epoch};
+use plain_store::{Call, Refusal, Reply};
+use std::marker::Model;
+
+/// A partition's book, and the word that counts what the partition served. Contracts see which partition it is, the book's
+/// accounts, and what was seen of the history: of each tenant it has the account's calls, behind those of earlier epochs.
+#[derive(Drop)]
+pub struct TracedBook<J: Naming> {
+    partition: u32,
+    book: Book,
+    tally: Tally<J>,
+    entries: u64,
+    front: Front<J>,
+}
+
+impl<J: Naming> Model for TracedBook<J> {
+    ghost use Rattle.std.specs.Prelude.{◌≡◌, ◌+◌, ◌<◌};
+    ghost use Rattle.history.specs.Entries.{count};
+    ghost use Rattle.traced_book.specs.Traced.{AreTraced, Tracing};
+
+    ghost Value = { Tracing };
+
+    ghost view = { λ b. record { partition = b.partition; accounts = b.book; seen = b.front } };
+
+    ghost invariant = { λ b. AreTraced b.front b.partition b.book × (count b.tally.key b.front ≡ b.entries) × (b.tally.key ≡ b.partition + 1) × (b.partition < 64) };
+}
+
+impl<J: Naming> TracedBook<J> {
+    /// A book without events, of a store that was just opened: its word, and what was seen of the history.
+    pub fn new(book: Book, partition: u32, tally: Tally<J>, front: Front<J>) -> TracedBook<J>
+        requires few { partition < 64 }
+        requires tally { tally.key ≡ partition + 1 }
+        requires opened { is_opening front ≡ true }
+        requires book { book ≡ map new_account (limits_of front) }
+        ensures { result ≡ record { partition = partition; accounts = book; seen = front } }
+    {
+        TracedBook {
+            partition,
+            book,
+            tally,
+            entries: 0,
+            front,
+        }
+    }
+
+    /// The book, to be read.
+    pub fn book(&self) -> &Book
+        ensures { result.now ≡ self.now.accounts }
+    {
+        &self.book
+    }
+
+    /// What was seen of the history: it has each event of the book.
+    pub fn seen(&self) -> Front<J>
+        ensures { result ≡ self.now.seen }
+    {
+        self.front.again()
+    }
+
+    /// The book, and what was seen of the history.
+    pub fn into_parts(self) -> (Book, Front<J>)
+        ensures book { result.0 ≡ self.accounts }
+        ensures seen { result.1 ≡ self.seen }
+        ensures traced { AreTraced self.seen self.partition self.accounts }
+        ensures legal { IsLegal self.seen }
+    {
+        let TracedBook {
+            partition: _,
+            book,
+            tally: _,
+            entries: _,
+            front,
+        } = self;
+        (book, front.again())
+    }
+
+    /// Has a tenant's cell serve a call, enters its event, and enters the call into the history. Writes the reply
+    /// into the caller's buffer, and answers the event's place in the tenant's journal. The evidence has seen then that the call
+    /// was served.
+    ///
+    /// It fails where the number is not above the seat's last one in this epoch (25), where an allocation failed (30), and where the
+    /// history has other calls of the partition than were seen here (10). Then nothing has changed.
+    pub fn serve_into(
+        &mut self,
+        caller: Caller,
+        tenant: u32,
+        call: &Call,
+        reply: &mut Option<Reply>,
+        evidence: &mut Front<J>,
+    ) -> Result<u64, Refusal>
+        requires tenant { tenant < length self.old.accounts }
+
+        ensures entered { IfOk result (λ _. IsSomeAnd reply.new (λ told. IsEntered self.old.accounts self.new.accounts tenant (event caller.seat caller.number call.now told))) }
+        ensures place { IfOk result (λ place. place ≡ before_at self.old.accounts tenant + length (events_at self.old.accounts tenant) + 1) }
+        ensures reply { IfOk result (λ _. IsSomeAnd reply.new (λ told. IsReplyInEpoch self.old.accounts tenant call.now told)) }
+        // The history that was seen has the call at that place, with this reply.
+        ensures served { IfOk result (λ place. IsSomeAnd reply.new (λ told. StandsInHistory evidence.new (record { partition = self.old.partition; tenant = tenant; seat = caller.seat; number = caller.number; call = call.now }) place told)) }
+        ensures partition { self.new.partition ≡ self.old.partition }
+        ensures later { IsPrefix self.old.seen self.new.seen }
+        ensures evidence { IsPrefix evidence.old evidence.new }
+
+        ensures late { IsErrOf result Refusal.Late ↔ IsLate (events_at self.old.accounts tenant) caller.seat caller.number }
+        ensures refusals { IfErr result (λ e. (e ≡ Refusal.Late) ⊎ ((e ≡ Refusal.OutOfMemory) ⊎ (e ≡ Refusal.NoTenant))) }
+        ensures unchanged { OnErr result ((self.new ≡ self.old) × (reply.new ≡ reply.old) × (evidence.new ≡ evidence.old)) }
+    {
+        let asked = CallToServe {
+            partition: self.partition,
+            tenant,
+            seat: caller.seat,
+            number: caller.number,
+            call,
+        };
+        let mut entering = Entering {
+            tally: &self.tally,
+            entries: self.entries,
+            mine: &self.front,
+            evidence,
+            asked,
+            now: self.front.again(),
+        };
+        let place = self
+            .book
+            .serve_admitted(caller, tenant, call, reply, &mut entering)?;
+        let Entering { now, .. } = entering;
+        *evidence = now.again();
+        self.front = now;
+        self.entries += 1;
+        Ok(place)
+    }
+
+    /// Hands out what a tenant's journal has, as an epoch, and begins the next one at what the tenant's cell holds, as `Book::cut`
+    /// reports. The epoch is a stretch of the history.
+    pub fn cut(&mut self, tenant: u32) -> Result<Epoch, Refusal>
+        requires { tenant < length self.old.accounts }
+
+        ensures cut { IfOk result (λ epoch. IsCut self.old.accounts self.new.accounts tenant epoch) }
+        ensures stretch { IfOk result (λ epoch. IsStretch self.old.seen self.old.partition tenant epoch.base epoch.events.items) }
+        ensures seen { (self.new.partition ≡ self.old.partition) × (self.new.seen ≡ self.old.seen) }
+
+        ensures past { IsErrOf result Refusal.RowsUsed ↔ IsPastAt self.old.accounts tenant }
+        ensures refusals { IfErr result (λ e. (e ≡ Refusal.RowsUsed) ⊎ (e ≡ Refusal.OutOfMemory)) }
+        ensures unchanged { OnErr result (self.new ≡ self.old) }
+    {
+        self.book.cut(tenant)
+    }
+}
