@@ -1,0 +1,44 @@
+use Rattle.std.proofs.Common.{◌≡◌, ◌∙◌, ◌<◌, List, ap, sym, subst, arith, refl}
+use Rattle.stamps.specs.Stamp.{client_of}
+use Rattle.plain_store.specs.Words.{◌∈◌}
+use Rattle.history.specs.declared.entry.HistoryEntry.{HistoryEntry}
+use Rattle.history.specs.declared.entry.HistoryEntry.TheVariants.{Began}
+use Rattle.history.specs.declared.entry.Write.{Write}
+use Rattle.history.specs.Entries.{own}
+use Rattle.history.specs.Legal.{MayBegin}
+use Rattle.history.specs.Rules.{IsAdded}
+use Rattle.history.proofs.Counts.{equal_test}
+use Rattle.history.proofs.Servings.{added_count}
+use Rattle.traced_client.specs.Clients.{ClientTrace}
+use Rattle.traced_client.proofs.Following.{added_in, may_begin, traced_began}
+use Rattle.traced_client.proofs.client_word.TracedClient.begin.Goals as goal
+
+-- the stamp is above those of the client's writes so far
+pub begin-requires-clause-may : goal.begin-requires-clause-may
+begin-requires-clause-may g c =
+    let b = c.self.inside in
+    let write : Write = record { word = b.tally.key; tenant = b.tenant; stamp = c.args.stamp; items = c.args.items.now } in
+    let client : client_of c.args.stamp ≡ b.client = c.requires.client ∙ sym (ap (λ (t : ClientTrace). t.client) c.self.view_is) in
+    let last = ap (λ (t : ClientTrace). t.last) c.self.view_is in
+    let above : b.last < c.args.stamp = omega (arith, c.requires.above, last) in
+    let P : List HistoryEntry → Type 0 = λ seen. ∥ MayBegin (own b.tally.key seen) seen write ∥₁ in
+    subst P (sym c.again-front.ensures.same) ∣ may_begin write b.client b.last b.front c.self.invariant.0 client above ∣₁
+
+pub invariant_of-self : goal.invariant_of-self
+invariant_of-self g c =
+    let b = c.self.inside in
+    let write : Write = record { word = b.tally.key; tenant = b.tenant; stamp = c.args.stamp; items = c.args.items.now } in
+    let last = ap (λ (t : ClientTrace). t.last) c.self.view_is in
+    let above : b.last < c.args.stamp = omega (arith, c.requires.above, last) in
+    let P : List HistoryEntry → Type 0 = λ seen. IsAdded b.tally.key b.entries (Began write) seen c.begin.new.self in
+    let added : P b.front = subst P c.again-front.ensures.same c.if-not-begin.ensures.added in (
+      traced_began write b.client b.last b.entries b.front c.begin.new.self c.self.invariant.0 above c.self.invariant.1 added,
+      added_count b.tally.key b.entries (Began write) b.front c.begin.new.self (equal_test b.tally.key b.tally.key refl) added,
+    )
+
+pub returns-clause-began : goal.returns-clause-began
+returns-clause-began g c did =
+    let b = c.self.inside in
+    let write : Write = record { word = b.tally.key; tenant = b.tenant; stamp = c.args.stamp; items = c.args.items.now } in
+    let P : ClientTrace → Type 0 = λ t. Began (record { word = t.word; tenant = t.tenant; stamp = c.args.stamp; items = c.args.items.now }) ∈ c.begin.new.self in
+    subst P c.self.view_is (added_in b.tally.key b.entries (Began write) c.again-front.result c.begin.new.self c.if-not-begin.ensures.added)

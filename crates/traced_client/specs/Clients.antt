@@ -1,0 +1,28 @@
+-- What a client has of the history.
+use Rattle.std.specs.Prelude.{ℕ, ◌≡◌, ◌<◌, ◌≤◌, List}
+use Rattle.plain_store.specs.Words.{◌∈◌}
+use Rattle.history.specs.declared.entry.HistoryEntry.{HistoryEntry}
+use Rattle.history.specs.declared.entry.HistoryEntry.TheVariants.{Joined, Began}
+use Rattle.history.specs.declared.entry.Write.{Write}
+use Rattle.history.specs.Entries.{own, count}
+
+-- the client's word, whose it is, the stamp of its last write, and what was seen of the history
+pub record ClientTrace : Type 0 where
+  pub word : ℕ
+  pub tenant : ℕ
+  pub client : ℕ
+  pub last : ℕ
+  pub seen : List HistoryEntry
+
+-- The client joined under the word, and what was seen has each of its writes, none above this stamp.
+pub record IsTracedClient (word tenant client last : ℕ) (seen : List HistoryEntry) : Type 0 where
+  pub high : 64 < word
+  pub some : 0 < count word seen
+  pub joined : Joined (record { word = word; tenant = tenant; client = client }) ∈ seen
+  pub above : (write : Write) → Began write ∈ own word seen → write.stamp ≤ last
+
+-- the same client, under the same word
+pub record IsSameClient (old new : ClientTrace) : Type 0 where
+  pub word : new.word ≡ old.word
+  pub tenant : new.tenant ≡ old.tenant
+  pub client : new.client ≡ old.client

@@ -1,0 +1,122 @@
+//! A client's word beside what the client has seen of the history.
+ghost use Rattle.std.specs.Prelude.{◌≡◌, ◌<◌, [], ◌∷◌, cond, IsTrue};
+ghost use mathlib.Core.List.{IsPrefix};
+ghost use Rattle.stamps.specs.Stamp.{client_of};
+ghost use Rattle.plain_store.specs.Words.{◌∈◌};
+ghost use Rattle.history.specs.declared.entry.HistoryEntry.TheVariants.{Joined, Arrived, Began, Decided};
+ghost use Rattle.history.specs.Entries.{own};
+ghost use Rattle.history.specs.Legal.{MayDecide};
+ghost use Rattle.traced_client.specs.Clients.{IsSameClient};
+
+use history::{Decision, Front, Naming, Tally, WriteToBegin};
+use stamps::{Client, Item, Stamp};
+use std::marker::Model;
+
+/// The most entries of a word.
+const MOST: u64 = 1 << 62;
+
+/// A client, and the word that counts its entries. Contracts see the word, whose it is, the stamp of its last write (0 before its
+/// first), and what was seen of the history: it has each write of the client, none above that stamp.
+#[derive(Drop)]
+pub struct TracedClient<J: Naming> {
+    tenant: u32,
+    client: Client,
+    last: Stamp,
+    tally: Tally<J>,
+    entries: u64,
+    front: Front<J>,
+}
+
+impl<J: Naming> Model for TracedClient<J> {
+    ghost use Rattle.std.specs.Prelude.{◌≡◌};
+    ghost use Rattle.history.specs.Entries.{count};
+    ghost use Rattle.traced_client.specs.Clients.{ClientTrace, IsTracedClient};
+
+    ghost Value = { ClientTrace };
+
+    ghost view = { λ c. record { word = c.tally.key; tenant = c.tenant; client = c.client; last = c.last; seen = c.front } };
+
+    ghost invariant = { λ c. IsTracedClient c.tally.key c.tenant c.client c.last c.front × (count c.tally.key c.front ≡ c.entries) };
+}
+
+impl<J: Naming> TracedClient<J> {
+    /// A client that has just come for the first time: its word, and what was seen of the history then.
+    pub fn new(tenant: u32, client: Client, tally: Tally<J>, front: Front<J>) -> TracedClient<J>
+        requires word { 64 < tally.key }
+        requires joined { Joined (record { word = tally.key; tenant = tenant; client = client }) ∈ front }
+        requires alone { own tally.key front ≡ Arrived tally.key ∷ [] }
+        ensures { result ≡ record { word = tally.key; tenant = tenant; client = client; last = 0; seen = front } }
+    {
+        TracedClient {
+            tenant,
+            client,
+            last: Stamp::ZERO,
+            tally,
+            entries: 1,
+            front,
+        }
+    }
+
+    /// What was seen of the history: it has each write of the client.
+    pub fn seen(&self) -> Front<J>
+        ensures { result ≡ self.now.seen }
+    {
+        self.front.again()
+    }
+
+    /// Enters that a write of the client began under this stamp, and says whether it did. It did not where the client has other
+    /// entries than were seen here, or 2^62. Then nothing has changed.
+    pub fn begin(&mut self, stamp: Stamp, items: &[Item]) -> bool
+        requires client { client_of stamp ≡ self.old.client }
+        requires above { self.old.last < stamp }
+        ensures began { IsTrue result → Began (record { word = self.old.word; tenant = self.old.tenant; stamp = stamp; items = items.now }) ∈ self.new.seen }
+        ensures last { self.new.last ≡ cond result stamp self.old.last }
+        ensures later { IsPrefix self.old.seen self.new.seen }
+        ensures whose { IsSameClient self.old self.new }
+    {
+        if self.entries >= MOST {
+            return false;
+        }
+        let begun = WriteToBegin {
+            word: self.tally.key,
+            tenant: self.tenant,
+            stamp,
+            items,
+        };
+        let mut front = self.front.again();
+        if !front.begin(&self.tally, self.entries, &begun) {
+            return false;
+        }
+        self.front = front;
+        self.entries += 1;
+        self.last = stamp;
+        true
+    }
+
+    /// Enters that the write of this stamp is decided, and says whether it did. It did not where the client has other entries than
+    /// were seen here, or 2^62. Then nothing has changed. The evidence shows that all items of the write are prepared.
+    pub fn decide(&mut self, stamp: Stamp, evidence: &Front<J>) -> bool
+        requires { ∥ MayDecide evidence.now (record { word = self.old.word; tenant = self.old.tenant; stamp = stamp }) ∥₁ }
+        ensures decided { IsTrue result → Decided (record { word = self.old.word; tenant = self.old.tenant; stamp = stamp }) ∈ self.new.seen }
+        ensures evidence { IsTrue result → IsPrefix evidence.now self.new.seen }
+        ensures last { self.new.last ≡ self.old.last }
+        ensures later { IsPrefix self.old.seen self.new.seen }
+        ensures whose { IsSameClient self.old self.new }
+    {
+        if self.entries >= MOST {
+            return false;
+        }
+        let decision = Decision {
+            word: self.tally.key,
+            tenant: self.tenant,
+            stamp,
+        };
+        let mut front = self.front.again();
+        if !front.decide(&self.tally, self.entries, evidence, &decision) {
+            return false;
+        }
+        self.front = front;
+        self.entries += 1;
+        true
+    }
+}
