@@ -1,12 +1,16 @@
 //! The store inside of another program, which writes two items in one transaction and reads both. README.md shows it.
 #![tactic(auto)]
 
-use hub::{Config, Hub, Transcript};
+ghost use Rattle.std.specs.Prelude.{◌≡◌};
+
+use hub::{Config, Gate, Hub, Named, Naming, NewStore, Transcript};
 use plain_store::Answer;
 use stamps::{Client, Counter, Item, Keep, Key, Limits, Tag, Value};
 use std::alloc::Global;
 use std::io::{self, ErrorKind};
+use std::marker::Brand;
 use std::sync::Wait;
+use std::thread::Threads;
 
 /// Two partitions and one tenant, with room for 1024 versions and 256 items at each, and for 16 clients.
 fn config(alloc: Global) -> Option<Config> {
@@ -43,9 +47,9 @@ fn items() -> Option<[Item; 2]> {
 }
 
 /// A session of client 1: what its write and its read are answered. What it did goes to the transcripts.
-fn put_and_get<R: Wait>(
+fn put_and_get<G: Gate + Naming, R: Wait>(
     rt: &R,
-    hub: &Hub<()>,
+    hub: &Hub<G>,
     items: &[Item; 2],
     transcripts: &mut Vec<Transcript>,
 ) -> Option<[Answer; 2]> {
@@ -57,20 +61,31 @@ fn put_and_get<R: Wait>(
     Some([written, read])
 }
 
+/// What the session is answered in this store, whose history J names, and how many transcripts are left.
+fn run<J: Naming + Send + Sync + Drop + 'static, R: Threads + Wait + Clone + Send + Drop + 'static>(
+    rt: &R,
+    alloc: Global,
+    store: NewStore,
+    items: &[Item; 2],
+) -> Option<([Answer; 2], usize)>
+    requires { store.history.seen.book ≡ J.book }
+{
+    let hub = Hub::open(rt, alloc, store, Named::<J, ()>::new(()), ()).ok()?;
+    let mut transcripts = Vec::new(alloc);
+    let answers = put_and_get(rt, &hub, items, &mut transcripts);
+    let closed = hub.close(rt, transcripts);
+    Some((answers?, closed.transcripts.len()))
+}
+
 fn main(rt: HostRuntime) -> io::Result<()> {
     let alloc = rt.alloc();
     let items = items().ok_or(ErrorKind::Other)?;
-    let config = config(alloc).ok_or(ErrorKind::OutOfMemory)?;
-    let hub = Hub::open(&rt, alloc, config, (), ());
-    let hub = hub.ok().ok_or(ErrorKind::OutOfMemory)?;
-    let mut transcripts = Vec::new(alloc);
-    let answers = put_and_get(&rt, &hub, &items, &mut transcripts);
-    let closed = hub.close(&rt, transcripts);
-
-    let [written, read] = answers.ok_or(ErrorKind::OutOfMemory)?;
+    let store = NewStore::of(config(alloc).ok_or(ErrorKind::OutOfMemory)?);
+    let told = run::<Brand, _>(&rt, alloc, store, &items);
+    let ([written, read], count) = told.ok_or(ErrorKind::OutOfMemory)?;
     print(&rt, &written)?;
     print(&rt, &read)?;
-    println!(rt; "{} transcript", closed.transcripts.len())
+    println!(rt; "{count} transcript")
 }
 
 /// Prints a write's stamp, and what a read gave.

@@ -7,7 +7,8 @@ use Rattle.plain_store.specs.declared.refusal.Refusal.{Refusal}
 use Rattle.plain_store.specs.declared.refusal.Refusal.TheVariants.{Stopped, RowsUsed, OutOfMemory}
 use Rattle.plain_store.specs.declared.step.Act.{Act}
 use Rattle.hub.specs.Operations.{IsLater}
-use Rattle.hub.specs.Seats.{SeatView, Extends, Follows, IsEntered, IsLeftBy, begun_entries, is_unbegun, is_unrecorded, last_answer}
+use Rattle.hub.specs.Seats.{SeatView, Extends, Follows, IsEntered, IsLeftBy, begun_entries, is_unbegun, is_unrecorded, last_answer, sight}
+use Rattle.history.proofs.Lists.{prefix_of_itself}
 use Rattle.hub.proofs.Entries.{follows-extends, follows-last}
 use Rattle.hub.proofs.Given.{served-start}
 
@@ -53,7 +54,8 @@ later-same most seat = record {
   name = refl;
   parts = refl;
   kept = ([], sym (append-nil seat.entries));
-  served = served-start seat.name seat.sent seat.sent seat.entries;
+  seen = prefix_of_itself seat.seen;
+  served = served-start (sight seat) seat.sent seat.sent seat.entries;
   sent = (omega arith, omega arith);
   counter = omega arith;
 }

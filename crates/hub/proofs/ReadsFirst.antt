@@ -12,13 +12,14 @@ use Rattle.plain_store.specs.declared.step.Act.TheVariants.{Get}
 use Rattle.plain_store.specs.Words.{Key}
 use Rattle.entry_list.specs.declared.kinds.Entry.{Entry}
 use Rattle.entry_list.specs.declared.kinds.Entry.TheVariants.{Began, Took, Answered}
-use Rattle.shard.specs.declared.seat_name.SeatName.{SeatName}
 use Rattle.hub.specs.Limits.{max_calls}
 use Rattle.hub.specs.Operations.{IsLater, ReportsRead}
 use Rattle.hub.specs.Replies.{AreServed, IsServedFor}
 use Rattle.hub.specs.ReadsFirst.{IsReadBy}
-use Rattle.hub.specs.Seats.{SeatView, Extends, IsEntered, is_unbegun, is_unrecorded}
-use Rattle.hub.proofs.Given.{wider}
+use Rattle.hub.specs.Seats.{SeatView, Extends, IsEntered, is_unbegun, is_unrecorded, sight}
+use Rattle.history.proofs.Lists.{prefix_join}
+use Rattle.hub.specs.Sights.{SeatSight}
+use Rattle.hub.proofs.Given.{IsLaterSight, served-later, wider}
 use Rattle.hub.proofs.Operations.{unbegun-entered}
 
 -- a read that did not begin
@@ -45,17 +46,17 @@ pub extends-both : (old between new : List Entry) → Extends old between → Ex
 extends-both old between new one other = (one.0 ++ other.0, other.1 ∙ ap (λ (es : List Entry). es ++ other.0) one.1 ∙ append_assoc old one.0 other.0)
 
 -- the first may be an earlier one
-earlier : (name : SeatName) (first since last : ℕ) (e : Entry) → first ≤ since → IsServedFor name since last e → IsServedFor name first last e
+earlier : (name : SeatSight) (first since last : ℕ) (e : Entry) → first ≤ since → IsServedFor name since last e → IsServedFor name first last e
 earlier name first since last (Began act) before is = tt
 earlier name first since last (Took number partition place reply) before is = (omega (arith, is.0, before), is.1, is.2)
 earlier name first since last (Answered answer) before is = tt
 
 -- what two operations entered, one behind the other
-pub served-both : (name other : SeatName) (first since last : ℕ) (start entries next : List Entry) → other ≡ name → first ≤ since → since ≤ last → AreServed name first since start entries → AreServed other since last entries next
+pub served-both : (name other : SeatSight) (first since last : ℕ) (start entries next : List Entry) → other ≡ name → first ≤ since → since ≤ last → AreServed name first since start entries → AreServed other since last entries next
     → AreServed name first last start next
 served-both name other first since last start entries next same before most one two =
     let P : Entry → Type 0 = IsServedFor name first last in
-    let Q : SeatName → Type 0 = λ n. AreServed n since last entries next in
+    let Q : SeatSight → Type 0 = λ n. AreServed n since last entries next in
     let later : AreServed name since last entries next = subst Q same two in
     record {
       more = one.more ++ later.more;
@@ -64,13 +65,19 @@ served-both name other first since last start entries next same before most one 
           (All-weaker (IsServedFor name since last) P (λ e. earlier name first since last e before) later.more later.served);
     }
 
+-- the seat after an operation has seen what it had
+sight-later : (old new : SeatView) → IsLater max_calls old new → IsLaterSight (sight old) (sight new)
+sight-later old new one = record { tenant = ap (λ n. n.tenant) one.name; seat = ap (λ n. n.seat) one.name; seen = one.seen }
+
 -- two operations, one behind the other
 pub later-both : (old between new : SeatView) → IsLater max_calls old between → IsLater max_calls between new → IsLater (2 * max_calls) old new
 later-both old between new one two = record {
   name = two.name ∙ one.name;
   parts = two.parts ∙ one.parts;
   kept = extends-both old.entries between.entries new.entries one.kept two.kept;
-  served = served-both old.name between.name old.sent between.sent new.sent old.entries between.entries new.entries one.name one.sent.0 two.sent.0 one.served two.served;
+  seen = prefix_join old.seen between.seen new.seen one.seen two.seen;
+  served = served-both (sight new) (sight new) old.sent between.sent new.sent old.entries between.entries new.entries refl one.sent.0 two.sent.0
+      (served-later (sight between) (sight new) old.sent between.sent old.entries between.entries (sight-later between new two) one.served) two.served;
   sent = (omega (arith, one.sent.0, two.sent.0), omega (arith, one.sent.1, two.sent.1));
   counter = omega (arith, one.counter, two.counter);
 }
@@ -81,6 +88,7 @@ later-one old new one = record {
   name = one.name;
   parts = one.parts;
   kept = one.kept;
+  seen = one.seen;
   served = one.served;
   sent = (one.sent.0, omega (arith, one.sent.1));
   counter = one.counter;

@@ -1,6 +1,7 @@
 -- What a seat answers: for the functions of an operation.
 use Rattle.std.proofs.Common.{◌≡◌, ℕ, List, [], ◌∷◌, ◌++◌, refl, sym, ap, ◌∙◌, subst, Option, Some, None, inl, inr, Bool, true, false, cond, is_some, Result, Ok, Err}
 use Rattle.std.specs.Prelude.{OnOk, IfErr, IsSome, IsNone, nat_le}
+use Rattle.std.proofs.Math.Logic.{∥∥₁_map}
 use Rattle.std.proofs.lemmas.List.{append_assoc, append-nil}
 use Rattle.plain_store.specs.declared.answer.Answer.{Answer}
 use Rattle.plain_store.specs.declared.answer.Answer.TheVariants as says
@@ -10,9 +11,8 @@ use Rattle.plain_store.specs.declared.message.Message.{Message}
 use Rattle.plain_store.specs.declared.reading.Reading.{Reading}
 use Rattle.plain_store.specs.Words.{Item, Stamp, Setup}
 use Rattle.plain_store.specs.Writing.{keys_written}
-use Rattle.shard.specs.declared.seat_name.SeatName.{SeatName}
 use Rattle.entry_list.specs.declared.kinds.Entry.{Entry}
-use Rattle.entry_list.specs.declared.kinds.Entry.TheVariants.{Took, Answered}
+use Rattle.entry_list.specs.declared.kinds.Entry.TheVariants.{Began as began, Took, Answered}
 use Rattle.tenant_sessions.specs.declared.running.Running.{Running}
 use Rattle.tenant_sessions.specs.declared.moves.Move.{Move}
 use Rattle.tenant_sessions.specs.declared.moves.Move.TheVariants.{Wait, Decided, Done, Ask, Begins as BeginsCalls, Read, Listed, Restart, Ended, Ignored}
@@ -27,6 +27,8 @@ use Rattle.hub.specs.Requests.{intent_of, test_of}
 use Rattle.shard.specs.declared.jobs.Fault.{Fault}
 use Rattle.hub.specs.declared.seat_request.SeatRequest.{SeatRequest}
 use Rattle.hub.specs.declared.seat_request.SeatRequest.TheVariants as ask
+use Rattle.hub.specs.Sights.{SeatSight}
+use Rattle.hub.proofs.Given.{IsLaterSight, seen-later}
 use Rattle.hub.proofs.Entries.{told-none, told-some}
 use Rattle.hub.proofs.Refusals.{passed}
 use Rattle.plain_store.specs.declared.refusal.Refusal.{Refusal}
@@ -37,13 +39,13 @@ use Rattle.tenant_sessions.specs.declared.session.ClientSession.{ClientSession}
 
 -- ---- replies among entries
 
-among_more : (name : SeatName) (asked : Asked) (messages : List Message) (entries : List Entry) (e : Entry) → AreAmong name asked messages entries → AreAmong name asked messages (entries ++ e ∷ [])
+among_more : (name : SeatSight) (asked : Asked) (messages : List Message) (entries : List Entry) (e : Entry) → AreAmong name asked messages entries → AreAmong name asked messages (entries ++ e ∷ [])
 among_more name asked [] entries e is = tt
 among_more name asked (m ∷ ms) [] e is = absurd is
 among_more name asked (m ∷ ms) (x ∷ xs) e (inl is) = inl (is.0, among_more name asked ms xs e is.1)
 among_more name asked (m ∷ ms) (x ∷ xs) e (inr is) = inr (among_more name asked (m ∷ ms) xs e is)
 
-among_push : (name : SeatName) (asked : Asked) (messages : List Message) (entries : List Entry) (message : Message) (e : Entry) → IsReplyIn name asked message e → AreAmong name asked messages entries → AreAmong name asked (messages ++ message ∷ []) (entries ++ e ∷ [])
+among_push : (name : SeatSight) (asked : Asked) (messages : List Message) (entries : List Entry) (message : Message) (e : Entry) → IsReplyIn name asked message e → AreAmong name asked messages entries → AreAmong name asked (messages ++ message ∷ []) (entries ++ e ∷ [])
 among_push name asked [] [] message e has is = inl (has, tt)
 among_push name asked [] (x ∷ xs) message e has is = inr (among_push name asked [] xs message e has tt)
 among_push name asked (m ∷ ms) [] message e has is = absurd is
@@ -55,7 +57,7 @@ among_push name asked (m ∷ ms) (x ∷ xs) message e has (inr is) = inr (among_
 more_is : (start entries more : List Entry) (e : Entry) → entries ≡ start ++ more → entries ++ e ∷ [] ≡ start ++ (more ++ e ∷ [])
 more_is start entries more e is = ap (λ (es : List Entry). es ++ e ∷ []) is ∙ append_assoc start more (e ∷ [])
 
-read_more : (name : SeatName) (asked : Asked) (start entries : List Entry) (e : Entry) (Answers : List Message → Message → Type 0) → IsFromReplies name asked start entries Answers → IsFromReplies name asked start (entries ++ e ∷ []) Answers
+read_more : (name : SeatSight) (asked : Asked) (start entries : List Entry) (e : Entry) (Answers : List Message → Message → Type 0) → IsFromReplies name asked start entries Answers → IsFromReplies name asked start (entries ++ e ∷ []) Answers
 read_more name asked start entries e Answers read = record {
   more = read.more ++ e ∷ [];
   is = more_is start entries read.more e read.is;
@@ -139,7 +141,7 @@ if_says (Writes stamp items) answer P Q so is = if_done answer _ _ (λ told says
 if_says (Gets keys) answer P Q so is = if_read answer P Q so is
 if_says (Finds tag) answer P Q so is = if_listed answer P Q so is
 
-told_more : (name : SeatName) (setup : Setup) (asked : Asked) (start entries : List Entry) (e : Entry) (told : Option Answer)
+told_more : (name : SeatSight) (setup : Setup) (asked : Asked) (start entries : List Entry) (e : Entry) (told : Option Answer)
     → IfTold told (λ answer. IfSays asked answer (IsToldOf name setup asked start entries)) → IfTold told (λ answer. IfSays asked answer (IsToldOf name setup asked start (entries ++ e ∷ [])))
 told_more name setup asked start entries e None is = tt
 told_more name setup asked start entries e (Some answer) is = if_says asked answer _ _ (λ told. read_more name asked start entries e (λ taken last. IsAnswerTo setup asked taken last told)) is
@@ -193,7 +195,7 @@ ignored_tells (Writes stamp items) P = tt
 ignored_tells (Gets keys) P = tt
 ignored_tells (Finds tag) P = tt
 
-pub reading-took : (name : SeatName) (setup : Setup) (asked : Asked) (start entries : List Entry) (running after : Option Running) (message : Message) (move : Move) (e : Entry)
+pub reading-took : (name : SeatSight) (setup : Setup) (asked : Asked) (start entries : List Entry) (running after : Option Running) (message : Message) (move : Move) (e : Entry)
     → ((m : Message) → IsTakenFor message m → IsReplyIn name asked m e) → IsReadBySeat name setup asked start entries running
     → ((taken : List Message) → IsShown setup asked taken running → Shows setup asked taken message move (λ replies. IsShown setup asked replies after))
     → IsReadBySeat name setup asked start (entries ++ e ∷ []) after × IfTells asked move (IsToldOf name setup asked start (entries ++ e ∷ []))
@@ -222,7 +224,7 @@ reading-took name setup asked start entries running after message move e enters 
 
 -- ---- an answer that is entered
 
-pub reading_more : (name : SeatName) (setup : Setup) (asked : Asked) (start entries : List Entry) (running : Option Running) (e : Entry) → IsReadBySeat name setup asked start entries running → IsReadBySeat name setup asked start (entries ++ e ∷ []) running
+pub reading_more : (name : SeatSight) (setup : Setup) (asked : Asked) (start entries : List Entry) (running : Option Running) (e : Entry) → IsReadBySeat name setup asked start entries running → IsReadBySeat name setup asked start (entries ++ e ∷ []) running
 reading_more name setup asked start entries running e reading = record {
   more = reading.more ++ e ∷ [];
   is = more_is start entries reading.more e reading.is;
@@ -273,7 +275,7 @@ told_at_end (Gets keys) move rows P is = read_at_end move rows P is
 told_at_end (Finds tag) move rows P is = list_at_end move rows P is
 
 -- the answer that a move ends the operation with
-pub reads-answered : (name : SeatName) (setup : Setup) (asked : Asked) (start entries : List Entry) (running : Option Running) (move : Move) (rows : Rows) (answer : Answer) (e : Entry)
+pub reads-answered : (name : SeatSight) (setup : Setup) (asked : Asked) (start entries : List Entry) (running : Option Running) (move : Move) (rows : Rows) (answer : Answer) (e : Entry)
     → answer ≡ at_seat (answer_of move rows) → IsReadBySeat name setup asked start entries running → IfTells asked move (IsToldOf name setup asked start entries) → Reads name setup asked start (entries ++ e ∷ []) running (Some answer)
 reads-answered name setup asked start entries running move rows answer e is reading reads =
     let P : Answer → Type 0 = λ a. IfSays asked a (IsToldOf name setup asked start (entries ++ e ∷ [])) in
@@ -284,7 +286,7 @@ reads-answered name setup asked start entries running move rows answer e is read
     }
 
 -- a reply that was entered, with its session's move
-pub reads-took : (name : SeatName) (setup : Setup) (asked : Asked) (start entries : List Entry) (running after : Option Running) (told : Option Answer) (message : Message) (move : Move) (e : Entry)
+pub reads-took : (name : SeatSight) (setup : Setup) (asked : Asked) (start entries : List Entry) (running after : Option Running) (told : Option Answer) (message : Message) (move : Move) (e : Entry)
     → ((m : Message) → IsTakenFor message m → IsReplyIn name asked m e) → Reads name setup asked start entries running told
     → ((taken : List Message) → IsShown setup asked taken running → Shows setup asked taken message move (λ replies. IsShown setup asked replies after))
     → Reads name setup asked start (entries ++ e ∷ []) after told × IfTells asked move (IsToldOf name setup asked start (entries ++ e ∷ []))
@@ -293,7 +295,7 @@ reads-took name setup asked start entries running after told message move e ente
     (record { reading = took.0; answered = told_more name setup asked start entries e told reads.answered }, took.1)
 
 -- nothing was entered yet
-pub reads-start : (name : SeatName) (setup : Setup) (asked : Asked) (start : List Entry) (running : Option Running) → IsShown setup asked [] running → Reads name setup asked start start running None
+pub reads-start : (name : SeatSight) (setup : Setup) (asked : Asked) (start : List Entry) (running : Option Running) → IsShown setup asked [] running → Reads name setup asked start start running None
 reads-start name setup asked start running shown = record {
   reading = record { more = []; is = sym (append-nil start); taken = []; among = tt; shown = shown };
   answered = tt;
@@ -302,7 +304,7 @@ reads-start name setup asked start running shown = record {
 -- ---- for the functions of an operation
 
 -- the answer that an operation ends with was entered, and its place is used up
-pub reads-ended : {X : Type 0} (name : SeatName) (setup : Setup) (asked : Asked) (start entries after : List Entry) (running next : Option Running) (place : Option X) (told : Option Answer) (move : Move) (answer : Answer)
+pub reads-ended : {X : Type 0} (name : SeatSight) (setup : Setup) (asked : Asked) (start entries after : List Entry) (running next : Option Running) (place : Option X) (told : Option Answer) (move : Move) (answer : Answer)
     → after ≡ entries ++ Answered answer ∷ [] → next ≡ running → IsNone place → ((rows : Rows) → answer ≡ at_seat (answer_of move rows))
     → Reads name setup asked start entries running told → IfTells asked move (IsToldOf name setup asked start entries) → Reads name setup asked start after next (told_by place answer)
 reads-ended name setup asked start entries after running next (Some used) told move answer entered same none tells reads moved = cc
@@ -313,7 +315,7 @@ reads-ended name setup asked start entries after running next None told move ans
     subst P (sym entered) (subst Q (sym same) (reads-answered name setup asked start entries running move rows answer (Answered answer) (tells rows) reads.reading moved))
 
 -- a reply was entered, and its session took it
-pub reads-served : {X : Type 0} (name : SeatName) (setup : Setup) (asked : Asked) (start entries next : List Entry) (session kept after : ClientSession) (place left : Option X) (answer : Answer) (message : Message) (move : Move) (number partition at : ℕ) (reply : Reply)
+pub reads-served : {X : Type 0} (name : SeatSight) (setup : Setup) (asked : Asked) (start entries next : List Entry) (session kept after : ClientSession) (place left : Option X) (answer : Answer) (message : Message) (move : Move) (number partition at : ℕ) (reply : Reply)
     → next ≡ entries ++ Took number partition at reply ∷ [] → kept ≡ session → left ≡ place → ((m : Message) → IsTakenFor message m → IsReplyIn name asked m (Took number partition at reply))
     → ((setup : Setup) (asked : Asked) (taken : List Message) → IsShown setup asked taken kept.running → Shows setup asked taken message move (λ replies. IsShown setup asked replies after.running))
     → Reads name setup asked start entries session.running (told_by place answer)
@@ -359,45 +361,45 @@ under-asked own (Gets keys) call is under = tt
 under-asked own (Finds tag) call is under = tt
 
 -- what a request writes, reads or finds that began, and whose answer was entered
-pub reads-begun : {X : Type 0} (name : SeatName) (parts : ℕ) (own : Stamp) (Drawn : Stamp → Type 0) (request : SeatRequest) (asked : Asked) (session started after : ClientSession) (entries more : List Entry) (place left : Option X) (before answer : Answer)
+pub reads-begun : {X : Type 0} (name last : SeatSight) (parts : ℕ) (own : Stamp) (Drawn : Stamp → Type 0) (request : SeatRequest) (asked : Asked) (session started after : ClientSession) (entries more : List Entry) (place left : Option X) (before answer : Answer)
     → ((items : List Item) → asked ≡ Writes own items → Drawn own) → asked ≡ intent_of own request → test_of session request ≡ passed
     → ((setup : Setup) → setup.partitions ≡ parts → MayBegin asked → IsShown setup asked [] started.running)
-    → ((setup : Setup) (start : List Entry) → Reads name setup asked start entries started.running (told_by place before) → Reads name setup asked start more after.running (told_by left answer))
-    → IsSome place → IsNone left → IsToldFor name parts Drawn request answer entries more
-reads-begun name parts own Drawn request asked session started after entries more place left before answer drawn begins passes shown read there none = go request begins
+    → ((setup : Setup) (start : List Entry) → Reads name setup asked start entries started.running (told_by place before) → Reads last setup asked start more after.running (told_by left answer))
+    → IsSome place → IsNone left → IsToldFor last parts Drawn request answer entries more
+reads-begun name last parts own Drawn request asked session started after entries more place left before answer drawn begins passes shown read there none = go request begins
   where
     may : MayBegin asked
     may = may_begin session request asked own begins passes
 
     -- what was reported from the beginning on
-    whole : (setup : Setup) → IsShown setup asked [] started.running → IfSays asked answer (IsToldOf name setup asked entries more)
+    whole : (setup : Setup) → IsShown setup asked [] started.running → IfSays asked answer (IsToldOf last setup asked entries more)
     whole setup fresh =
         let P : Option Answer → Type 0 = λ o. Reads name setup asked entries entries started.running o in
-        let Q : Option Answer → Type 0 = λ o. Reads name setup asked entries more after.running o in
+        let Q : Option Answer → Type 0 = λ o. Reads last setup asked entries more after.running o in
         let first = subst P (sym (told-none place before there)) (reads-start name setup asked entries started.running fresh) in
         (subst Q (told-some left answer none) (read setup entries first)).answered
 
-    go : (request : SeatRequest) → asked ≡ intent_of own request → IsToldFor name parts Drawn request answer entries more
+    go : (request : SeatRequest) → asked ≡ intent_of own request → IsToldFor last parts Drawn request answer entries more
     go (ask.Put items) begins =
         let some : Setup = record { partitions = parts; room = record { slots = 0; items = 0; clients = 0 }; keep = 0 } in
-        let Told : Setup → Stamp → Type 0 = λ setup told. (told ≡ own) × IsWriteOf name setup own items.now entries more in
+        let Told : Setup → Stamp → Type 0 = λ setup told. (told ≡ own) × IsWriteOf last setup own items.now entries more in
         let tells : (setup : Setup) → setup.partitions ≡ parts → IfDone answer (Told setup) = λ setup is.
-        let P : Asked → Type 0 = λ a. IfSays a answer (IsToldOf name setup a entries more) in
+        let P : Asked → Type 0 = λ a. IfSays a answer (IsToldOf last setup a entries more) in
         subst P begins (whole setup (shown setup is may)) in (
           if_done answer (Told some) Drawn (λ told done. subst Drawn (sym done.0) (drawn items.now begins)) (tells some refl),
-          λ setup is. if_done answer (Told setup) (λ told. IsWriteOf name setup told items.now entries more)
-              (λ told done. subst (λ (s : Stamp). IsWriteOf name setup s items.now entries more) (sym done.0) done.1) (tells setup is),
+          λ setup is. if_done answer (Told setup) (λ told. IsWriteOf last setup told items.now entries more)
+              (λ told done. subst (λ (s : Stamp). IsWriteOf last setup s items.now entries more) (sym done.0) done.1) (tells setup is),
         )
     go (ask.Get keys) begins =
         let setup : Setup = record { partitions = parts; room = record { slots = 0; items = 0; clients = 0 }; keep = 0 } in
-        let P : Asked → Type 0 = λ a. IfSays a answer (IsToldOf name setup a entries more) in
+        let P : Asked → Type 0 = λ a. IfSays a answer (IsToldOf last setup a entries more) in
         subst P begins (whole setup (shown setup refl may))
     go (ask.Find tag) begins = λ setup is.
-        let P : Asked → Type 0 = λ a. IfSays a answer (IsToldOf name setup a entries more) in
+        let P : Asked → Type 0 = λ a. IfSays a answer (IsToldOf last setup a entries more) in
         subst P begins (whole setup (shown setup is may))
 
 -- a refusal reports no reading, and no stamp
-pub reads-refused : (name : SeatName) (parts : ℕ) (Drawn : Stamp → Type 0) (request : SeatRequest) (refusal : Refusal) (answer : Answer) (start entries : List Entry) → answer ≡ says.Refused refusal
+pub reads-refused : (name : SeatSight) (parts : ℕ) (Drawn : Stamp → Type 0) (request : SeatRequest) (refusal : Refusal) (answer : Answer) (start entries : List Entry) → answer ≡ says.Refused refusal
     → IsToldFor name parts Drawn request answer start entries
 reads-refused name parts Drawn (ask.Put items) refusal answer start entries is =
     let P : Answer → Type 0 = λ a. IsToldFor name parts Drawn (ask.Put items) a start entries in subst P (sym is) (tt, λ setup same. tt)
@@ -407,7 +409,7 @@ reads-refused name parts Drawn (ask.Find tag) refusal answer start entries is = 
     let P : Answer → Type 0 = λ a. IfListed a (IsListOf name setup tag start entries) in subst P (sym is) tt
 
 -- and what an operation answers is what it read, for all else reports a fault
-pub reads-run : (name : SeatName) (parts : ℕ) (Drawn : Stamp → Type 0) (told : Result (Unit {0}) Fault) (request : SeatRequest) (start begun entries after : List Entry) (entered answer : Answer)
+pub reads-run : (name : SeatSight) (parts : ℕ) (Drawn : Stamp → Type 0) (told : Result (Unit {0}) Fault) (request : SeatRequest) (start begun entries after : List Entry) (entered answer : Answer)
     → OnOk told (IsToldFor name parts Drawn request entered begun entries) → begun ≡ start → OnOk told (answer ≡ entered) → IfErr told (λ f. answer ≡ says.Refused (refusal_of f))
     → after ≡ entries → IsToldFor name parts Drawn request answer start after
 reads-run name parts Drawn (Ok done) request start begun entries after entered answer read started same refused kept =
@@ -417,3 +419,44 @@ reads-run name parts Drawn (Ok done) request start begun entries after entered a
     subst P (sym kept) (subst Q started (subst R (sym same) read))
 reads-run name parts Drawn (Err f) request start begun entries after entered answer read started same refused kept =
     reads-refused name parts Drawn request (refusal_of f) answer start after refused
+
+-- ---- what a seat has seen grows
+
+in-later : (old new : SeatSight) (asked : Asked) (message : Message) (e : Entry) → IsLaterSight old new → IsReplyIn old asked message e → IsReplyIn new asked message e
+in-later old new asked message (began act) later is = absurd is
+in-later old new asked message (Took number partition place reply) later is =
+    (is.0, ∥∥₁_map is.1 (λ given. (given.0, given.1, given.2, seen-later old new partition number place given.0 reply later given.3)))
+in-later old new asked message (Answered answer) later is = absurd is
+
+among-later : (old new : SeatSight) (asked : Asked) (messages : List Message) (entries : List Entry) → IsLaterSight old new → AreAmong old asked messages entries → AreAmong new asked messages entries
+among-later old new asked [] entries later is = tt
+among-later old new asked (m ∷ ms) [] later is = absurd is
+among-later old new asked (m ∷ ms) (x ∷ xs) later (inl is) = inl (in-later old new asked m x later is.0, among-later old new asked ms xs later is.1)
+among-later old new asked (m ∷ ms) (x ∷ xs) later (inr is) = inr (among-later old new asked (m ∷ ms) xs later is)
+
+from-later : (old new : SeatSight) (asked : Asked) (start entries : List Entry) (Answers : List Message → Message → Type 0) → IsLaterSight old new
+    → IsFromReplies old asked start entries Answers → IsFromReplies new asked start entries Answers
+from-later old new asked start entries Answers later from = record {
+  more = from.more;
+  is = from.is;
+  taken = from.taken;
+  last = from.last;
+  among = among-later old new asked (from.taken ++ from.last ∷ []) from.more later from.among;
+  answers = from.answers;
+}
+
+told-later : (old new : SeatSight) (setup : Setup) (asked : Asked) (start entries : List Entry) (told : Option Answer) → IsLaterSight old new
+    → IfTold told (λ answer. IfSays asked answer (IsToldOf old setup asked start entries)) → IfTold told (λ answer. IfSays asked answer (IsToldOf new setup asked start entries))
+told-later old new setup asked start entries None later is = tt
+told-later old new setup asked start entries (Some answer) later is =
+    if_says asked answer _ _ (λ told. from-later old new asked start entries (λ taken last. IsAnswerTo setup asked taken last told) later) is
+
+-- what was read so far is so by what is seen later
+pub reads-later : (old new : SeatSight) (setup : Setup) (asked : Asked) (start entries : List Entry) (running : Option Running) (told : Option Answer) → IsLaterSight old new
+    → Reads old setup asked start entries running told → Reads new setup asked start entries running told
+reads-later old new setup asked start entries running told later reads =
+    let r = reads.reading in
+    record {
+      reading = record { more = r.more; is = r.is; taken = r.taken; among = among-later old new asked r.taken r.more later r.among; shown = r.shown };
+      answered = told-later old new setup asked start entries told later reads.answered;
+    }

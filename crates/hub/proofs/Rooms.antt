@@ -20,6 +20,7 @@ use Rattle.tenant_sessions.specs.declared.moves.Move.{Move}
 use Rattle.tenant_sessions.specs.declared.moves.Move.TheVariants.{Wait, Decided, Done, Ask, Begins as BeginsCalls, Read, Listed, Restart, Ended, Ignored}
 use Rattle.tenant_sessions.specs.Moves.{moved, is_last, sends_calls, ending}
 use Rattle.tenant_sessions.specs.Running.{MayBegin}
+use Rattle.history.specs.declared.rule.Naming.{Ghosts}
 use Rattle.hub.specs.Requests.{calls_for, intent_of}
 use Rattle.hub.specs.Rooms.{HasPlaces, HasRoom, SameRoom}
 use Rattle.hub.specs.Staging.{unserved}
@@ -28,29 +29,29 @@ use Rattle.hub.specs.declared.dispatcher.Dispatcher.{Dispatcher}
 use Rattle.hub.specs.declared.seat_request.SeatRequest.{SeatRequest}
 use Rattle.hub.specs.declared.seat_request.SeatRequest.TheVariants as ask
 
-module _ {G : Type 0} where
+module _ {G : Type 0} {naming : Ghosts G} where
   -- room for so many calls is room for fewer
-  pub places_for_fewer : (m n : ℕ) (queues : Dispatcher G) → m ≤ n → HasPlaces n queues → HasPlaces m queues
+  pub places_for_fewer : (m n : ℕ) (queues : Dispatcher G naming) → m ≤ n → HasPlaces n queues → HasPlaces m queues
   places_for_fewer m n queues fewer has = record {
     numbers = omega (arith, has.numbers, fewer);
     places = omega (arith, has.places, fewer);
     ends = omega (arith, has.ends, fewer);
   }
 
-  pub room_for_fewer : (m n : ℕ) (queues : Dispatcher G) → m ≤ n → HasRoom n queues → HasRoom m queues
+  pub room_for_fewer : (m n : ℕ) (queues : Dispatcher G naming) → m ≤ n → HasRoom n queues → HasRoom m queues
   room_for_fewer m n queues fewer has = record {
     boxes = omega (arith, has.boxes, fewer);
     there = places_for_fewer m n queues fewer has.there;
   }
 
   -- so in the queues that they were
-  pub room_stays : (queues after : Dispatcher G) (m n : ℕ) → after ≡ queues → m ≤ n → HasRoom n queues → HasRoom m after
+  pub room_stays : (queues after : Dispatcher G naming) (m n : ℕ) → after ≡ queues → m ≤ n → HasRoom n queues → HasRoom m after
   room_stays queues after m n is fewer has =
-      let P : Dispatcher G → Type 0 = λ q. HasRoom m q in
+      let P : Dispatcher G naming → Type 0 = λ q. HasRoom m q in
       subst P (sym is) (room_for_fewer m n queues fewer has)
 
   -- where no more are sent or staged, and none of it is used, there is no less
-  pub room_kept : (old new : Dispatcher G) → deque_len old.boxes ≤ deque_len new.boxes → vec_len old.spare ≤ vec_len new.spare → deque_capacity new.calls ≡ deque_capacity old.calls → new.sent ≤ old.sent
+  pub room_kept : (old new : Dispatcher G naming) → deque_len old.boxes ≤ deque_len new.boxes → vec_len old.spare ≤ vec_len new.spare → deque_capacity new.calls ≡ deque_capacity old.calls → new.sent ≤ old.sent
       → deque_len new.calls ≤ deque_len old.calls → deque_len new.calls - new.served ≤ deque_len old.calls - old.served → (n : ℕ) → HasRoom n old → HasRoom n new
   room_kept old new boxes ends places sent calls staged n has = record {
     boxes = omega (arith, has.boxes, boxes);
@@ -62,14 +63,14 @@ module _ {G : Type 0} where
   }
 
   -- so where as many are sent and staged
-  pub same_room : (old new : Dispatcher G) → SameRoom old new → new.sent ≡ old.sent → deque_len new.calls ≡ deque_len old.calls → new.served ≡ old.served → (n : ℕ) → HasRoom n old → HasRoom n new
+  pub same_room : (old new : Dispatcher G naming) → SameRoom old new → new.sent ≡ old.sent → deque_len new.calls ≡ deque_len old.calls → new.served ≡ old.served → (n : ℕ) → HasRoom n old → HasRoom n new
   same_room old new same sent calls served =
       let boxes : deque_len new.boxes ≡ deque_len old.boxes = ap deque_len same.boxes in
       let ends : vec_len new.spare ≡ vec_len old.spare = ap vec_len same.ends in
       room_kept old new (omega (arith, boxes)) (omega (arith, ends)) same.places (omega (arith, sent)) (omega (arith, calls)) (omega (arith, calls, served))
 
   -- an end for each that was not served
-  pub ends_there : (queues : Dispatcher G) (n : ℕ) → HasRoom n queues → unserved queues.served queues.calls.items ≤ vec_len queues.spare
+  pub ends_there : (queues : Dispatcher G naming) (n : ℕ) → HasRoom n queues → unserved queues.served queues.calls.items ≤ vec_len queues.spare
   ends_there queues n has = omega (arith, has.there.ends, unserved-staged queues.calls.items queues.served, queues.calls.ok.0)
 
 -- ---- what a move sends
@@ -118,13 +119,13 @@ same-ending (turns.Ended refusal calls) told other = refl
 same-ending turns.Ignored told other = refl
 
 -- so there is room for the calls of its end, and for those after them
-pub room_at_end : {G : Type 0} (queues after : Dispatcher G) (move same : Move) (waiting left : ℕ) → is_last move ≡ true → after ≡ queues → same ≡ move → HasRoom (calls_sent move waiting + left) queues → HasRoom (length (ending same) + left) after
+pub room_at_end : {G : Type 0} {naming : Ghosts G} (queues after : Dispatcher G naming) (move same : Move) (waiting left : ℕ) → is_last move ≡ true → after ≡ queues → same ≡ move → HasRoom (calls_sent move waiting + left) queues → HasRoom (length (ending same) + left) after
 room_at_end queues after move same waiting left last is moved room =
     let calls = ap (λ m. length (ending m)) moved in
     room_stays queues after _ _ is (omega (arith, calls, sent_at_end move waiting last)) room
 
 -- or for those that are waited for
-pub room_going_on : {G : Type 0} (queues : Dispatcher G) (move : Move) (waiting left : ℕ) → sends_calls move ≡ true → HasRoom (calls_sent move waiting + left) queues → HasRoom (waiting + left) queues
+pub room_going_on : {G : Type 0} {naming : Ghosts G} (queues : Dispatcher G naming) (move : Move) (waiting left : ℕ) → sends_calls move ≡ true → HasRoom (calls_sent move waiting + left) queues → HasRoom (waiting + left) queues
 room_going_on queues move waiting left sends room = room_for_fewer (waiting + left) _ queues (omega (arith, sent_on move waiting sends)) room
 
 -- ---- what a request makes room for

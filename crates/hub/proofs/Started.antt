@@ -5,29 +5,30 @@ use Rattle.std.proofs.lemmas.List.{map-append}
 use Rattle.std.specs.Arc.{arc_value}
 use Rattle.std.specs.declared.sync.Arc.{Arc}
 use Rattle.std.specs.declared.alloc.Global.{Global}
+use Rattle.history.specs.declared.rule.Naming.{Ghosts}
 use Rattle.closed_store.specs.declared.config.Config.{Config}
 use Rattle.shard.specs.declared.shard.Shard.{Shard}
 use Rattle.hub.specs.Shards.{IsConfigOf, AreShardsFrom}
 
 -- that of the next partition behind them
-pub shards-more : (config : Config) (at : ℕ) (shards : List (Arc Shard Global)) (shard : Arc Shard Global) → AreShardsFrom config at shards
+pub shards-more : {G : Type 0} {naming : Ghosts G} (config : Config) (at : ℕ) (shards : List (Arc (Shard G naming) Global)) (shard : Arc (Shard G naming) Global) → AreShardsFrom config at shards
     → IsConfigOf config (at + length shards) (arc_value shard).config → AreShardsFrom config at (shards ++ shard ∷ [])
-shards-more config at [] shard are its =
+shards-more {G} {naming} config at [] shard are its =
     let P : ℕ → Type 0 = λ n. IsConfigOf config n (arc_value shard).config in
     let here : at + 0 ≡ at = omega arith in
     (subst P here its, tt)
-shards-more config at (first ∷ shards) shard are its =
+shards-more {G} {naming} config at (first ∷ shards) shard are its =
     let P : ℕ → Type 0 = λ n. IsConfigOf config n (arc_value shard).config in
     let there : at + length (first ∷ shards) ≡ at + 1 + length shards = omega arith in
     (are.0, shards-more config (at + 1) shards shard are.1 (subst P there its))
 
 -- the one that was shared is that which was made
-pub shared-config : {E : Type 0} (config : Config) (at : ℕ) (shard : Shard) (result : Result (Arc Shard Global) E) → IfOk result (λ shared. arc_value shared ≡ shard) → IsConfigOf config at shard.config
+pub shared-config : {G : Type 0} {naming : Ghosts G} {E : Type 0} (config : Config) (at : ℕ) (shard : Shard G naming) (result : Result (Arc (Shard G naming) Global) E) → IfOk result (λ shared. arc_value shared ≡ shard) → IsConfigOf config at shard.config
     → IfOk result (λ shared. IsConfigOf config at (arc_value shared).config)
-shared-config config at shard (Ok shared) same its =
-    let P : Shard → Type 0 = λ d. IsConfigOf config at d.config in
+shared-config {G} {naming} config at shard (Ok shared) same its =
+    let P : Shard G naming → Type 0 = λ d. IsConfigOf config at d.config in
     subst P (sym same) its
-shared-config config at shard (Err fault) same its = tt
+shared-config {G} {naming} config at shard (Err fault) same its = tt
 
 -- one element more of each of two lists that agree
 pub mapped-more : {X Y : Type 0} (f : X → ℕ) (g : Y → ℕ) (xs more : List X) (ys others : List Y) (x : X) (y : Y) → map f xs ≡ map g ys → f x ≡ g y

@@ -1,5 +1,5 @@
 -- What contracts see of a hub, and what it leaves.
-use Rattle.std.specs.Prelude.{◌≡◌, ◌⊎◌, ◌+◌, ℕ, List, [], ◌∷◌, map}
+use Rattle.std.specs.Prelude.{◌≡◌, ◌⊎◌, ◌+◌, ℕ, List, [], ◌∷◌, map, slice_get, Some}
 use Rattle.std.specs.Global.{Vec}
 use Rattle.stamps.specs.declared.bounds.Limits.{Limits}
 use Rattle.partition.specs.declared.book.Counts.{Counts}
@@ -7,6 +7,8 @@ use Rattle.partition.specs.declared.journal.Journal.{Journal}
 use Rattle.partition.specs.Accounts.{Account, account_of, seat_events, collector_events, AreSound}
 use Rattle.shard.specs.Journals.{AreOf}
 use Rattle.closed_store.specs.declared.config.Config.{Config}
+use Rattle.history.specs.declared.entry.HistoryEntry.{HistoryEntry}
+use Rattle.traced_book.specs.Traced.{IsStretch}
 
 -- partitions, tenants, and the numbers that set the pace
 pub record ConfigView : Type 0 where
@@ -44,3 +46,13 @@ abbrev pub AllSoundBooks : ConfigView → ℕ → List (Vec Journal) → List Co
 AllSoundBooks config at [] [] = Unit {0}
 AllSoundBooks config at (j ∷ js) (c ∷ cs) = IsSoundBook config at j c × AllSoundBooks config (at + 1) js cs
 AllSoundBooks config at _ _ = ⊥
+
+-- the events of each tenant's journal at this partition are a stretch of what was seen of the history
+abbrev pub AreStretches : List HistoryEntry → ℕ → List Account → Type 0
+AreStretches seen at accounts =
+    (tenant : ℕ) (account : Account) → slice_get accounts tenant ≡ Some account → IsStretch seen at tenant account.start.base account.events
+
+-- partition by partition, in their order from this one on
+abbrev pub AllStretches : List HistoryEntry → ℕ → List (Vec Journal) → Type 0
+AllStretches seen at [] = Unit {0}
+AllStretches seen at (j ∷ js) = AreStretches seen at (map account_of j.items) × AllStretches seen (at + 1) js

@@ -14,27 +14,27 @@ use Rattle.entry_list.specs.declared.kinds.Entry.{Entry}
 use Rattle.entry_list.specs.declared.kinds.Entry.TheVariants.{Began, Took, Answered}
 use Rattle.tenant_sessions.specs.declared.running.Running.{Running}
 use Rattle.tenant_sessions.specs.Showing.{IsCallFor, IsWritersAnswer, IsReadersAnswer, IsFindersAnswer, IsAnswerTo, IsShown}
-use Rattle.shard.specs.declared.seat_name.SeatName.{SeatName}
 use Rattle.shard.specs.Journals.{IsServedIn}
+use Rattle.hub.specs.Sights.{SeatSight}
 use Rattle.hub.specs.declared.seat_request.SeatRequest.{SeatRequest}
 use Rattle.hub.specs.declared.seat_request.SeatRequest.TheVariants.{Put, Get, Find}
 
 -- ---- which replies are entered
 
--- A reply that this session entered was given to its call of that number, at that place of a journal of the partition. It
--- is one of those behind the first so many, up to the last.
-abbrev pub IsServedFor : SeatName → (first last : ℕ) → Entry → Type 0
-IsServedFor name first last (Began act) = Unit {0}
-IsServedFor name first last (Took number partition place reply) =
+-- A reply that this session entered was given to its call of that number, at that place of a journal of the partition, and of the
+-- history that its seat has seen. It is one of those behind the first so many, up to the last.
+abbrev pub IsServedFor : SeatSight → (first last : ℕ) → Entry → Type 0
+IsServedFor sight first last (Began act) = Unit {0}
+IsServedFor sight first last (Took number partition place reply) =
     (first < number) × (number ≤ last)
-    × ∥ ((call : Call) × IsServedIn partition name.tenant name.seat number place call reply) ∥₁
-IsServedFor name first last (Answered answer) = Unit {0}
+    × ∥ ((call : Call) × IsServedIn sight.seen partition sight.tenant sight.seat number place call reply) ∥₁
+IsServedFor sight first last (Answered answer) = Unit {0}
 
 -- the entries so far, and others, each reply among which was so given
-pub record AreServed (name : SeatName) (first last : ℕ) (start entries : List Entry) : Type 0 where
+pub record AreServed (sight : SeatSight) (first last : ℕ) (start entries : List Entry) : Type 0 where
   pub more : List Entry
   pub is : entries ≡ start ++ more
-  pub served : All (IsServedFor name first last) more
+  pub served : All (IsServedFor sight first last) more
 
 -- ---- what is answered by them
 
@@ -50,55 +50,55 @@ IsOf (Writes own items) call = IsUnder own call
 IsOf (Gets keys) call = Unit {0}
 IsOf (Finds tag) call = Unit {0}
 
--- The message has the reply of this entry, which this session's call of that number was given at that place of a journal
--- of the partition. That call is one of what was asked, and is the message's, but for its stamp.
-abbrev pub IsReplyIn : SeatName → Asked → Message → Entry → Type 0
-IsReplyIn name asked message (Began act) = ⊥
-IsReplyIn name asked message (Took number partition place reply) =
+-- The message has the reply of this entry, which this session's call of that number was given at that place of a journal of the
+-- partition, and of the history that its seat has seen. That call is one of what was asked, and is the message's, but for its stamp.
+abbrev pub IsReplyIn : SeatSight → Asked → Message → Entry → Type 0
+IsReplyIn sight asked message (Began act) = ⊥
+IsReplyIn sight asked message (Took number partition place reply) =
     (message.reply ≡ Some reply)
     × ∥ ((call : Call) × IsCallFor call message.call × IsOf asked call
-    × IsServedIn partition name.tenant name.seat number place call reply) ∥₁
-IsReplyIn name asked message (Answered answer) = ⊥
+    × IsServedIn sight.seen partition sight.tenant sight.seat number place call reply) ∥₁
+IsReplyIn sight asked message (Answered answer) = ⊥
 
 -- the messages have, in order, replies among those entered
-abbrev pub AreAmong : SeatName → Asked → List Message → List Entry → Type 0
-AreAmong name asked [] entries = Unit {0}
-AreAmong name asked (message ∷ messages) [] = ⊥
-AreAmong name asked (message ∷ messages) (entry ∷ entries) =
-    (IsReplyIn name asked message entry × AreAmong name asked messages entries)
-    ⊎ AreAmong name asked (message ∷ messages) entries
+abbrev pub AreAmong : SeatSight → Asked → List Message → List Entry → Type 0
+AreAmong sight asked [] entries = Unit {0}
+AreAmong sight asked (message ∷ messages) [] = ⊥
+AreAmong sight asked (message ∷ messages) (entry ∷ entries) =
+    (IsReplyIn sight asked message entry × AreAmong sight asked messages entries)
+    ⊎ AreAmong sight asked (message ∷ messages) entries
 
 -- What is reported answers replies that were entered after these entries, in their order: those that the session took.
 -- Answers: those before the last, and the last
-pub record IsFromReplies (name : SeatName) (asked : Asked) (start entries : List Entry)
+pub record IsFromReplies (sight : SeatSight) (asked : Asked) (start entries : List Entry)
     (Answers : List Message → Message → Type 0) : Type 0 where
   pub more : List Entry
   pub is : entries ≡ start ++ more
   pub taken : List Message
   pub last : Message
-  pub among : AreAmong name asked (taken ++ last ∷ []) more
+  pub among : AreAmong sight asked (taken ++ last ∷ []) more
   pub answers : Answers taken last
 
 -- That the write of these items under this stamp is done is the writer's answer to them, which were given to calls under that
 -- stamp: each item's PREPARE was accepted, and the COMMIT done at each home.
-abbrev pub IsWriteOf : SeatName → Setup → Stamp → List Item → List Entry → List Entry → Type 0
-IsWriteOf name setup own items start entries =
-    IsFromReplies name (Writes own items) start entries (λ taken last. IsWritersAnswer setup own items taken last)
+abbrev pub IsWriteOf : SeatSight → Setup → Stamp → List Item → List Entry → List Entry → Type 0
+IsWriteOf sight setup own items start entries =
+    IsFromReplies sight (Writes own items) start entries (λ taken last. IsWritersAnswer setup own items taken last)
 
 -- it is the reader's answer to them: what they showed, and unfractured by the write sets that they showed
-abbrev pub IsReadOf : SeatName → List Key → List Entry → List Entry → List Reading → Type 0
-IsReadOf name keys start entries told =
-    IsFromReplies name (Gets keys) start entries (λ taken last. IsReadersAnswer keys taken last told)
+abbrev pub IsReadOf : SeatSight → List Key → List Entry → List Entry → List Reading → Type 0
+IsReadOf sight keys start entries told =
+    IsFromReplies sight (Gets keys) start entries (λ taken last. IsReadersAnswer keys taken last told)
 
 -- it is the finder's answer to them: of what they showed that which carries the tag, unfractured as well
-abbrev pub IsListOf : SeatName → Setup → Tag → List Entry → List Entry → List Reading → Type 0
-IsListOf name setup tag start entries told =
-    IsFromReplies name (Finds tag) start entries (λ taken last. IsFindersAnswer setup tag taken last told)
+abbrev pub IsListOf : SeatSight → Setup → Tag → List Entry → List Entry → List Reading → Type 0
+IsListOf sight setup tag start entries told =
+    IsFromReplies sight (Finds tag) start entries (λ taken last. IsFindersAnswer setup tag taken last told)
 
 -- by what was asked
-abbrev pub IsToldOf : SeatName → Setup → Asked → List Entry → List Entry → List Reading → Type 0
-IsToldOf name setup asked start entries told =
-    IsFromReplies name asked start entries (λ taken last. IsAnswerTo setup asked taken last told)
+abbrev pub IsToldOf : SeatSight → Setup → Asked → List Entry → List Entry → List Reading → Type 0
+IsToldOf sight setup asked start entries told =
+    IsFromReplies sight asked start entries (λ taken last. IsAnswerTo setup asked taken last told)
 
 -- what is said of an answer that reports what was read; a read lists nothing
 abbrev pub IfRead : Answer → (List Reading → Type 0) → Type 0
@@ -130,14 +130,14 @@ abbrev pub IsDrawn : (client before after : ℕ) → Stamp → Type 0
 IsDrawn client before after told = (told ≡ stamp (before + 1) client) × (before < after)
 
 -- so of a request that writes under a stamp that was so drawn, reads keys, or searches so many partitions
-abbrev pub IsToldFor : SeatName → ℕ → (Stamp → Type 0) → SeatRequest → Answer → List Entry → List Entry → Type 0
-IsToldFor name parts Drawn (Put items) answer start entries =
+abbrev pub IsToldFor : SeatSight → ℕ → (Stamp → Type 0) → SeatRequest → Answer → List Entry → List Entry → Type 0
+IsToldFor sight parts Drawn (Put items) answer start entries =
     IfDone answer Drawn
     × ((setup : Setup) → setup.partitions ≡ parts
-    → IfDone answer (λ own. IsWriteOf name setup own items.now start entries))
-IsToldFor name parts Drawn (Get keys) answer start entries = IfRead answer (IsReadOf name keys.now start entries)
-IsToldFor name parts Drawn (Find tag) answer start entries =
-    (setup : Setup) → setup.partitions ≡ parts → IfListed answer (IsListOf name setup tag start entries)
+    → IfDone answer (λ own. IsWriteOf sight setup own items.now start entries))
+IsToldFor sight parts Drawn (Get keys) answer start entries = IfRead answer (IsReadOf sight keys.now start entries)
+IsToldFor sight parts Drawn (Find tag) answer start entries =
+    (setup : Setup) → setup.partitions ≡ parts → IfListed answer (IsListOf sight setup tag start entries)
 
 -- ---- while the operation runs
 
@@ -148,12 +148,12 @@ IsStampOf told (Gets keys) = Unit {0}
 IsStampOf told (Finds tag) = Unit {0}
 
 -- what runs, if something does, took replies that were entered after these entries
-pub record IsReadBySeat (name : SeatName) (setup : Setup) (asked : Asked) (start entries : List Entry)
+pub record IsReadBySeat (sight : SeatSight) (setup : Setup) (asked : Asked) (start entries : List Entry)
     (running : Option Running) : Type 0 where
   pub more : List Entry
   pub is : entries ≡ start ++ more
   pub taken : List Message
-  pub among : AreAmong name asked taken more
+  pub among : AreAmong sight asked taken more
   pub shown : IsShown setup asked taken running
 
 -- what is said of an answer, if there is one
@@ -162,7 +162,7 @@ IfTold None P = Unit {0}
 IfTold (Some answer) P = P answer
 
 -- and what was answered by then, if anything was, is so read or found
-pub record Reads (name : SeatName) (setup : Setup) (asked : Asked) (start entries : List Entry)
+pub record Reads (sight : SeatSight) (setup : Setup) (asked : Asked) (start entries : List Entry)
     (running : Option Running) (told : Option Answer) : Type 0 where
-  pub reading : IsReadBySeat name setup asked start entries running
-  pub answered : IfTold told (λ answer. IfSays asked answer (IsToldOf name setup asked start entries))
+  pub reading : IsReadBySeat sight setup asked start entries running
+  pub answered : IfTold told (λ answer. IfSays asked answer (IsToldOf sight setup asked start entries))

@@ -1,6 +1,7 @@
 -- What an operation makes room for.
 use Rattle.std.specs.Prelude.{◌≡◌, ℕ, ◌+◌, ◌-◌, ◌≤◌, Bool, true, false, vec_len}
 use Rattle.std.specs.VecDeque.{deque_capacity, deque_len}
+use Rattle.history.specs.declared.rule.Naming.{Ghosts}
 use Rattle.hub.specs.Limits.{max_calls}
 use Rattle.hub.specs.declared.dispatcher.Dispatcher.{Dispatcher}
 use Rattle.tenant_sessions.specs.declared.moves.MoveKind.{MoveKind}
@@ -9,24 +10,24 @@ use Rattle.tenant_sessions.specs.declared.moves.MoveKind.TheVariants.{Restart, E
 
 -- For so many calls more, which lie in boxes, there are numbers, places among those that are staged, and ends of the way
 -- back, besides those of the calls that are staged by then.
-pub record HasPlaces {G : Type 0} (calls : ℕ) (queues : Dispatcher G) : Type 0 where
+pub record HasPlaces {G : Type 0} {naming : Ghosts G} (calls : ℕ) (queues : Dispatcher G naming) : Type 0 where
   pub numbers : queues.sent + calls ≤ max_calls
   pub places : deque_len queues.calls + calls ≤ deque_capacity queues.calls
   pub ends : (deque_len queues.calls - queues.served) + calls ≤ vec_len queues.spare
 
 -- and boxes as well
-pub record HasRoom {G : Type 0} (calls : ℕ) (queues : Dispatcher G) : Type 0 where
+pub record HasRoom {G : Type 0} {naming : Ghosts G} (calls : ℕ) (queues : Dispatcher G naming) : Type 0 where
   pub boxes : calls ≤ deque_len queues.boxes
   pub there : HasPlaces calls queues
 
 -- no place, box or end is used, and none is made
-pub record SameRoom {G : Type 0} (old new : Dispatcher G) : Type 0 where
+pub record SameRoom {G : Type 0} {naming : Ghosts G} (old new : Dispatcher G naming) : Type 0 where
   pub places : deque_capacity new.calls ≡ deque_capacity old.calls
   pub boxes : new.boxes ≡ old.boxes
   pub ends : new.spare ≡ old.spare
 
 -- how many replies are still to come: to calls that are no longer staged, and to those with workers
-abbrev pub awaited : {G : Type 0} → Dispatcher G → ℕ
+abbrev pub awaited : {G : Type 0} {naming : Ghosts G} → Dispatcher G naming → ℕ
 awaited queues = queues.served + queues.queued
 
 -- whether COMMITs are sent with the move

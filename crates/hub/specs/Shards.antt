@@ -3,12 +3,15 @@ use Rattle.std.specs.Prelude.{◌≡◌, ℕ, ◌+◌, List, [], ◌∷◌, vec_
 use Rattle.std.specs.Arc.{arc_value}
 use Rattle.std.specs.declared.sync.Arc.{Arc}
 use Rattle.std.specs.declared.alloc.Global.{Global}
+use Rattle.history.specs.declared.rule.Naming.{Ghosts}
 use Rattle.closed_store.specs.declared.config.Config.{Config}
+use Rattle.history.specs.declared.entry.HistoryEntry.{HistoryEntry}
+use Rattle.history.specs.declared.entry.HistoryEntry.TheVariants.{Opened}
 use Rattle.shard.specs.declared.shard.Shard.{Shard}
 use Rattle.shard.specs.declared.shard.ShardConfig.{ShardConfig}
 
 -- which partition a shard is that of
-abbrev pub partition_of : Arc Shard Global → ℕ
+abbrev pub partition_of : {G : Type 0} {naming : Ghosts G} → Arc (Shard G naming) Global → ℕ
 partition_of shard = (arc_value shard).config.partition
 
 -- it is this partition's, in a store of this config
@@ -20,6 +23,10 @@ pub record IsConfigOf (config : Config) (at : ℕ) (its : ShardConfig) : Type 0 
   pub epoch : its.epoch ≡ config.epoch
 
 -- the shards of a store of this config, in the order of their partitions from this one on
-abbrev pub AreShardsFrom : Config → ℕ → List (Arc Shard Global) → Type 0
+abbrev pub AreShardsFrom : {G : Type 0} {naming : Ghosts G} → Config → ℕ → List (Arc (Shard G naming) Global) → Type 0
 AreShardsFrom config at [] = Unit {0}
 AreShardsFrom config at (shard ∷ shards) = IsConfigOf config at (arc_value shard).config × AreShardsFrom config (at + 1) shards
+
+-- the history has the opening of a store of this config, and nothing behind it
+abbrev pub IsOpeningOf : Config → List HistoryEntry → Type 0
+IsOpeningOf config log = log ≡ Opened (record { parts = config.parts; limits = config.limits.items }) ∷ []

@@ -3,6 +3,7 @@ use Rattle.std.specs.Prelude.{◌≡◌, ℕ, ◌+◌, Bool, true, false, cond, 
 use Rattle.std.specs.Prelude.{drop}
 use Rattle.std.specs.List.{count_by}
 use Rattle.plain_store.specs.declared.message.Message.{Message}
+use Rattle.history.specs.declared.rule.Naming.{Ghosts}
 use Rattle.shard.specs.Asked.{without_reply}
 use Rattle.shard.specs.Homes.{place_of}
 use Rattle.shard.specs.Journals.{came_to}
@@ -26,18 +27,18 @@ is_with_seat Pending = true
 is_with_seat Deferred = false
 is_with_seat (Served outcome) = false
 
-abbrev pub is_unserved : Staged → Bool
+abbrev pub is_unserved : {G : Type 0} {naming : Ghosts G} → Staged G naming → Bool
 is_unserved staged = is_to_serve staged.stage
 
 -- how many of the calls behind the first so many were not served
-abbrev pub unserved : ℕ → List Staged → ℕ
+abbrev pub unserved : {G : Type 0} {naming : Ghosts G} → ℕ → List (Staged G naming) → ℕ
 unserved from calls = count_by is_unserved (drop from calls)
 
 -- behind the first so many calls, this is the first one that was not served, and the others are left
-pub record IsFirstOf (from : ℕ) (old : List Staged) (call : SeatCall) (new : List Staged) : Type 0 where
-  pub before : List Staged
-  pub staged : Staged
-  pub after : List Staged
+pub record IsFirstOf {G : Type 0} {naming : Ghosts G} (from : ℕ) (old : List (Staged G naming)) (call : SeatCall G naming) (new : List (Staged G naming)) : Type 0 where
+  pub before : List (Staged G naming)
+  pub staged : Staged G naming
+  pub after : List (Staged G naming)
   pub was : drop from old ≡ before ++ staged ∷ after
   pub is : drop from new ≡ before ++ after
   pub others : count_by is_unserved before ≡ 0
@@ -48,7 +49,7 @@ pub record IsFirstOf (from : ℕ) (old : List Staged) (call : SeatCall) (new : L
 
 -- A call of this session with this number, in a store of so many partitions, which nobody has served: it goes to the home of
 -- its key, if it has one, and else to the partition that its message names.
-pub record IsStagedFor (name : SeatName) (partitions nth : ℕ) (staged : Staged) : Type 0 where
+pub record IsStagedFor {G : Type 0} {naming : Ghosts G} (name : SeatName) (partitions nth : ℕ) (staged : Staged G naming) : Type 0 where
   pub tenant : staged.call.tenant ≡ name.tenant
   pub seat : staged.call.seat ≡ name.seat
   pub number : staged.call.number ≡ nth
@@ -59,15 +60,15 @@ pub record IsStagedFor (name : SeatName) (partitions nth : ℕ) (staged : Staged
 
 -- a call of this session was staged behind those that were, in this message, if there is one; the box has the reply to its last
 -- call until this one is served
-pub record IsStagedNext (name : SeatName) (partitions nth : ℕ) (message : Option Message) (old new : List Staged)
+pub record IsStagedNext {G : Type 0} {naming : Ghosts G} (name : SeatName) (partitions nth : ℕ) (message : Option Message) (old new : List (Staged G naming))
     : Type 0 where
-  pub staged : Staged
+  pub staged : Staged G naming
   pub is : new ≡ old ++ staged ∷ []
   pub its : IsStagedFor name partitions nth staged
   pub in_message : message ≡ Some (without_reply staged.call.message.value)
 
 -- calls of this session, numbered on from this number, in these messages, which have no reply
-abbrev pub AreStagedFor : SeatName → ℕ → ℕ → List Message → List Staged → Type 0
+abbrev pub AreStagedFor : {G : Type 0} {naming : Ghosts G} → SeatName → ℕ → ℕ → List Message → List (Staged G naming) → Type 0
 AreStagedFor name partitions nth [] [] = Unit {0}
 AreStagedFor name partitions nth [] (staged ∷ calls) = ⊥
 AreStagedFor name partitions nth (message ∷ messages) [] = ⊥
@@ -76,9 +77,9 @@ AreStagedFor name partitions nth (message ∷ messages) (staged ∷ calls) =
     × AreStagedFor name partitions (nth + 1) messages calls
 
 -- these messages were staged behind the calls that were
-pub record AreStagedBehind (name : SeatName) (partitions nth : ℕ) (messages : List Message) (old new : List Staged)
+pub record AreStagedBehind {G : Type 0} {naming : Ghosts G} (name : SeatName) (partitions nth : ℕ) (messages : List Message) (old new : List (Staged G naming))
     : Type 0 where
-  pub more : List Staged
+  pub more : List (Staged G naming)
   pub is : new ≡ old ++ more
   pub staged : AreStagedFor name partitions nth messages more
 
@@ -91,11 +92,11 @@ HasSentAt at old new = IsSomeAnd (slice_get old at) (λ queue. new ≡ set old a
 -- ---- a call that is staged
 
 -- where it goes, if nobody has served it and it is not left to a worker
-abbrev pub place_if_open : Staged → Option ℕ
+abbrev pub place_if_open : {G : Type 0} {naming : Ghosts G} → Staged G naming → Option ℕ
 place_if_open staged = cond (is_with_seat staged.stage) (Some staged.call.partition) None
 
 -- the reply to it, as far as it has come
-pub record IsReplyOf (staged : Staged) (reply : SeatReply) : Type 0 where
+pub record IsReplyOf {G : Type 0} {naming : Ghosts G} (staged : Staged G naming) (reply : SeatReply G naming) : Type 0 where
   pub tenant : reply.tenant ≡ staged.call.tenant
   pub seat : reply.seat ≡ staged.call.seat
   pub number : reply.number ≡ staged.call.number
@@ -104,6 +105,6 @@ pub record IsReplyOf (staged : Staged) (reply : SeatReply) : Type 0 where
   pub message : reply.message ≡ staged.call.message
 
 -- what is said of the first of them, if there is one
-abbrev pub IfFirst : List Staged → (Staged → Type 0) → Type 0
+abbrev pub IfFirst : {G : Type 0} {naming : Ghosts G} → List (Staged G naming) → (Staged G naming → Type 0) → Type 0
 IfFirst [] P = Unit {0}
 IfFirst (staged ∷ calls) P = P staged

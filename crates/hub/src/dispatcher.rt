@@ -9,6 +9,7 @@ ghost use Rattle.shard.specs.declared.shard.Staged.{Staged as Waiting};
 ghost use Rattle.hub.specs.Staging.{HasSentAt, is_unserved, place_if_open, unserved, IfFirst, IsFirstOf, IsReplyOf, IsStagedNext};
 
 use crossbeam_channel::{Receiver, RecvError, Sender};
+use history::{Front, Naming};
 use plain_store::{Call, Message};
 use shard::{
     CallState, FollowUp, Gate, Job, JobSender, SeatCall, SeatName, SeatReply, Shard, ShardState,
@@ -25,22 +26,22 @@ use std::sync::{Arc, Wait};
 pub const MOST_CALLS: usize = MAX_PARTS as usize + 2 * MAX_KEYS;
 
 /// What has a seat's calls served at their partitions, with the calls of the operation that runs.
-pub struct Dispatcher<'a, G> {
+pub struct Dispatcher<'a, G: Naming> {
     alloc: Global,
     client: Client,
     parts: u32,
-    shards: &'a [Arc<Shard>],
+    shards: &'a [Arc<Shard<G>>],
     gate: &'a G,
-    jobs: Vec<JobSender>,
-    reply_to: Sender<SeatReply>,
-    replies: Receiver<SeatReply>,
+    jobs: Vec<JobSender<G>>,
+    reply_to: Sender<SeatReply<G>>,
+    replies: Receiver<SeatReply<G>>,
     /// Ends for the jobs to come.
-    spare: Vec<Sender<SeatReply>>,
+    spare: Vec<Sender<SeatReply<G>>>,
     /// Boxes for the calls to come. Each comes back with its reply: one that held a COMMIT to the front, any other to the back. So a
     /// call and a reply are mostly written over others of their kind: each has some 750 bytes.
     boxes: VecDeque<Box<Message>>,
     /// The calls whose replies are to be taken, and then those that are staged.
-    calls: VecDeque<Staged>,
+    calls: VecDeque<Staged<G>>,
     /// How many of them are no longer staged.
     served: usize,
     /// How many calls of this seat are with workers. Until each was answered, its other calls go the same way, so that none
@@ -52,7 +53,7 @@ pub struct Dispatcher<'a, G> {
     ghost few_sent: { sent ≤ max_calls },
 }
 
-impl<'a, G> Drop for Dispatcher<'a, G> {
+impl<'a, G: Naming> Drop for Dispatcher<'a, G> {
     fn drop(self) {
         let Dispatcher {
             alloc: _,
@@ -73,7 +74,7 @@ impl<'a, G> Drop for Dispatcher<'a, G> {
     }
 }
 
-impl<'a, G> Dispatcher<'a, G> {
+impl<'a, G: Naming> Dispatcher<'a, G> {
     ghost use Rattle.hub.specs.Rooms.{HasPlaces, HasRoom, SameRoom};
 
     /// A call dispatcher for a client's seat.
@@ -81,9 +82,9 @@ impl<'a, G> Dispatcher<'a, G> {
         alloc: Global,
         client: Client,
         parts: u32,
-        shards: &'a [Arc<Shard>],
+        shards: &'a [Arc<Shard<G>>],
         gate: &'a G,
-        jobs: Vec<JobSender>,
+        jobs: Vec<JobSender<G>>,
     ) -> Result<Dispatcher<'a, G>, AllocError>
         requires { IsParts parts }
         ensures given { IfOk result (λ queues. (queues.client ≡ client) × (queues.parts ≡ parts) × (queues.jobs ≡ jobs) × (queues.shards.now ≡ shards.now)) }
@@ -193,7 +194,7 @@ impl<'a, G> Dispatcher<'a, G> {
     }
 
     /// A reply that is there, or else waits for one. It fails where none can come.
-    fn receive<R: Wait>(&mut self, rt: &R) -> Result<SeatReply, RecvError>
+    fn receive<R: Wait>(&mut self, rt: &R) -> Result<SeatReply<G>, RecvError>
         ensures first { 0 < self.old.served → IfFirst self.old.calls.items (λ staged. IsOkAnd result (IsReplyOf staged)) }
         ensures left { 0 < self.old.served → self.new.calls.items ≡ drop 1 self.old.calls.items }
         ensures others { self.old.served ≡ 0 → self.new.calls ≡ self.old.calls }
@@ -217,7 +218,12 @@ impl<'a, G> Dispatcher<'a, G> {
 
     /// The next reply to a call of this seat, and of this operation, which began after so many calls; it waits for it. None where
     /// none can come.
-    pub fn next_reply<R: Wait>(&mut self, rt: &R, name: &SeatName, before: u64) -> Option<SeatReply>
+    pub fn next_reply<R: Wait>(
+        &mut self,
+        rt: &R,
+        name: &SeatName,
+        before: u64,
+    ) -> Option<SeatReply<G>>
         requires { before ≤ 2 ^ 62 }
         ensures first { 0 < self.old.served → IfFirst self.old.calls.items (λ staged. staged.call.tenant ≡ name.now.tenant → staged.call.seat ≡ name.now.seat → before < staged.call.number → staged.call.number ≤ before + self.old.sent → IsSomeAnd result (IsReplyOf staged)) }
         // One call of those that are here, or of those with workers, is answered at most.
@@ -242,7 +248,7 @@ impl<'a, G> Dispatcher<'a, G> {
 
     /// The partition of a staged call that nobody has served and that is not left to a worker, if the one at this place is.
     fn open_at(&self, at: usize) -> Option<u32>
-        ensures { (other : Waiting) → at < deque_len self.now.calls → result ≡ place_if_open (slice_index_or self.now.calls.items at other) }
+        ensures { (other : Waiting G _) → at < deque_len self.now.calls → result ≡ place_if_open (slice_index_or self.now.calls.items at other) }
     {
         match self.calls.get(at) {
             Some(staged) if matches!(staged.stage, CallState::Pending) => Some(
@@ -254,7 +260,7 @@ impl<'a, G> Dispatcher<'a, G> {
 
     /// Whether the staged call at this place was not served.
     fn is_left(&self, at: usize) -> bool
-        ensures { (other : Waiting) → at < deque_len self.now.calls → result ≡ is_unserved (slice_index_or self.now.calls.items at other) }
+        ensures { (other : Waiting G _) → at < deque_len self.now.calls → result ≡ is_unserved (slice_index_or self.now.calls.items at other) }
     {
         match self.calls.get(at) {
             Some(staged) => !matches!(staged.stage, CallState::Served(_)),
@@ -263,7 +269,7 @@ impl<'a, G> Dispatcher<'a, G> {
     }
 
     /// Takes out the first staged call that was not served.
-    fn take_left(&mut self) -> Option<SeatCall>
+    fn take_left(&mut self) -> Option<SeatCall<G>>
         ensures first { IfSome result (λ call. IsFirstOf self.old.served self.old.calls.items call self.new.calls.items) }
         ensures none { IfNone result (unserved self.old.served self.old.calls.items ≡ 0) }
         ensures unchanged { IfNone result (self.new.calls ≡ self.old.calls) }
@@ -284,7 +290,7 @@ impl<'a, G> Dispatcher<'a, G> {
     }
 
     /// Sends a call to its partition's worker. It fails where there is no such partition, and where the queue hands the call back.
-    fn enqueue<R: Wait>(&mut self, rt: &R, call: SeatCall) -> bool
+    fn enqueue<R: Wait>(&mut self, rt: &R, call: SeatCall<G>) -> bool
         requires { 0 < vec_len self.old.spare }
         ensures sent { self.new.sent ≡ self.old.sent }
         ensures calls { self.new.calls ≡ self.old.calls }
@@ -334,7 +340,7 @@ impl<'a, G> Dispatcher<'a, G> {
     }
 
     /// Does what is due at a partition once its lock is released.
-    fn follow_up<R: Wait>(&mut self, rt: &R, shard: &Shard, follow_up: FollowUp)
+    fn follow_up<R: Wait>(&mut self, rt: &R, shard: &Shard<G>, follow_up: FollowUp)
         ensures sent { self.new.sent ≡ self.old.sent }
         ensures calls { (self.new.calls ≡ self.old.calls) × (self.new.queued ≡ self.old.queued) }
         ensures room { SameRoom self.old self.new }
@@ -349,11 +355,12 @@ impl<'a, G> Dispatcher<'a, G> {
     }
 }
 
-impl<'a, G: Gate> Dispatcher<'a, G> {
+impl<'a, G: Gate + Naming> Dispatcher<'a, G> {
     ghost use Rattle.hub.specs.Rooms.{HasPlaces, HasRoom, SameRoom};
 
-    /// Stages the call in this box as the seat's call of this number, for `dispatch`, once it has passed the gate.
-    pub fn stage(&mut self, name: &SeatName, number: u64, message: Box<Message>)
+    /// Stages the call in this box as the seat's call of this number, for `dispatch`, once it has passed the gate, with what the
+    /// seat has seen of the history.
+    pub fn stage(&mut self, name: &SeatName, number: u64, message: Box<Message>, seen: &Front<G>)
         requires { HasPlaces 1 self.old }
         ensures counted { self.new.sent ≡ self.old.sent + 1 }
         ensures calls { deque_len self.new.calls ≡ deque_len self.old.calls + 1 }
@@ -363,14 +370,20 @@ impl<'a, G: Gate> Dispatcher<'a, G> {
         ensures room { (calls : ℕ) → HasPlaces (1 + calls) self.old → HasPlaces calls self.new }
         ensures queued { self.new.queued ≡ self.old.queued }
     {
-        let call = self.called(name, number, message);
+        let call = self.called(name, number, message, seen);
         let stage = CallState::Pending;
         self.calls.push_back_reserved(Staged { call, stage });
         self.sent += 1;
     }
 
     /// A call of this seat on its way to the home of its key, if it has one, which has passed the gate.
-    fn called(&self, name: &SeatName, number: u64, message: Box<Message>) -> SeatCall
+    fn called(
+        &self,
+        name: &SeatName,
+        number: u64,
+        message: Box<Message>,
+        seen: &Front<G>,
+    ) -> SeatCall<G>
         ensures owner { (result.tenant ≡ name.now.tenant) × (result.seat ≡ name.now.seat) × (result.number ≡ number) × (result.parts ≡ self.now.parts) }
         ensures message { result.message ≡ message }
         ensures place { result.partition ≡ place_for message.value.call self.now.parts message.value.partition }
@@ -385,6 +398,7 @@ impl<'a, G: Gate> Dispatcher<'a, G> {
             number,
             arrival: self.pass(partition),
             message,
+            front: seen.again(),
         }
     }
 
@@ -479,7 +493,7 @@ impl<'a, G: Gate> Dispatcher<'a, G> {
     }
 
     /// Serves the staged calls of a partition whose lock is held.
-    fn serve_under(&mut self, shard: &Shard, state: &mut ShardState) -> FollowUp
+    fn serve_under(&mut self, shard: &Shard<G>, state: &mut ShardState<G>) -> FollowUp
         ensures sent { self.new.sent ≡ self.old.sent }
         ensures room { SameRoom self.old self.new }
         ensures served { self.new.served ≡ self.old.served }

@@ -1,6 +1,6 @@
 //! A hub: what seats share, and the threads that serve them.
 ghost use Rattle.stamps.specs.Bounds.{IsParts};
-ghost use Rattle.hub.specs.Hubs.{config_view, AllSoundBooks};
+ghost use Rattle.hub.specs.Hubs.{config_view, AllSoundBooks, AllStretches};
 ghost use Rattle.hub.specs.Registered.{IsDeparture, is_unopened};
 ghost use Rattle.shard.specs.Queues.{unsent};
 ghost use Rattle.shard.specs.UsedAt.{AreUsagesAt, WasElsewhere};
@@ -8,11 +8,13 @@ ghost use Rattle.std.specs.Prelude.{◌≡◌, ◌≤◌, ◌<◌, ◌+◌, ◌�
 
 use crate::closing::take_out;
 use crate::dispatcher::Dispatcher;
+use crate::new_store::NewStore;
 use crate::register::{Departure, Register};
 use crate::seal::Sealed;
 use crate::seat::{Ends, Seat};
 use crate::start::{HubFault, PartitionLists, Worker, collector_of, join_all, share, start_all};
 use closed_store::{Closed, Config, Transcript};
+use history::{Front, Naming};
 use partition::{Counts, Journal};
 use plain_store::{Reading, Readings, Refusal};
 use shard::{Collector, Gate, JobSender, SeatName, Shard, Sink, TenantUsage};
@@ -27,20 +29,22 @@ use tenant_sessions::ClientSession;
 ///
 /// Its calls wait for locks, queues and threads, and their promises hold if they return. Nothing is claimed of progress.
 #[derive(Drop)]
-pub struct Hub<G> {
+pub struct Hub<G: Naming> {
     config: Config,
     pub(crate) alloc: Global,
-    queues: Mutex<Vec<JobSender>>,
+    queues: Mutex<Vec<JobSender<G>>>,
     clients: Mutex<Register>,
     collector: Arc<Collector>,
     gate: Arc<G>,
-    shards: Vec<Arc<Shard>>,
+    shards: Vec<Arc<Shard<G>>>,
     threads: Sealed<Vec<Worker>>,
     journals: Vec<Vec<Journal>>,
     counts: Vec<Counts>,
+    /// Its opening: what each seat has seen of the history at first.
+    seen: Front<G>,
 }
 
-impl<G> Model for Hub<G> {
+impl<G: Naming> Model for Hub<G> {
     ghost use Rattle.std.specs.Prelude.{◌≡◌, ◌≤◌, length, vec_len, vec_capacity};
     ghost use Rattle.hub.specs.Hubs.{ConfigView, config_view};
     ghost use Rattle.hub.specs.Shards.{AreShardsFrom};
@@ -52,22 +56,29 @@ impl<G> Model for Hub<G> {
     ghost invariant = { λ h. (length h.shards.items ≡ h.config.parts) × (vec_len h.journals ≡ 0) × (vec_len h.counts ≡ 0) × (h.config.parts ≤ vec_capacity h.journals) × (h.config.parts ≤ vec_capacity h.counts) × AreShardsFrom h.config 0 h.shards.items };
 }
 
-impl<G: Gate + Send + Sync + Drop + 'static> Hub<G> {
+impl<G: Gate + Naming + Send + Sync + Drop + 'static> Hub<G> {
     /// Starts a worker for each partition. Epochs that workers cut go to the sink, which the workers drop as they end. It fails
     /// where memory or a thread was refused; then it has ended and joined the threads that it started.
+    ///
+    /// The gate's type carries the name of the store's history: `Named` puts a gate under a name.
     pub fn open<
         S: Sink + Send + Sync + Drop + 'static,
         R: Threads + Wait + Clone + Send + Drop + 'static,
-    >(rt: &R, alloc: Global, config: Config, gate: G, sink: S) -> Result<Hub<G>, HubFault>
-        ensures { IfOk result (λ h. h ≡ config_view config) }
+    >(rt: &R, alloc: Global, store: NewStore, gate: G, sink: S) -> Result<Hub<G>, HubFault>
+        requires { store.history.seen.book ≡ G.book }
+        ensures { IfOk result (λ h. h ≡ config_view store.config) }
     {
+        let NewStore { config, history } = store;
+        let (_, mut words, seen) = history.named::<G>();
         let parts = config.parts as usize;
         let clients = Mutex::new(Register::new(alloc, config.limits.len())?);
         let collector = collector_of(alloc, &config)?;
         let gate = share(alloc, gate)?;
         let sink = share(alloc, sink)?;
         let mut lists = PartitionLists::of(alloc, parts)?;
-        let started = start_all(rt, alloc, &config, &gate, &sink, &collector, &mut lists);
+        let started = start_all(
+            rt, alloc, &config, &gate, &sink, &collector, &mut words, &seen, &mut lists,
+        );
         let PartitionLists {
             shards,
             queues,
@@ -91,6 +102,7 @@ impl<G: Gate + Send + Sync + Drop + 'static> Hub<G> {
             threads: Sealed::new(threads),
             journals,
             counts,
+            seen,
         })
     }
 
@@ -101,6 +113,23 @@ impl<G: Gate + Send + Sync + Drop + 'static> Hub<G> {
         ensures transcripts { result.transcripts.items ≡ transcripts.items }
         ensures parts { length result.journals.items ≡ self.parts }
         ensures books { AllSoundBooks self 0 result.journals.items result.counts.items }
+    {
+        let (closed, _) = self.close_with_history(rt, transcripts);
+        closed
+    }
+
+    /// As `close`, and answers what was seen of the history at last. The events of each journal are a stretch of it: all journals are
+    /// of this one history.
+    pub fn close_with_history<R: Threads + Wait>(
+        self,
+        rt: &R,
+        transcripts: Vec<Transcript>,
+    ) -> (Closed, Front<G>)
+        ensures config { config_view result.0.config ≡ self }
+        ensures transcripts { result.0.transcripts.items ≡ transcripts.items }
+        ensures parts { length result.0.journals.items ≡ self.parts }
+        ensures books { AllSoundBooks self 0 result.0.journals.items result.0.counts.items }
+        ensures history { AllStretches result.1 0 result.0.journals.items }
     {
         let Hub {
             config,
@@ -113,25 +142,28 @@ impl<G: Gate + Send + Sync + Drop + 'static> Hub<G> {
             threads,
             mut journals,
             mut counts,
+            seen,
         } = self;
+        let mut seen = seen.again();
         drop(queues);
         let _ = join_all(rt, threads.into_inner());
         for shard in shards {
             let partition = journals.len() as u32;
-            let (of_book, count) = take_out(alloc, &config, partition, shard);
+            let (of_book, count) = take_out(alloc, &config, partition, shard, &mut seen);
             journals.push_reserved(of_book);
             counts.push_reserved(count);
         }
-        Closed {
+        let closed = Closed {
             config,
             journals,
             counts,
             transcripts,
-        }
+        };
+        (closed, seen)
     }
 }
 
-impl<G> Hub<G> {
+impl<G: Naming> Hub<G> {
     /// After how many events of a journal its partition's worker cuts it; 0 where none is ever cut.
     pub fn epoch(&self) -> u32
         ensures { result ≡ self.now.epoch }
@@ -168,7 +200,7 @@ impl<G> Hub<G> {
     }
 }
 
-impl<G: Gate> Hub<G> {
+impl<G: Gate + Naming> Hub<G> {
     /// Puts how much each tenant uses of a partition, in their order and at one moment, in place of what the list has. It takes
     /// the partition's lock, and time for each tenant, and visits none of what they hold. Answers false where there is no such
     /// partition, or where the state behind its lock is another's. The one error is that an allocation failed.
@@ -246,7 +278,7 @@ impl<G: Gate> Hub<G> {
             base,
             counter: admission.counter,
         };
-        Ok(Seat::new(self, name, admission.ticket, ends, self.alloc))
+        Ok(Seat::new(self, name, admission.ticket, ends, self.seen.again()))
     }
 
     /// From now on each collection of this tenant keeps so many committed versions of an item. It begins with as many as its
@@ -292,7 +324,10 @@ impl<G: Gate> Hub<G> {
 }
 
 /// Another end of each of these queues, which has sent nothing.
-fn ends_of(alloc: Global, queues: &mut Vec<JobSender>) -> Result<Vec<JobSender>, AllocError>
+fn ends_of<G: Naming>(
+    alloc: Global,
+    queues: &mut Vec<JobSender<G>>,
+) -> Result<Vec<JobSender<G>>, AllocError>
     ensures ends { IfOk result (λ ends. ends.items ≡ map unsent queues.old.items) }
     ensures kept { OnOk result (queues.new.items ≡ queues.old.items) }
 {

@@ -4,6 +4,7 @@
 mod closing;
 mod dispatcher;
 mod hub;
+mod new_store;
 mod newest;
 mod operation;
 mod register;
@@ -13,8 +14,10 @@ mod seat_request;
 mod start;
 
 pub use closed_store::{Closed, Config, Entry, EntryList, JoinFault, Operation, Taken, Transcript};
+pub use history::{Front, Naming};
 pub use hub::Hub;
+pub use new_store::NewStore;
 pub use partition::Usage;
 pub use seat::Seat;
-pub use shard::{Gate, Sink, TenantUsage};
+pub use shard::{Gate, Named, Sink, TenantUsage};
 pub use start::HubFault;

@@ -5,13 +5,14 @@ ghost use Rattle.plain_store.specs.Writing.{keys_written};
 
 use crate::operation::tell_refusal;
 use crate::seat::Seat;
+use history::Naming;
 use plain_store::{Answer, Refusal};
 use shard::Gate;
 use stamps::{Item, Key};
 use std::alloc::{AllocError, Global};
 use std::sync::Wait;
 
-impl<'a, G: Gate> Seat<'a, G> {
+impl<'a, G: Gate + Naming> Seat<'a, G> {
     ghost use Rattle.std.specs.Prelude.{◌≡◌, ◌<◌, ◌-◌, ◌*◌, ◌^◌, ◌↔◌, true, false, Some};
     ghost use Rattle.hub.specs.Limits.{max_calls};
     ghost use Rattle.hub.specs.ReadsFirst.{IsReadAndWritten, IsReadBy};

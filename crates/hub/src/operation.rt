@@ -9,6 +9,7 @@ ghost use Rattle.hub.specs.Seats.{at_seat, is_final};
 use crate::dispatcher::{Dispatcher, MOST_CALLS};
 use crate::seat_request::SeatRequest;
 use closed_store::{Entry, EntryList};
+use history::{Front, Naming};
 use plain_store::{Answer, Call, Message, Readings, Refusal, Reply, Rows};
 use shard::{Fault, Gate, SeatName, SeatReply};
 use stamps::Stamp;
@@ -26,11 +27,13 @@ pub(crate) struct AnswerRoom;
 
 /// What the operations of a seat share, and how far the one that runs has come.
 #[derive(Drop)]
-pub(crate) struct RunningOperation<'a, G> {
+pub(crate) struct RunningOperation<'a, G: Naming> {
     pub(crate) name: SeatName,
     pub(crate) queues: Dispatcher<'a, G>,
     pub(crate) session: ClientSession,
     pub(crate) entries: EntryList,
+    /// What it has seen of the history: each call of it that was answered.
+    pub(crate) seen: Front<G>,
     /// How many calls were sent before this operation: its own are numbered on from there.
     pub(crate) first: u64,
     /// The room in which its answer is entered, until it is.
@@ -92,7 +95,7 @@ fn tell_end(taken: &MoveKind, readings: &Readings, answer: &mut Answer)
     }
 }
 
-impl<'a, G: Gate> RunningOperation<'a, G> {
+impl<'a, G: Gate + Naming> RunningOperation<'a, G> {
     ghost use Rattle.std.specs.Prelude.{◌≡◌, ◌<◌, ◌≤◌, ◌+◌, ◌^◌, ℕ, [], ◌∷◌, ◌++◌, List, Option, true, false, None, Some, Ok, Err, OnOk, OnErr, IfOk, IfErr, IsSome, IsNone, IsTrue, ◌↔◌, cond, length, map, slice_get};
     ghost use Rattle.stamps.specs.Bounds.{IsParts};
     ghost use Rattle.plain_store.specs.declared.calls.Reply.{Reply as Served};
@@ -110,7 +113,8 @@ impl<'a, G: Gate> RunningOperation<'a, G> {
     ghost use Rattle.plain_store.specs.History.{Intent as Asked};
     ghost use Rattle.plain_store.specs.Words.{Setup};
     ghost use Rattle.tenant_sessions.specs.Showing.{IfTells};
-    ghost use Rattle.shard.specs.declared.seat_name.SeatName.{SeatName as Named};
+    ghost use Rattle.hub.specs.Sights.{SeatSight, sight_of};
+    ghost use mathlib.Core.List.{IsPrefix};
     ghost use Rattle.hub.specs.Replies.{AreServed, IsDrawn, IsStampOf, IsToldFor, IsToldOf, IsUnder, Reads};
     ghost use Rattle.stamps.specs.Stamp.{stamp};
     ghost use Rattle.hub.specs.Seats.{at_seat, is_final, is_unrecorded, outcome_of, spare, told_by, EndsSo, Follows, Extends};
@@ -130,9 +134,10 @@ impl<'a, G: Gate> RunningOperation<'a, G> {
         queues: Dispatcher<'a, G>,
         session: ClientSession,
         readings: Box<Readings>,
+        seen: Front<G>,
     ) -> RunningOperation<'a, G>
         requires { session.is_open ≡ true }
-        ensures given { (result.name ≡ name) × (result.queues ≡ queues.entry) × (result.session ≡ session) × (result.readings ≡ readings) }
+        ensures given { (result.name ≡ name) × (result.queues ≡ queues.entry) × (result.session ≡ session) × (result.readings ≡ readings) × (result.seen ≡ seen) }
         ensures begun { (result.first ≡ 0) × (result.entries.items ≡ []) × (result.place ≡ None) × (result.fault ≡ None) }
     {
         RunningOperation {
@@ -140,6 +145,7 @@ impl<'a, G: Gate> RunningOperation<'a, G> {
             queues,
             session,
             entries: EntryList::new(alloc),
+            seen,
             first: 0,
             place: None,
             fault: None,
@@ -163,6 +169,7 @@ impl<'a, G: Gate> RunningOperation<'a, G> {
         ensures fault { OnOk result (IsNone self.new.fault) }
         ensures awaited { awaited self.new.queues ≡ awaited self.old.queues }
         ensures session { self.new.session ≡ self.old.session }
+        ensures seen { self.new.seen ≡ self.old.seen }
         ensures name { self.new.name ≡ self.old.name }
         ensures first { self.new.first ≡ self.old.first }
     {
@@ -195,15 +202,16 @@ impl<'a, G: Gate> RunningOperation<'a, G> {
         ensures answered { OnOk result (Follows self.old.entries.items (Some answer.new) self.new.entries.items) }
         ensures few { replies_in self.new.entries.items ≤ replies_in self.old.entries.items + takes }
         ensures recorded { OnOk result (is_unrecorded answer.new ≡ false) }
-        ensures read { OnOk result (IsToldFor self.old.name parts (IsDrawn self.old.name.client self.old.session.counter self.new.session.counter) request.now answer.new self.old.entries.items self.new.entries.items) }
+        ensures read { OnOk result (IsToldFor (sight_of self.old.name self.new.seen) parts (IsDrawn self.old.name.client self.old.session.counter self.new.session.counter) request.now answer.new self.old.entries.items self.new.entries.items) }
         ensures counter { self.old.session.counter ≤ self.new.session.counter }
-        ensures served { (start : List Entered) → AreServed self.old.name self.old.first (self.old.first + self.old.queues.sent) start self.old.entries.items
-            → AreServed self.old.name self.old.first (self.old.first + self.new.queues.sent) start self.new.entries.items }
+        ensures served { (start : List Entered) → AreServed (sight_of self.old.name self.old.seen) self.old.first (self.old.first + self.old.queues.sent) start self.old.entries.items
+            → AreServed (sight_of self.old.name self.new.seen) self.old.first (self.old.first + self.new.queues.sent) start self.new.entries.items }
         ensures refused { (refusal : Why) → test_of self.old.session request.now ≡ Err refusal → answer.new ≡ Answer.Refused refusal }
         // Each of its calls was answered.
         ensures awaited { awaited self.old.queues ≡ 0 → OnOk result (awaited self.new.queues ≡ 0) }
         ensures outcome { result ≡ outcome_of self.new.fault self.new.place }
         ensures entered { (told : Option Said) × Follows self.old.entries.items told self.new.entries.items }
+        ensures seen { IsPrefix self.old.seen self.new.seen }
         ensures name { self.new.name ≡ self.old.name }
         ensures first { self.new.first ≡ self.old.first }
     {
@@ -232,7 +240,7 @@ impl<'a, G: Gate> RunningOperation<'a, G> {
     pub(crate) fn drain(&mut self) -> EntryList
         ensures handed { result.items ≡ self.old.entries.items }
         ensures empty { self.new.entries.items ≡ [] }
-        ensures rest { (self.new.name ≡ self.old.name) × (self.new.queues ≡ self.old.queues) × (self.new.session ≡ self.old.session) × (self.new.first ≡ self.old.first) × (self.new.place ≡ self.old.place) × (self.new.fault ≡ self.old.fault) × (self.new.readings ≡ self.old.readings) }
+        ensures rest { (self.new.name ≡ self.old.name) × (self.new.queues ≡ self.old.queues) × (self.new.session ≡ self.old.session) × (self.new.first ≡ self.old.first) × (self.new.place ≡ self.old.place) × (self.new.fault ≡ self.old.fault) × (self.new.readings ≡ self.old.readings) × (self.new.seen ≡ self.old.seen) }
     {
         self.entries.take()
     }
@@ -246,6 +254,7 @@ impl<'a, G: Gate> RunningOperation<'a, G> {
         ensures entries { self.new.entries ≡ self.old.entries }
         ensures session { self.new.session ≡ self.old.session }
         ensures queues { self.new.queues ≡ self.old.queues }
+        ensures seen { self.new.seen ≡ self.old.seen }
         ensures name { self.new.name ≡ self.old.name }
     {
         let sent = self.queues.sent() as u64;
@@ -272,11 +281,12 @@ impl<'a, G: Gate> RunningOperation<'a, G> {
         ensures answered { OnOk result (IsNone self.new.place) }
         ensures entered { (start : List Entered) → Follows start (told_by self.old.place answer.old) self.old.entries.items
             → Follows start (told_by self.new.place answer.new) self.new.entries.items }
-        ensures read { (setup : Setup) (asked : Asked) (start : List Entered) → IsStampOf own asked → Reads self.old.name setup asked start self.old.entries.items self.old.session.running (told_by self.old.place answer.old)
-            → Reads self.old.name setup asked start self.new.entries.items self.new.session.running (told_by self.new.place answer.new) }
-        ensures served { (start : List Entered) → AreServed self.old.name self.old.first (self.old.first + self.old.queues.sent) start self.old.entries.items
-            → AreServed self.old.name self.old.first (self.old.first + self.new.queues.sent) start self.new.entries.items }
+        ensures read { (setup : Setup) (asked : Asked) (start : List Entered) → IsStampOf own asked → Reads (sight_of self.old.name self.old.seen) setup asked start self.old.entries.items self.old.session.running (told_by self.old.place answer.old)
+            → Reads (sight_of self.old.name self.new.seen) setup asked start self.new.entries.items self.new.session.running (told_by self.new.place answer.new) }
+        ensures served { (start : List Entered) → AreServed (sight_of self.old.name self.old.seen) self.old.first (self.old.first + self.old.queues.sent) start self.old.entries.items
+            → AreServed (sight_of self.old.name self.new.seen) self.old.first (self.old.first + self.new.queues.sent) start self.new.entries.items }
         ensures counter { self.old.session.counter ≤ self.new.session.counter }
+        ensures seen { IsPrefix self.old.seen self.new.seen }
         ensures name { self.new.name ≡ self.old.name }
         ensures first { self.new.first ≡ self.old.first }
     {
@@ -304,11 +314,12 @@ impl<'a, G: Gate> RunningOperation<'a, G> {
         ensures ends { EndsSo self.old.place answer.old → EndsSo self.new.place answer.new }
         ensures entered { (start : List Entered) → Follows start (told_by self.old.place answer.old) self.old.entries.items
             → Follows start (told_by self.new.place answer.new) self.new.entries.items }
-        ensures read { (setup : Setup) (asked : Asked) (start : List Entered) → IsStampOf own asked → Reads self.old.name setup asked start self.old.entries.items self.old.session.running (told_by self.old.place answer.old)
-            → Reads self.old.name setup asked start self.new.entries.items self.new.session.running (told_by self.new.place answer.new) }
-        ensures served { (start : List Entered) → AreServed self.old.name self.old.first (self.old.first + self.old.queues.sent) start self.old.entries.items
-            → AreServed self.old.name self.old.first (self.old.first + self.new.queues.sent) start self.new.entries.items }
+        ensures read { (setup : Setup) (asked : Asked) (start : List Entered) → IsStampOf own asked → Reads (sight_of self.old.name self.old.seen) setup asked start self.old.entries.items self.old.session.running (told_by self.old.place answer.old)
+            → Reads (sight_of self.old.name self.new.seen) setup asked start self.new.entries.items self.new.session.running (told_by self.new.place answer.new) }
+        ensures served { (start : List Entered) → AreServed (sight_of self.old.name self.old.seen) self.old.first (self.old.first + self.old.queues.sent) start self.old.entries.items
+            → AreServed (sight_of self.old.name self.new.seen) self.old.first (self.old.first + self.new.queues.sent) start self.new.entries.items }
         ensures counter { self.old.session.counter ≤ self.new.session.counter }
+        ensures seen { IsPrefix self.old.seen self.new.seen }
         ensures name { self.new.name ≡ self.old.name }
         ensures first { self.new.first ≡ self.old.first }
     {
@@ -320,6 +331,7 @@ impl<'a, G: Gate> RunningOperation<'a, G> {
                 self.fault = Some(self.fault.unwrap_or(Fault::NoTenant));
                 break;
             };
+            self.seen.learn(&reply.front);
             self.enter_reply(rt, own, &reply, answer);
             let SeatReply { message, .. } = reply;
             self.queues.keep(message);
@@ -331,7 +343,13 @@ impl<'a, G: Gate> RunningOperation<'a, G> {
 
     /// Enters a reply to a call of the operation under this stamp, which this thread or a worker served. After a fault nothing is
     /// entered any more.
-    fn enter_reply<R: Wait>(&mut self, rt: &R, own: Stamp, reply: &SeatReply, answer: &mut Answer)
+    fn enter_reply<R: Wait>(
+        &mut self,
+        rt: &R,
+        own: Stamp,
+        reply: &SeatReply<G>,
+        answer: &mut Answer,
+    )
         requires room { 1 + spare self.old.place ≤ self.old.entries.room }
         requires calls { HasRoom (calls_left self.old.session.running) self.old.queues }
         ensures calls { HasRoom (calls_left self.new.session.running) self.new.queues }
@@ -344,13 +362,14 @@ impl<'a, G: Gate> RunningOperation<'a, G> {
         ensures ends { EndsSo self.old.place answer.old → EndsSo self.new.place answer.new }
         ensures entered { (start : List Entered) → Follows start (told_by self.old.place answer.old) self.old.entries.items
             → Follows start (told_by self.new.place answer.new) self.new.entries.items }
-        ensures read { (name : Named) (setup : Setup) (asked : Asked) (start : List Entered) → IsStampOf own asked → reply.now.tenant ≡ name.tenant → reply.now.seat ≡ name.seat
-            → Reads name setup asked start self.old.entries.items self.old.session.running (told_by self.old.place answer.old)
-            → Reads name setup asked start self.new.entries.items self.new.session.running (told_by self.new.place answer.new) }
-        ensures served { (first last : ℕ) (start : List Entered) → reply.now.tenant ≡ self.old.name.tenant → reply.now.seat ≡ self.old.name.seat → first < reply.now.number → reply.now.number ≤ last
-            → AreServed self.old.name first last start self.old.entries.items → AreServed self.old.name first last start self.new.entries.items }
+        ensures read { (sight : SeatSight) (setup : Setup) (asked : Asked) (start : List Entered) → IsStampOf own asked → reply.now.tenant ≡ sight.tenant → reply.now.seat ≡ sight.seat → IsPrefix reply.now.front sight.seen
+            → Reads sight setup asked start self.old.entries.items self.old.session.running (told_by self.old.place answer.old)
+            → Reads sight setup asked start self.new.entries.items self.new.session.running (told_by self.new.place answer.new) }
+        ensures served { (first last : ℕ) (start : List Entered) → reply.now.tenant ≡ self.old.name.tenant → reply.now.seat ≡ self.old.name.seat → IsPrefix reply.now.front self.old.seen → first < reply.now.number → reply.now.number ≤ last
+            → AreServed (sight_of self.old.name self.old.seen) first last start self.old.entries.items → AreServed (sight_of self.old.name self.new.seen) first last start self.new.entries.items }
         ensures sent { self.old.queues.sent ≤ self.new.queues.sent }
         ensures counter { self.old.session.counter ≤ self.new.session.counter }
+        ensures seen { self.new.seen ≡ self.old.seen }
         ensures name { self.new.name ≡ self.old.name }
         ensures first { self.new.first ≡ self.old.first }
     {
@@ -369,7 +388,7 @@ impl<'a, G: Gate> RunningOperation<'a, G> {
         &mut self,
         rt: &R,
         own: Stamp,
-        reply: &SeatReply,
+        reply: &SeatReply<G>,
         place: u64,
         answer: &mut Answer,
     )
@@ -383,13 +402,14 @@ impl<'a, G: Gate> RunningOperation<'a, G> {
         ensures ends { EndsSo self.old.place answer.old → EndsSo self.new.place answer.new }
         ensures entered { (start : List Entered) → Follows start (told_by self.old.place answer.old) self.old.entries.items
             → Follows start (told_by self.new.place answer.new) self.new.entries.items }
-        ensures read { (name : Named) (setup : Setup) (asked : Asked) (start : List Entered) → IsStampOf own asked → reply.now.outcome ≡ Ok place → reply.now.tenant ≡ name.tenant → reply.now.seat ≡ name.seat
-            → Reads name setup asked start self.old.entries.items self.old.session.running (told_by self.old.place answer.old)
-            → Reads name setup asked start self.new.entries.items self.new.session.running (told_by self.new.place answer.new) }
-        ensures served { (first last : ℕ) (start : List Entered) → reply.now.outcome ≡ Ok place → reply.now.tenant ≡ self.old.name.tenant → reply.now.seat ≡ self.old.name.seat → first < reply.now.number → reply.now.number ≤ last
-            → AreServed self.old.name first last start self.old.entries.items → AreServed self.old.name first last start self.new.entries.items }
+        ensures read { (sight : SeatSight) (setup : Setup) (asked : Asked) (start : List Entered) → IsStampOf own asked → reply.now.outcome ≡ Ok place → reply.now.tenant ≡ sight.tenant → reply.now.seat ≡ sight.seat → IsPrefix reply.now.front sight.seen
+            → Reads sight setup asked start self.old.entries.items self.old.session.running (told_by self.old.place answer.old)
+            → Reads sight setup asked start self.new.entries.items self.new.session.running (told_by self.new.place answer.new) }
+        ensures served { (first last : ℕ) (start : List Entered) → reply.now.outcome ≡ Ok place → reply.now.tenant ≡ self.old.name.tenant → reply.now.seat ≡ self.old.name.seat → IsPrefix reply.now.front self.old.seen → first < reply.now.number → reply.now.number ≤ last
+            → AreServed (sight_of self.old.name self.old.seen) first last start self.old.entries.items → AreServed (sight_of self.old.name self.new.seen) first last start self.new.entries.items }
         ensures sent { self.old.queues.sent ≤ self.new.queues.sent }
         ensures counter { self.old.session.counter ≤ self.new.session.counter }
+        ensures seen { self.new.seen ≡ self.old.seen }
         ensures name { self.new.name ≡ self.old.name }
         ensures first { self.new.first ≡ self.old.first }
     {
@@ -425,12 +445,13 @@ impl<'a, G: Gate> RunningOperation<'a, G> {
         ensures ends { EndsSo self.old.place answer.old → EndsSo self.new.place answer.new }
         ensures entered { (start : List Entered) → Follows start (told_by self.old.place answer.old) self.old.entries.items
             → Follows start (told_by self.new.place answer.new) self.new.entries.items }
-        ensures read { (name : Named) (setup : Setup) (asked : Asked) (start : List Entered) → Reads name setup asked start self.old.entries.items self.old.session.running (told_by self.old.place answer.old)
-            → IfTells asked (moved taken.now self.old.readings.value) (IsToldOf name setup asked start self.old.entries.items)
-            → Reads name setup asked start self.new.entries.items self.new.session.running (told_by self.new.place answer.new) }
+        ensures read { (sight : SeatSight) (setup : Setup) (asked : Asked) (start : List Entered) → Reads sight setup asked start self.old.entries.items self.old.session.running (told_by self.old.place answer.old)
+            → IfTells asked (moved taken.now self.old.readings.value) (IsToldOf sight setup asked start self.old.entries.items)
+            → Reads sight setup asked start self.new.entries.items self.new.session.running (told_by self.new.place answer.new) }
         ensures kept { Extends self.old.entries.items self.new.entries.items }
-        ensures served { (first last : ℕ) (start : List Entered) → AreServed self.old.name first last start self.old.entries.items → AreServed self.old.name first last start self.new.entries.items }
+        ensures served { (first last : ℕ) (start : List Entered) → AreServed (sight_of self.old.name self.old.seen) first last start self.old.entries.items → AreServed (sight_of self.old.name self.new.seen) first last start self.new.entries.items }
         ensures session { self.new.session ≡ self.old.session }
+        ensures seen { self.new.seen ≡ self.old.seen }
         ensures name { self.new.name ≡ self.old.name }
         ensures first { self.new.first ≡ self.old.first }
     {
@@ -459,11 +480,12 @@ impl<'a, G: Gate> RunningOperation<'a, G> {
         ensures ends { EndsSo self.old.place answer.old → EndsSo self.new.place answer.new }
         ensures entered { (start : List Entered) → Follows start (told_by self.old.place answer.old) self.old.entries.items
             → Follows start (told_by self.new.place answer.new) self.new.entries.items }
-        ensures read { (name : Named) (setup : Setup) (asked : Asked) (start : List Entered) → Reads name setup asked start self.old.entries.items self.old.session.running (told_by self.old.place answer.old)
-            → IfTells asked (moved taken.now self.old.readings.value) (IsToldOf name setup asked start self.old.entries.items)
-            → Reads name setup asked start self.new.entries.items self.new.session.running (told_by self.new.place answer.new) }
+        ensures read { (sight : SeatSight) (setup : Setup) (asked : Asked) (start : List Entered) → Reads sight setup asked start self.old.entries.items self.old.session.running (told_by self.old.place answer.old)
+            → IfTells asked (moved taken.now self.old.readings.value) (IsToldOf sight setup asked start self.old.entries.items)
+            → Reads sight setup asked start self.new.entries.items self.new.session.running (told_by self.new.place answer.new) }
         ensures kept { Extends self.old.entries.items self.new.entries.items }
-        ensures served { (first last : ℕ) (start : List Entered) → AreServed self.old.name first last start self.old.entries.items → AreServed self.old.name first last start self.new.entries.items }
+        ensures served { (first last : ℕ) (start : List Entered) → AreServed (sight_of self.old.name self.old.seen) first last start self.old.entries.items → AreServed (sight_of self.old.name self.new.seen) first last start self.new.entries.items }
+        ensures seen { self.new.seen ≡ self.old.seen }
         ensures name { self.new.name ≡ self.old.name }
         ensures first { self.new.first ≡ self.old.first }
     {
@@ -488,6 +510,7 @@ impl<'a, G: Gate> RunningOperation<'a, G> {
         ensures room { self.old.entries.room + spare self.new.place ≤ self.new.entries.room + spare self.old.place }
         ensures entered { (start : List Entered) → Follows start None self.old.entries.items → Follows start (Some answer.now) self.new.entries.items }
         ensures kept { Extends self.old.entries.items self.new.entries.items }
+        ensures seen { self.new.seen ≡ self.old.seen }
         ensures name { self.new.name ≡ self.old.name }
         ensures first { self.new.first ≡ self.old.first }
     {
@@ -505,6 +528,7 @@ impl<'a, G: Gate> RunningOperation<'a, G> {
         ensures session { self.new.session ≡ self.old.session }
         ensures place { self.new.place ≡ self.old.place }
         ensures fault { self.new.fault ≡ self.old.fault }
+        ensures seen { self.new.seen ≡ self.old.seen }
         ensures name { self.new.name ≡ self.old.name }
         ensures first { self.new.first ≡ self.old.first }
     {
@@ -516,7 +540,7 @@ impl<'a, G: Gate> RunningOperation<'a, G> {
         requires { HasRoom (calls_waiting self.old.session.running) self.old.queues }
         ensures room { (calls : ℕ) → HasRoom (calls_waiting self.old.session.running + calls) self.old.queues → HasRoom calls self.new.queues }
         ensures sent { self.new.queues.sent ≡ self.old.queues.sent + calls_waiting self.old.session.running }
-        ensures rest { (self.new.name ≡ self.old.name) × (self.new.session ≡ self.old.session) × (self.new.entries ≡ self.old.entries) × (self.new.first ≡ self.old.first) × (self.new.place ≡ self.old.place) × (self.new.fault ≡ self.old.fault) × (self.new.readings ≡ self.old.readings) }
+        ensures rest { (self.new.name ≡ self.old.name) × (self.new.session ≡ self.old.session) × (self.new.entries ≡ self.old.entries) × (self.new.first ≡ self.old.first) × (self.new.place ≡ self.old.place) × (self.new.fault ≡ self.old.fault) × (self.new.readings ≡ self.old.readings) × (self.new.seen ≡ self.old.seen) }
     {
         self.stage_calls(commits);
         self.queues.dispatch(rt)
@@ -529,7 +553,7 @@ impl<'a, G: Gate> RunningOperation<'a, G> {
         ensures all { self.new.queues.sent ≡ self.old.queues.sent + calls_waiting self.old.session.running }
         ensures staged { (setup : Setup) (asked : Asked) (taken : List Sent) (running : Running) → self.old.session.running ≡ Some running → RunningStands setup asked taken running
             → AreStagedBehind self.old.name self.old.queues.parts (self.old.first + 1 + self.old.queues.sent) (map (call_message self.old.name.client self.old.session.ticket) (waiting_calls setup asked taken)) self.old.queues.calls.items self.new.queues.calls.items }
-        ensures rest { (self.new.name ≡ self.old.name) × (self.new.session ≡ self.old.session) × (self.new.entries ≡ self.old.entries) × (self.new.first ≡ self.old.first) × (self.new.place ≡ self.old.place) × (self.new.fault ≡ self.old.fault) × (self.new.readings ≡ self.old.readings) }
+        ensures rest { (self.new.name ≡ self.old.name) × (self.new.session ≡ self.old.session) × (self.new.entries ≡ self.old.entries) × (self.new.first ≡ self.old.first) × (self.new.place ≡ self.old.place) × (self.new.fault ≡ self.old.fault) × (self.new.readings ≡ self.old.readings) × (self.new.seen ≡ self.old.seen) }
     {
         let count = self.session.pending_calls().unwrap();
         for nth in 0..count {
@@ -547,7 +571,7 @@ impl<'a, G: Gate> RunningOperation<'a, G> {
         ensures parts { self.new.queues.parts ≡ self.old.queues.parts }
         ensures staged { (setup : Setup) (asked : Asked) (taken : List Sent) (running : Running) → self.old.session.running ≡ Some running → RunningStands setup asked taken running
             → IsStagedNext self.old.name self.old.queues.parts (self.old.first + 1 + self.old.queues.sent) (slice_get (map (call_message self.old.name.client self.old.session.ticket) (waiting_calls setup asked taken)) nth) self.old.queues.calls.items self.new.queues.calls.items }
-        ensures rest { (self.new.name ≡ self.old.name) × (self.new.session ≡ self.old.session) × (self.new.entries ≡ self.old.entries) × (self.new.first ≡ self.old.first) × (self.new.place ≡ self.old.place) × (self.new.fault ≡ self.old.fault) × (self.new.readings ≡ self.old.readings) }
+        ensures rest { (self.new.name ≡ self.old.name) × (self.new.session ≡ self.old.session) × (self.new.entries ≡ self.old.entries) × (self.new.first ≡ self.old.first) × (self.new.place ≡ self.old.place) × (self.new.fault ≡ self.old.fault) × (self.new.readings ≡ self.old.readings) × (self.new.seen ≡ self.old.seen) }
     {
         let mut message = self.queues.take_box(commits);
         let is_made = self.session.call_over(self.name.client, nth, &mut message);
@@ -560,7 +584,7 @@ impl<'a, G: Gate> RunningOperation<'a, G> {
         requires { HasRoom (length (ending (moved taken.now self.old.readings.value))) self.old.queues }
         ensures room { (calls : ℕ) → HasRoom (length (ending (moved taken.now self.old.readings.value)) + calls) self.old.queues → HasRoom calls self.new.queues }
         ensures sent { (told : List Shown) → self.new.queues.sent ≡ self.old.queues.sent + length (ending (moved taken.now told)) }
-        ensures rest { (self.new.name ≡ self.old.name) × (self.new.session ≡ self.old.session) × (self.new.entries ≡ self.old.entries) × (self.new.first ≡ self.old.first) × (self.new.place ≡ self.old.place) × (self.new.fault ≡ self.old.fault) × (self.new.readings ≡ self.old.readings) }
+        ensures rest { (self.new.name ≡ self.old.name) × (self.new.session ≡ self.old.session) × (self.new.entries ≡ self.old.entries) × (self.new.first ≡ self.old.first) × (self.new.place ≡ self.old.place) × (self.new.fault ≡ self.old.fault) × (self.new.readings ≡ self.old.readings) × (self.new.seen ≡ self.old.seen) }
     {
         if !taken.has_ending(0) {
             return true;
@@ -575,7 +599,7 @@ impl<'a, G: Gate> RunningOperation<'a, G> {
         ensures room { (calls : ℕ) → HasRoom (length (ending (moved taken.now self.old.readings.value)) + calls) self.old.queues → HasRoom calls self.new.queues }
         ensures all { (told : List Shown) → self.new.queues.sent ≡ self.old.queues.sent + length (ending (moved taken.now told)) }
         ensures staged { (told : List Shown) → AreStagedBehind self.old.name self.old.queues.parts (self.old.first + 1 + self.old.queues.sent) (map (call_message self.old.name.client ticket) (ending (moved taken.now told))) self.old.queues.calls.items self.new.queues.calls.items }
-        ensures rest { (self.new.name ≡ self.old.name) × (self.new.session ≡ self.old.session) × (self.new.entries ≡ self.old.entries) × (self.new.first ≡ self.old.first) × (self.new.place ≡ self.old.place) × (self.new.fault ≡ self.old.fault) × (self.new.readings ≡ self.old.readings) }
+        ensures rest { (self.new.name ≡ self.old.name) × (self.new.session ≡ self.old.session) × (self.new.entries ≡ self.old.entries) × (self.new.first ≡ self.old.first) × (self.new.place ≡ self.old.place) × (self.new.fault ≡ self.old.fault) × (self.new.readings ≡ self.old.readings) × (self.new.seen ≡ self.old.seen) }
     {
         for nth in 0..MOST_CALLS as u32 {
             if !taken.has_ending(nth) {
@@ -594,7 +618,7 @@ impl<'a, G: Gate> RunningOperation<'a, G> {
         ensures counted { self.new.queues.sent ≡ self.old.queues.sent + 1 }
         ensures parts { self.new.queues.parts ≡ self.old.queues.parts }
         ensures staged { (told : List Shown) → IsStagedNext self.old.name self.old.queues.parts (self.old.first + 1 + self.old.queues.sent) (slice_get (map (call_message self.old.name.client ticket) (ending (moved taken.now told))) nth) self.old.queues.calls.items self.new.queues.calls.items }
-        ensures rest { (self.new.name ≡ self.old.name) × (self.new.session ≡ self.old.session) × (self.new.entries ≡ self.old.entries) × (self.new.first ≡ self.old.first) × (self.new.place ≡ self.old.place) × (self.new.fault ≡ self.old.fault) × (self.new.readings ≡ self.old.readings) }
+        ensures rest { (self.new.name ≡ self.old.name) × (self.new.session ≡ self.old.session) × (self.new.entries ≡ self.old.entries) × (self.new.first ≡ self.old.first) × (self.new.place ≡ self.old.place) × (self.new.fault ≡ self.old.fault) × (self.new.readings ≡ self.old.readings) × (self.new.seen ≡ self.old.seen) }
     {
         let mut message = self.queues.take_box(false);
         let is_made = taken.ending_into(self.name.client, ticket, nth, &mut message);
@@ -610,9 +634,9 @@ impl<'a, G: Gate> RunningOperation<'a, G> {
         ensures counted { self.new.queues.sent ≡ self.old.queues.sent + 1 }
         ensures parts { self.new.queues.parts ≡ self.old.queues.parts }
         ensures staged { IsStagedNext self.old.name self.old.queues.parts (self.old.first + 1 + self.old.queues.sent) (Some (without_reply message.value)) self.old.queues.calls.items self.new.queues.calls.items }
-        ensures rest { (self.new.name ≡ self.old.name) × (self.new.session ≡ self.old.session) × (self.new.entries ≡ self.old.entries) × (self.new.first ≡ self.old.first) × (self.new.place ≡ self.old.place) × (self.new.fault ≡ self.old.fault) × (self.new.readings ≡ self.old.readings) }
+        ensures rest { (self.new.name ≡ self.old.name) × (self.new.session ≡ self.old.session) × (self.new.entries ≡ self.old.entries) × (self.new.first ≡ self.old.first) × (self.new.place ≡ self.old.place) × (self.new.fault ≡ self.old.fault) × (self.new.readings ≡ self.old.readings) × (self.new.seen ≡ self.old.seen) }
     {
         let number = self.first + 1 + self.queues.sent() as u64;
-        self.queues.stage(&self.name, number, message);
+        self.queues.stage(&self.name, number, message, &self.seen);
     }
 }

@@ -6,7 +6,7 @@ ghost use Rattle.hub.specs.Limits.{max_calls};
 ghost use Rattle.hub.specs.Operations.{IsLater, IsOperation, ReportsList, ReportsRead, ReportsWrite};
 ghost use Rattle.hub.specs.Replies.{IfDone, IsDrawn, IsToldFor};
 ghost use Rattle.hub.specs.Requests.{act_of};
-ghost use Rattle.hub.specs.Seats.{SeatView, Extends, IsEntered, IsNamed, begun_entries, is_unbegun};
+ghost use Rattle.hub.specs.Seats.{SeatView, Extends, IsEntered, IsNamed, begun_entries, is_unbegun, sight};
 ghost use Rattle.hub.specs.Taken.{replies_in};
 ghost use Rattle.shard.specs.Jobs.{refusal_of};
 
@@ -16,6 +16,7 @@ use crate::operation::{RunningOperation, tell_refusal};
 use crate::register::Departure;
 use crate::seat_request::SeatRequest;
 use closed_store::{Entry, EntryList, Transcript};
+use history::{Front, Naming};
 use plain_store::{Answer, Readings, Refusal};
 use shard::{Fault, Gate, SeatName};
 use stamps::{Counter, Item, Key, Tag};
@@ -29,7 +30,7 @@ const LAST_CALL: u64 = (1 << 62) - 128;
 
 /// The resources of a seat: its queue endpoints, its client's open session, and a buffer for what is read.
 #[derive(Drop)]
-pub(crate) struct Ends<'a, G> {
+pub(crate) struct Ends<'a, G: Naming> {
     pub(crate) queues: Dispatcher<'a, G>,
     pub(crate) session: ClientSession,
     pub(crate) readings: Box<Readings>,
@@ -42,7 +43,7 @@ pub(crate) struct Ends<'a, G> {
 ///
 /// A Seat that is dropped without `end` or `abandon` leaves its client's session open, and gives no transcript.
 #[derive(Drop)]
-pub struct Seat<'a, G> {
+pub struct Seat<'a, G: Naming> {
     pub(crate) hub: &'a Hub<G>,
     operation: RunningOperation<'a, G>,
     ticket: u64,
@@ -50,23 +51,24 @@ pub struct Seat<'a, G> {
     ghost answered: { stopped ≡ false → awaited operation.queues ≡ 0 },
 }
 
-impl<'a, G> Model for Seat<'a, G> {
+impl<'a, G: Naming> Model for Seat<'a, G> {
     ghost use Rattle.hub.specs.Seats.{SeatView};
 
     ghost Value = { SeatView };
 
-    ghost view = { λ s. record { name = s.operation.name; stopped = s.stopped; sent = s.operation.first; counter = s.operation.session.counter; parts = s.hub.now.parts; entries = s.operation.entries.items } };
+    ghost view = { λ s. record { name = s.operation.name; stopped = s.stopped; sent = s.operation.first; counter = s.operation.session.counter; parts = s.hub.now.parts; entries = s.operation.entries.items; seen = s.operation.seen } };
 }
 
-impl<'a, G: Gate> Seat<'a, G> {
+impl<'a, G: Gate + Naming> Seat<'a, G> {
     pub(crate) fn new(
         hub: &'a Hub<G>,
         name: SeatName,
         ticket: u64,
         ends: Ends<'a, G>,
-        alloc: Global,
+        seen: Front<G>,
     ) -> Seat<'a, G>
-        ensures { (result.name ≡ name) × (result.stopped ≡ false) × (result.sent ≡ 0) × (result.counter ≡ ends.entry.session.counter) × (result.parts ≡ hub.now.parts) × (result.entries ≡ []) }
+        ensures seen { result.seen ≡ seen }
+        ensures rest { (result.name ≡ name) × (result.stopped ≡ false) × (result.sent ≡ 0) × (result.counter ≡ ends.entry.session.counter) × (result.parts ≡ hub.now.parts) × (result.entries ≡ []) }
     {
         let Ends {
             queues,
@@ -75,7 +77,7 @@ impl<'a, G: Gate> Seat<'a, G> {
         } = ends;
         Seat {
             hub,
-            operation: RunningOperation::new(alloc, name, queues, session, readings),
+            operation: RunningOperation::new(hub.alloc, name, queues, session, readings, seen),
             ticket,
             stopped: false,
         }
@@ -217,7 +219,7 @@ impl<'a, G: Gate> Seat<'a, G> {
         ensures stopped { (answer.new ≡ Answer.Refused Refusal.Stopped) ↔ (self.old.stopped ≡ true) }
         ensures past { (answer.new ≡ Answer.Refused Refusal.RowsUsed) ↔ ((self.old.stopped ≡ false) × (2 ^ 62 - 128 < self.old.sent)) }
         ensures later { IsLater max_calls self.old self.new }
-        ensures told { IsToldFor self.old.name self.old.parts (IsDrawn self.old.name.client self.old.counter self.new.counter) request.now answer.new (begun_entries self.old (act_of self.old.name.client request.now)) self.new.entries }
+        ensures told { IsToldFor (sight self.new) self.old.parts (IsDrawn self.old.name.client self.old.counter self.new.counter) request.now answer.new (begun_entries self.old (act_of self.old.name.client request.now)) self.new.entries }
         ensures few { replies_in self.new.entries ≤ replies_in self.old.entries + takes }
     {
         if let Some(refusal) = self.refuses() {
@@ -259,6 +261,7 @@ impl<'a, G: Gate> Seat<'a, G> {
         ensures stopped { self.new.stopped ≡ self.old.stopped }
         ensures sent { self.new.sent ≡ self.old.sent }
         ensures entries { self.new.entries ≡ self.old.entries }
+        ensures seen { self.new.seen ≡ self.old.seen }
         ensures counter { self.new.counter ≡ self.old.counter }
         ensures name { self.new.name ≡ self.old.name }
         ensures parts { self.new.parts ≡ self.old.parts }

@@ -1,9 +1,10 @@
 //! The threads of a hub, and how they are started.
 ghost use Rattle.std.specs.Prelude.{◌≡◌, ◌≤◌, ◌<◌, ◌+◌, ◌-◌, ◌^◌, [], All, length, map, vec_len, vec_capacity, IfErr, IfOk, OnOk};
 ghost use Rattle.std.specs.Arc.{arc_value};
-ghost use Rattle.hub.specs.Shards.{IsConfigOf, AreShardsFrom, partition_of};
+ghost use Rattle.hub.specs.Shards.{IsConfigOf, IsOpeningOf, AreShardsFrom, partition_of};
 
 use closed_store::Config;
+use history::{Front, Naming, PartitionWords, Tally};
 use partition::{Book, Counts, Journal};
 use shard::{
     Collector, Gate, JobReceiver, JobSender, KeepSettings, Shard, ShardConfig, Sink, WorkEnded,
@@ -13,6 +14,7 @@ use std::alloc::{AllocError, Global};
 use std::sync::{Arc, Wait};
 use std::thread;
 use std::thread::{Promise, PromisedHandle, Threads};
+use traced_book::TracedBook;
 
 /// Why no hub was opened. Nothing is left of it then.
 #[derive(Clone, Copy, Debug, PartialEq, Eq)]
@@ -88,17 +90,17 @@ pub fn collector_of(alloc: Global, config: &Config) -> Result<Arc<Collector>, Hu
 
 /// The lists of a hub in which something stands for each partition.
 #[derive(Drop)]
-pub struct PartitionLists {
-    pub shards: Vec<Arc<Shard>>,
-    pub queues: Vec<JobSender>,
+pub struct PartitionLists<G: Naming> {
+    pub shards: Vec<Arc<Shard<G>>>,
+    pub queues: Vec<JobSender<G>>,
     pub threads: Vec<Worker>,
     pub journals: Vec<Vec<Journal>>,
     pub counts: Vec<Counts>,
 }
 
-impl PartitionLists {
+impl<G: Naming> PartitionLists<G> {
     /// Empty lists with room for so many partitions. The one error is that an allocation failed.
-    pub fn of(alloc: Global, parts: usize) -> Result<PartitionLists, AllocError>
+    pub fn of(alloc: Global, parts: usize) -> Result<PartitionLists<G>, AllocError>
         ensures shards { IfOk result (λ lists. (lists.shards.items ≡ []) × (vec_len lists.shards ≡ 0) × (parts ≤ vec_capacity lists.shards)) }
         ensures queues { IfOk result (λ lists. (lists.queues.items ≡ []) × (vec_len lists.queues ≡ 0) × (parts ≤ vec_capacity lists.queues)) }
         ensures threads { IfOk result (λ lists. (vec_len lists.threads ≡ 0) × (parts ≤ vec_capacity lists.threads)) }
@@ -129,7 +131,7 @@ pub fn join_all<R: Threads>(rt: &R, threads: Vec<Worker>) -> EndedCount
 
 /// Starts a worker for each partition, with its shard and its queue. Where it fails, the threads started so far are in the lists.
 pub fn start_all<
-    G: Gate + Send + Sync + Drop + 'static,
+    G: Gate + Naming + Send + Sync + Drop + 'static,
     S: Sink + Send + Sync + Drop + 'static,
     R: Threads + Wait + Clone + Send + Drop + 'static,
 >(
@@ -139,11 +141,15 @@ pub fn start_all<
     gate: &Arc<G>,
     sink: &Arc<S>,
     collector: &Arc<Collector>,
-    lists: &mut PartitionLists,
+    words: &mut PartitionWords<G>,
+    seen: &Front<G>,
+    lists: &mut PartitionLists<G>,
 ) -> Result<(), HubFault>
     requires shards { vec_len lists.old.shards + config.now.parts ≤ vec_capacity lists.old.shards }
     requires queues { vec_len lists.old.queues + config.now.parts ≤ vec_capacity lists.old.queues }
     requires threads { vec_len lists.old.threads + config.now.parts ≤ vec_capacity lists.old.threads }
+    requires words { words.old.next ≡ 0 }
+    requires opened { IsOpeningOf config.now seen.now }
     ensures started { OnOk result (length lists.new.shards.items ≡ length lists.old.shards.items + config.now.parts) }
     ensures shards { OnOk result (lists.old.shards.items ≡ [] → AreShardsFrom config.now 0 lists.new.shards.items) }
     ensures queues { OnOk result (lists.old.queues.items ≡ [] → All (λ queue. (queue.capacity ≡ config.now.queue) × (queue.count ≡ 0)) lists.new.queues.items) }
@@ -153,7 +159,8 @@ pub fn start_all<
     ensures rest { (lists.new.journals ≡ lists.old.journals) × (lists.new.counts ≡ lists.old.counts) }
 {
     for partition in 0..config.parts {
-        let shard = shard_of(alloc, config, collector, partition)?;
+        let tally = words.take().unwrap();
+        let shard = shard_of(alloc, config, collector, partition, tally, seen)?;
         let (queue, tasks) = job_queue(alloc, config.queue as usize)?;
         let theirs = Arc::try_clone(&shard)?;
         let thread = start_worker(rt, tasks, theirs, gate, sink)?;
@@ -165,12 +172,16 @@ pub fn start_all<
 }
 
 /// The shard of a partition, whose book has no event yet. The one fault is that an allocation failed.
-fn shard_of(
+fn shard_of<G: Naming>(
     alloc: Global,
     config: &Config,
     collector: &Arc<Collector>,
     partition: u32,
-) -> Result<Arc<Shard>, HubFault>
+    tally: Tally<G>,
+    seen: &Front<G>,
+) -> Result<Arc<Shard<G>>, HubFault>
+    requires tally { (tally.key ≡ partition + 1) × (partition < 64) }
+    requires opened { IsOpeningOf config.now seen.now }
     ensures config { IfOk result (λ shard. IsConfigOf config.now partition (arc_value shard).config) }
     ensures refused { IfErr result (λ fault. fault ≡ HubFault.OutOfMemory) }
 {
@@ -183,18 +194,19 @@ fn shard_of(
         epoch: config.epoch,
     };
     let book = Book::open(alloc, config.limits.as_slice())?;
+    let book = TracedBook::new(book, partition, tally, seen.again());
     share(alloc, Shard::new(its, collector, book))
 }
 
 /// Starts the worker of this shard's partition, which takes these tasks.
 fn start_worker<
-    G: Gate + Send + Sync + Drop + 'static,
+    G: Gate + Naming + Send + Sync + Drop + 'static,
     S: Sink + Send + Sync + Drop + 'static,
     R: Threads + Wait + Clone + Send + Drop + 'static,
 >(
     rt: &R,
-    tasks: JobReceiver,
-    shard: Arc<Shard>,
+    tasks: JobReceiver<G>,
+    shard: Arc<Shard<G>>,
     gate: &Arc<G>,
     sink: &Arc<S>,
 ) -> Result<Worker, HubFault>

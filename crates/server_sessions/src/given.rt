@@ -9,7 +9,7 @@ ghost use Rattle.server_sessions.specs.Telling.{IsAnswered, IsPut};
 
 use crate::answer_counts::{AnswerCounts, Counted};
 use bytes::BytesMut;
-use hub::{Gate, Hub, Seat};
+use hub::{Gate, Hub, Naming, Seat};
 use line_protocol::{LINE_LIMIT, Request};
 use plain_store::{Answer, Refusal};
 use stamps::{Counter, Item, Keep};
@@ -80,7 +80,7 @@ pub(crate) fn tell_refusal(refusal: Refusal, answer: &mut Given)
 }
 
 /// Answers a request by a seat, and says whether it is answered. Newest: whether a put reads its keys first.
-pub(crate) fn ask_seat<G: Gate, H: Wait>(
+pub(crate) fn ask_seat<G: Gate + Naming, H: Wait>(
     rt: &H,
     hub: &Hub<G>,
     newest: bool,
@@ -119,7 +119,7 @@ pub(crate) fn ask_seat<G: Gate, H: Wait>(
 }
 
 // Answers a put by a seat.
-fn ask_put<G: Gate, H: Wait>(
+fn ask_put<G: Gate + Naming, H: Wait>(
     rt: &H,
     newest: bool,
     seat: &mut Seat<'_, G>,
@@ -138,9 +138,14 @@ fn ask_put<G: Gate, H: Wait>(
 // Sets how many versions a collection of this tenant keeps.
 #[cold]
 #[inline(never)]
-fn set_keep<G: Gate, H: Wait>(rt: &H, hub: &Hub<G>, tenant: u32, keep: Keep, answer: &mut Given)
-    ensures { answer.new
-        ≡ cond (nat_lt tenant (length hub.now.limits)) (KeepsSoMany keep) (Refused NoTenant) }
+fn set_keep<G: Gate + Naming, H: Wait>(
+    rt: &H,
+    hub: &Hub<G>,
+    tenant: u32,
+    keep: Keep,
+    answer: &mut Given,
+)
+    ensures { answer.new ≡ cond (nat_lt tenant (length hub.now.limits)) (KeepsSoMany keep) (Refused NoTenant) }
 {
     match hub.set_keep(rt, tenant, keep) {
         Ok(()) => answer.answer = Answer::Keeps(keep),

@@ -17,5 +17,5 @@ pub use line_session::{run_session, run_session_as};
 pub use listener::{Accept, Listener};
 pub use served::{Connections, Left};
 pub use server::Server;
-pub use serving::{Open, serve_connections};
+pub use serving::{Open, OpenHub, OpenSeat, serve_connections};
 pub use session_options::SessionOptions;

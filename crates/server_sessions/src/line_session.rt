@@ -19,7 +19,7 @@ use crate::answer_counts::{AnswerCounts, Counted};
 use crate::given::{Given, ask_seat, put_answer, tell_refusal};
 use crate::session_options::SessionOptions;
 use bytes::BytesMut;
-use hub::{Gate, Hub, Seat, Transcript};
+use hub::{Gate, Hub, Naming, Seat, Transcript};
 use line_protocol::{
     LINE_LIMIT, Lines, Name, Request, read_serve_line, tenant_number, write_bye, write_refusal,
 };
@@ -40,7 +40,7 @@ struct Terms<'s> {
 
 /// What answers the lines of one connection.
 #[derive(Drop)]
-struct Connection<'s, G> {
+struct Connection<'s, G: Naming> {
     alloc: Global,
     terms: Terms<'s>,
     seat: Option<Seat<'s, G>>,
@@ -63,7 +63,7 @@ enum SessionEnd {
 
 /// Answers the lines of one connection as [`run_session_as`] does, of a session without options: a line that can't be read
 /// is refused 40, and the session goes on, and a put reads nothing first.
-pub fn run_session<'s, G: Gate, H: Wait, R: Read, W: Write>(
+pub fn run_session<'s, G: Gate + Naming, H: Wait, R: Read, W: Write>(
     rt: &H,
     alloc: Global,
     hub: &'s Hub<G>,
@@ -98,7 +98,7 @@ pub fn run_session<'s, G: Gate, H: Wait, R: Read, W: Write>(
 /// Beside what the session came to stands the transcript of its seat, and `None` where none was opened. The fault is
 /// `Read` where a read failed, `ReadsUsed` after 2^62 reads, and `Write` where a write or a flush failed or a write took no
 /// byte: nothing is read or written then, and no line is answered. `OutOfMemory` comes before anything is read.
-pub fn run_session_as<'s, G: Gate, H: Wait, R: Read, W: Write>(
+pub fn run_session_as<'s, G: Gate + Naming, H: Wait, R: Read, W: Write>(
     rt: &H,
     alloc: Global,
     hub: &'s Hub<G>,
@@ -136,11 +136,9 @@ pub fn run_session_as<'s, G: Gate, H: Wait, R: Read, W: Write>(
 }
 
 // Ends the seat, if one was opened.
-fn end_seat<G: Gate, H: Wait>(rt: &H, seat: Option<Seat<'_, G>>) -> Option<Transcript>
-    ensures counter { option_map (λ t. t.counter) result
-        ≡ option_map (λ s. s.name.counter) seat.entry }
-    ensures entries { option_map (λ t. t.entries.items) result
-        ≡ option_map (λ s. s.entries) seat.entry }
+fn end_seat<G: Gate + Naming, H: Wait>(rt: &H, seat: Option<Seat<'_, G>>) -> Option<Transcript>
+    ensures counter { option_map (λ t. t.counter) result ≡ option_map (λ s. s.name.counter) seat.entry }
+    ensures entries { option_map (λ t. t.entries.items) result ≡ option_map (λ s. s.entries) seat.entry }
     ensures tenant { option_map (λ t. t.tenant) result ≡ seat_tenant seat.entry }
     ensures whole { IsOfSeat 0 seat.entry result }
 {
@@ -207,7 +205,7 @@ fn put_refusal(refusal: Refusal, out: &mut BytesMut)
 }
 
 // Answers lines until the session ends.
-fn answer_lines<'s, G: Gate, H: Wait, R: Read, W: Write>(
+fn answer_lines<'s, G: Gate + Naming, H: Wait, R: Read, W: Write>(
     rt: &H,
     hub: &'s Hub<G>,
     connection: &mut Connection<'s, G>,
@@ -271,7 +269,7 @@ fn ending_of(lines: &Lines) -> SessionEnd
 }
 
 // Answers the lines of a piece, until the session ends.
-fn answer_piece<'s, G: Gate, H: Wait, W: Write>(
+fn answer_piece<'s, G: Gate + Naming, H: Wait, W: Write>(
     rt: &H,
     hub: &'s Hub<G>,
     connection: &mut Connection<'s, G>,
@@ -313,7 +311,7 @@ fn answer_piece<'s, G: Gate, H: Wait, W: Write>(
 }
 
 // Answers the line that waits, if one does and its peer is still there. There is room for the next answer then.
-fn answer_waiting<'s, G: Gate, H: Wait, W: Write>(
+fn answer_waiting<'s, G: Gate + Naming, H: Wait, W: Write>(
     rt: &H,
     hub: &'s Hub<G>,
     connection: &mut Connection<'s, G>,
@@ -359,7 +357,7 @@ fn find_peer<W: Write>(out: &BytesMut, writer: &mut W) -> Result<(), RunFault>
 }
 
 // Answers a line.
-fn answer_next<'s, G: Gate, H: Wait, W: Write>(
+fn answer_next<'s, G: Gate + Naming, H: Wait, W: Write>(
     rt: &H,
     hub: &'s Hub<G>,
     connection: &mut Connection<'s, G>,
@@ -413,7 +411,7 @@ fn make_room<W: Write>(out: &mut BytesMut, writer: &mut W) -> Result<(), RunFaul
     Ok(())
 }
 
-impl<'s, G: Gate> Connection<'s, G> {
+impl<'s, G: Gate + Naming> Connection<'s, G> {
     // Answers a line in the connection's place. Where it ends the session instead, it is still to be answered.
     fn answer<H: Wait>(&mut self, rt: &H, hub: &'s Hub<G>, line: &[u8]) -> Option<SessionEnd>
         requires tenant { IsSeated self.old.seat self.old.terms.names.now }
@@ -571,7 +569,7 @@ impl<'s, G: Gate> Connection<'s, G> {
 
 // Answers a request by a connection's seat, and says whether it is answered. Where journals are cut, what the seat noted is
 // released.
-fn answer_by_seat<G: Gate, H: Wait>(
+fn answer_by_seat<G: Gate + Naming, H: Wait>(
     rt: &H,
     hub: &Hub<G>,
     newest: bool,
@@ -592,7 +590,7 @@ fn answer_by_seat<G: Gate, H: Wait>(
 }
 
 // Hands out what a seat noted, where journals are cut.
-fn drain_seat<G: Gate>(hub: &Hub<G>, seat: &mut Seat<'_, G>)
+fn drain_seat<G: Gate + Naming>(hub: &Hub<G>, seat: &mut Seat<'_, G>)
     ensures { IsDrained hub.now.epoch seat.old seat.new }
 {
     if hub.epoch() > 0 {

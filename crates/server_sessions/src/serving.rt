@@ -8,7 +8,7 @@ use crate::line_session::run_session_as;
 use crate::listener::Accept;
 use crate::served::Receipt;
 use crate::server::Server;
-use hub::{Gate, Hub};
+use hub::{Gate, Hub, Named, Naming, Seat};
 use line_protocol::Name;
 use std::alloc::Global;
 use std::io::{ErrorKind, Read};
@@ -22,6 +22,12 @@ use std::time::Clock;
 #[derive(Clone, Copy, Drop)]
 pub struct Open;
 
+/// A store at whose gate nobody is watched or held. J names its history.
+pub type OpenHub<J> = Hub<Named<J, Open>>;
+
+/// A client's session in it.
+pub type OpenSeat<'a, J> = Seat<'a, Named<J, Open>>;
+
 impl Gate for Open {
     fn pass(&self, _partition: u32, _nth: u64) {}
 
@@ -32,14 +38,12 @@ impl Gate for Open {
 /// by the server's options and the tenants of these names. Where the server is to stay, it ends when the input does, or can't be read; else nothing is
 /// read of it. When it returns, no connection is accepted any more, and these threads have ended. What they left the server
 /// reports.
-pub fn serve_connections<H: Threads + Wait + Clock + Sync, L: Accept + Sync, R: Read>(
-    rt: &H,
-    alloc: Global,
-    hub: &Hub<Open>,
-    names: &[Name],
-    server: &Server<L>,
-    reader: &mut R,
-)
+pub fn serve_connections<
+    J: Naming + Send + Sync,
+    H: Threads + Wait + Clock + Sync,
+    L: Accept + Sync,
+    R: Read,
+>(rt: &H, alloc: Global, hub: &OpenHub<J>, names: &[Name], server: &Server<L>, reader: &mut R)
     // No connection is accepted any more.
     ensures closed { L.is_closed (listener_of server.now) }
     ensures unread { stays_of server.now ≡ false → reader.new ≡ reader.old }
@@ -80,10 +84,10 @@ fn is_read_out<H: Wait, R: Read>(rt: &H, reader: &mut R) -> bool
 
 // Accepts connections until the server has no more, and serves each in a thread of its own. These threads have ended when
 // it returns.
-fn accept_all<H: Threads + Wait + Clock + Sync, L: Accept + Sync>(
+fn accept_all<J: Naming + Send + Sync, H: Threads + Wait + Clock + Sync, L: Accept + Sync>(
     rt: &H,
     alloc: Global,
-    hub: &Hub<Open>,
+    hub: &OpenHub<J>,
     names: &[Name],
     server: &Server<L>,
 )
@@ -118,10 +122,10 @@ fn accept_all<H: Threads + Wait + Clock + Sync, L: Accept + Sync>(
 
 // Answers one connection's lines. Its seat has ended before the stream is closed, so that its client may connect again
 // at once.
-fn serve_connection<H: Wait, L>(
+fn serve_connection<J: Naming, H: Wait, L>(
     rt: &H,
     alloc: Global,
-    hub: &Hub<Open>,
+    hub: &OpenHub<J>,
     names: &[Name],
     server: &Server<L>,
     entered: (usize, Arc<TcpStream>),

@@ -2,20 +2,20 @@
 ghost use Rattle.std.specs.Prelude.{◌≡◌, ◌-◌, ◌^◌, [], min, IfOk, IsTrue, vec_len, None, length};
 ghost use Rattle.server_status.specs.Reported.{AreChecksOf, AreClientRows, AreRefusalRows, AreRowsAt, AreRowsBefore, AreRowsBehind, IsReadOf, IsRowAt, IsRowOf};
 
-use hub::{Hub, TenantUsage};
+use hub::{Naming, TenantUsage};
 use line_protocol::Name;
 use server_metrics::{ClientRow, Readings, RefusalRow, Row};
-use server_sessions::{AnswerCounts, Listener, Open, Server};
+use server_sessions::{AnswerCounts, Listener, OpenHub, Server};
 use server_verdicts::{Known, Progress, Standing, progress_at};
 use stamps::Limits;
 use std::alloc::{AllocError, Global};
 use std::sync::Wait;
 
 /// What a status port reports of.
-#[derive(Clone, Copy)]
-pub struct Watched<'s> {
+#[derive(Drop)]
+pub struct Watched<'s, J: Naming> {
     /// The store.
-    pub hub: &'s Hub<Open>,
+    pub hub: &'s OpenHub<J>,
     /// The names of its tenants.
     pub names: &'s [Name],
     /// What serves its sessions.
@@ -28,7 +28,7 @@ pub struct Watched<'s> {
     pub version: &'static str,
 }
 
-impl<'s> Watched<'s> {
+impl<'s, J: Naming> Watched<'s, J> {
     /// Reads all that is reported, one partition after another, each under its own lock. It takes time for each tenant at each
     /// partition, and visits none of what they hold. It waits for no session, but where an epoch is being checked for that
     /// check. The one error is that an allocation failed.

@@ -4,6 +4,7 @@ ghost use Rattle.std.specs.Io.KnownBytes.{Keeps};
 ghost use Rattle.server_status.specs.Answered.{HasAnswered, IsAnswerTo, port_listener};
 
 use crate::reading::Watched;
+use hub::Naming;
 use server_metrics::{Asked, health_page, hear, metrics_page, pass_over, status_page, write_page};
 use server_sessions::{Accept, Listener, serve_connections};
 use std::alloc::{AllocError, Global};
@@ -31,13 +32,12 @@ pub struct StatusPort<L = Listener> {
 
 /// Serves the connections of a server as `serve_connections` does, and meanwhile answers the requests that come to a port, in a
 /// thread of its own. Where that can't be started, the port is closed, and the server goes on.
-pub fn serve_and_report<H: Threads + Wait + Clock + Sync, L: Accept + Sync, R: Read>(
-    rt: &H,
-    alloc: Global,
-    watched: &Watched<'_>,
-    port: &StatusPort<L>,
-    reader: &mut R,
-)
+pub fn serve_and_report<
+    J: Naming + Send + Sync,
+    H: Threads + Wait + Clock + Sync,
+    L: Accept + Sync,
+    R: Read,
+>(rt: &H, alloc: Global, watched: &Watched<'_, J>, port: &StatusPort<L>, reader: &mut R)
     // When it returns, no more requests are answered.
     ensures closed { L.is_closed (port_listener port.now) }
 {
@@ -78,7 +78,7 @@ impl<L> StatusPort<L> {
 
 impl<L: Accept> StatusPort<L> {
     /// Answers requests, one at a time, until it is closed.
-    fn serve<H: Wait + Clock>(&self, rt: &H, alloc: Global, watched: &Watched<'_>) {
+    fn serve<J: Naming, H: Wait + Clock>(&self, rt: &H, alloc: Global, watched: &Watched<'_, J>) {
         for _ in rt.forever() {
             match self.listener.accept() {
                 Ok(stream) => self.answer(rt, alloc, watched, &stream),
@@ -102,7 +102,13 @@ impl<L: Accept> StatusPort<L> {
 
     // Answers the request of a connection, and waits for its client to close it: a close behind unread bytes might lose the answer.
     // One that sends nothing, or takes too long, gets no answer, and so does one for whose answer an allocation failed.
-    fn answer<H: Wait>(&self, rt: &H, alloc: Global, watched: &Watched<'_>, stream: &TcpStream) {
+    fn answer<J: Naming, H: Wait>(
+        &self,
+        rt: &H,
+        alloc: Global,
+        watched: &Watched<'_, J>,
+        stream: &TcpStream,
+    ) {
         let patience = Some(Duration::from_secs(PATIENCE));
         if stream.set_read_timeout(patience).is_err()
             || stream.set_write_timeout(patience).is_err()
@@ -120,10 +126,10 @@ impl<L: Accept> StatusPort<L> {
 }
 
 // Reads a request and writes its answer. Says whether all of that was written.
-fn answer_one<H: Wait, R: Read, W: Write>(
+fn answer_one<J: Naming, H: Wait, R: Read, W: Write>(
     rt: &H,
     alloc: Global,
-    watched: &Watched<'_>,
+    watched: &Watched<'_, J>,
     reader: &mut R,
     writer: &mut W,
     is_over: &AtomicBool,
@@ -141,10 +147,10 @@ fn answer_one<H: Wait, R: Read, W: Write>(
 }
 
 // The page that answers a request. The one error is that an allocation failed.
-fn answer_to<H: Wait>(
+fn answer_to<J: Naming, H: Wait>(
     rt: &H,
     alloc: Global,
-    watched: &Watched<'_>,
+    watched: &Watched<'_, J>,
     asked: Asked,
 ) -> Result<String, AllocError>
     ensures { IfOk result (λ page. IsAnswerTo watched.now asked (string_bytes page)) }

@@ -20,12 +20,14 @@ use Rattle.partition.specs.declared.journal.Epoch.{Epoch}
 use Rattle.partition.specs.Events.{Event, event}
 use Rattle.partition.specs.Journals.{EachFollowsFrom, FollowsFrom, IsSoundFrom, IsLate, last_number, log_after, room_for}
 use Rattle.partition.specs.Accounts.{Account, IsCut, IsEntered, IsReplyInEpoch, account_room, base_at, base_in, before_at, events_at, events_in, room_in, new_account, next_account, with_event}
+use Rattle.history.specs.declared.entry.HistoryEntry.{HistoryEntry}
+use Rattle.history.specs.Entries.{StandsInHistory}
 use Rattle.shard.specs.declared.jobs.Fault.{Fault}
 use Rattle.shard.specs.declared.jobs.Fault.TheVariants.{NoTenant, Late}
 use Rattle.shard.specs.declared.jobs.PlacedReply.{PlacedReply as Answered}
 use Rattle.shard.specs.Homes.{HasHome}
 use Rattle.shard.specs.Journals.{WasCut}
-use Rattle.shard.specs.Journals.{AreOf, IsServedIn, CameSo}
+use Rattle.shard.specs.Journals.{AreOf, CameSo, IsServedIn, served_call}
 use Rattle.shard.proofs.Homed.{all_snoc}
 
 -- a journal is sound from its base, which is one of its own limits
@@ -113,36 +115,21 @@ module _ (parts partition : ℕ) (old new : List Account) (tenant : ℕ) (e : Ev
         (λ account is all. (with_event account e, entered.own account is, all_snoc (λ (x : Event). HasHome x.call parts partition) account.events e all home));
   }
 
--- where the call was served, so is its reply
-pub served-of : (parts partition tenant seat number at place : ℕ) (old new : List Account) (call : Call) (reply : Option Reply) (outcome : Result ℕ Fault)
+-- where the call was served, its event is one more
+pub served-of : (parts partition tenant seat number place : ℕ) (old new : List Account) (call : Call) (reply : Option Reply) (outcome : Result ℕ Fault)
     → outcome ≡ Ok place → (IsErrOf outcome NoTenant ↔ (length old ≤ tenant)) → (tenant < length old → (IsErrOf outcome Late ↔ IsLate (events_at old tenant) seat number))
     → IsSomeAnd reply (λ r. IsEntered old new tenant (event seat number call r)) → IsSomeAnd reply (λ r. IsReplyInEpoch old tenant call r)
-    → at ≡ before_at old tenant + length (events_at old tenant) + 1 → HasHome call parts partition → AreOf parts partition old
-    → AreOf parts partition new × IsSomeAnd reply (λ r. IsServedIn partition tenant seat number at call r)
-served-of parts partition tenant seat number at place old new call None outcome is there late entered told place_is home of = absurd entered
-served-of parts partition tenant seat number at place old new call (Some r) outcome is there late entered told place_is home of =
+    → HasHome call parts partition → AreOf parts partition old → AreOf parts partition new
+served-of parts partition tenant seat number place old new call None outcome is there late entered told home of = absurd entered
+served-of parts partition tenant seat number place old new call (Some r) outcome is there late entered told home of =
     let within : tenant < length old = omega (arith, λ (past : length old ≤ tenant). absent (there.1 past)) in
-    let after = entered-of parts partition old new tenant (event seat number call r) within entered told (λ l. in_time ((late within).1 l)) home of in
-    (after, record { parts = parts; before = old; after = new; journals = after; there = within; entered = entered; place = place_is })
+    entered-of parts partition old new tenant (event seat number call r) within entered told (λ l. in_time ((late within).1 l)) home of
   where
     absent : outcome ≡ Err NoTenant → ⊥
     absent was = cc (is, was)
 
     in_time : outcome ≡ Err Late → ⊥
     in_time was = cc (is, was)
-
--- the same of a message
-pub came-of : (parts partition tenant seat number place : ℕ) (old new : List Account) (before after : Message) (outcome : Result ℕ Fault) → outcome ≡ Ok place
-    → (IsErrOf outcome NoTenant ↔ (length old ≤ tenant)) → (tenant < length old → (IsErrOf outcome Late ↔ IsLate (events_at old tenant) seat number))
-    → IsSomeAnd after.reply (λ r. IsEntered old new tenant (event seat number before.call r)) → IsSomeAnd after.reply (λ r. IsReplyInEpoch old tenant before.call r)
-    → place ≡ before_at old tenant + length (events_at old tenant) + 1 → after ≡ record before { reply = after.reply } → HasHome before.call parts partition → ∥ AreOf parts partition old ∥₁
-    → ∥ AreOf parts partition new ∥₁ × CameSo partition tenant seat number after (Ok place)
-came-of parts partition tenant seat number place old new before after outcome is there late entered told place_is same home journals =
-    let both = λ (of : AreOf parts partition old).
-    served-of parts partition tenant seat number place place old new before.call after.reply outcome is there late entered told place_is home of in
-    let call : before.call ≡ after.call = ap (λ (m : Message). m.call) (sym same) in
-    let P : Call → Type 0 = λ k. IsSomeAnd after.reply (λ r. IsServedIn partition tenant seat number place k r) in
-    (∥∥₁_map journals (λ of. (both of).0), ∥∥₁_map journals (λ of. subst P call (both of).1))
 
 -- what holds of the journals of a partition does so under each name of it
 moved_to : (parts partition ours at : ℕ) (accounts : List Account) → parts ≡ ours → partition ≡ at → ∥ AreOf parts partition accounts ∥₁ → ∥ AreOf ours at accounts ∥₁
@@ -151,29 +138,46 @@ moved_to parts partition ours at accounts same here journals =
     let Q : ℕ → Type 0 = λ n. ∥ AreOf ours n accounts ∥₁ in
     subst Q here (subst P same journals)
 
--- and of a call that came to its partition
-pub came-here : (ours at parts partition tenant seat number place : ℕ) (old new : List Account) (before after : Message)
-    → (IsErrOf (Ok place) NoTenant ↔ (length old ≤ tenant)) → (tenant < length old → (IsErrOf (Ok place) Late ↔ IsLate (events_at old tenant) seat number))
-    → IsSomeAnd after.reply (λ r. IsEntered old new tenant (event seat number before.call r)) → IsSomeAnd after.reply (λ r. IsReplyInEpoch old tenant before.call r)
-    → place ≡ before_at old tenant + length (events_at old tenant) + 1 → after ≡ record before { reply = after.reply } → HasHome before.call parts partition
-    → (partition ≡ at) × (parts ≡ ours) → ∥ AreOf ours at old ∥₁ → ∥ AreOf ours at new ∥₁ × CameSo partition tenant seat number after (Ok place)
-came-here ours at parts partition tenant seat number place old new before after there late entered told place_is same home here journals =
-    let both = came-of parts partition tenant seat number place old new before after (Ok place) refl there late entered told place_is same home
-    (moved_to ours at parts partition old (sym here.1) (sym here.0) journals) in
-    (moved_to parts partition ours at new here.1 here.0 both.0, both.1)
-
--- and where it may not have been served
-pub came-or-not : (ours at parts partition tenant seat number : ℕ) (old new : List Account) (before after : Message) (result : Result ℕ Fault)
+-- the journals after a call that came to its partition, and may not have been served
+pub called-of : (ours at parts partition tenant seat number : ℕ) (old new : List Account) (call : Call) (reply : Option Reply) (result : Result ℕ Fault)
     → (IsErrOf result NoTenant ↔ (length old ≤ tenant)) → (tenant < length old → (IsErrOf result Late ↔ IsLate (events_at old tenant) seat number))
-    → IfOk result (λ _. IsSomeAnd after.reply (λ r. IsEntered old new tenant (event seat number before.call r)))
-    → IfOk result (λ _. IsSomeAnd after.reply (λ r. IsReplyInEpoch old tenant before.call r))
-    → IfOk result (λ place. place ≡ before_at old tenant + length (events_at old tenant) + 1) → IfOk result (λ _. after ≡ record before { reply = after.reply })
-    → OnErr result ((new ≡ old) × (after ≡ before)) → HasHome before.call parts partition
-    → (partition ≡ at) × (parts ≡ ours) → ∥ AreOf ours at old ∥₁ → ∥ AreOf ours at new ∥₁ × CameSo partition tenant seat number after result
-came-or-not ours at parts partition tenant seat number old new before after (Ok place) there late entered told place_is same unchanged home here journals =
-    came-here ours at parts partition tenant seat number place old new before after there late entered told place_is same home here journals
-came-or-not ours at parts partition tenant seat number old new before after (Err fault) there late entered told place_is same unchanged home here journals =
-    (subst (λ (xs : List Account). ∥ AreOf ours at xs ∥₁) (sym unchanged.0) journals, ∣ tt ∣₁)
+    → IfOk result (λ _. IsSomeAnd reply (λ r. IsEntered old new tenant (event seat number call r)))
+    → IfOk result (λ _. IsSomeAnd reply (λ r. IsReplyInEpoch old tenant call r))
+    → OnErr result (new ≡ old) → HasHome call parts partition
+    → (partition ≡ at) × (parts ≡ ours) → ∥ AreOf ours at old ∥₁ → ∥ AreOf ours at new ∥₁
+called-of ours at parts partition tenant seat number old new call reply (Ok place) there late entered told unchanged home here journals =
+    moved_to parts partition ours at new here.1 here.0
+    (∥∥₁_map (moved_to ours at parts partition old (sym here.1) (sym here.0) journals)
+    (served-of parts partition tenant seat number place old new call reply (Ok place) refl there late entered told home))
+called-of ours at parts partition tenant seat number old new call reply (Err fault) there late entered told unchanged home here journals =
+    subst (λ (xs : List Account). ∥ AreOf ours at xs ∥₁) (sym unchanged) journals
+
+-- a call that was served is an event of the journals, and stands in the history that was seen
+served-in : (seen : List HistoryEntry) (parts partition tenant seat number place : ℕ) (old new : List Account) (call : Call) (reply : Option Reply) → tenant < length old
+    → AreOf parts partition new → IsSomeAnd reply (λ r. IsEntered old new tenant (event seat number call r))
+    → place ≡ before_at old tenant + length (events_at old tenant) + 1 → IsSomeAnd reply (λ r. StandsInHistory seen (served_call partition tenant seat number call) place r)
+    → IsSomeAnd reply (λ r. IsServedIn seen partition tenant seat number place call r)
+served-in seen parts partition tenant seat number place old new call None there of entered at stands = absurd entered
+served-in seen parts partition tenant seat number place old new call (Some r) there of entered at stands =
+    record { parts = parts; before = old; after = new; journals = of; there = there; entered = entered; place = at; stands = stands }
+
+-- the same of a message with its reply in it, whose partition goes by three names
+pub came-so : (seen : List HistoryEntry) (ours at own parts partition tenant seat number place : ℕ) (old new : List Account) (before after : Message)
+    → (IsErrOf (Ok place) NoTenant ↔ (length old ≤ tenant)) → IsSomeAnd after.reply (λ r. IsEntered old new tenant (event seat number before.call r))
+    → place ≡ before_at old tenant + length (events_at old tenant) + 1 → after ≡ record before { reply = after.reply }
+    → IsSomeAnd after.reply (λ r. StandsInHistory seen (served_call own tenant seat number before.call) place r)
+    → (partition ≡ at) × (parts ≡ ours) → own ≡ at → ∥ AreOf ours at new ∥₁ → CameSo seen partition tenant seat number after (Ok place)
+came-so seen ours at own parts partition tenant seat number place old new before after there entered place_is same stands here its journals =
+    let within : tenant < length old = omega (arith, λ (past : length old ≤ tenant). absent (there.1 past)) in
+    let call : before.call ≡ after.call = ap (λ (m : Message). m.call) (sym same) in
+    let P : Call → Type 0 = λ k. IsSomeAnd after.reply (λ r. IsServedIn seen partition tenant seat number place k r) in
+    let S : ℕ → Type 0 = λ p. IsSomeAnd after.reply (λ r. StandsInHistory seen (served_call p tenant seat number before.call) place r) in
+    let stands_here : S partition = subst S (its ∙ sym here.0) stands in
+    ∥∥₁_map (moved_to ours at parts partition new (sym here.1) (sym here.0) journals)
+    (λ of. subst P call (served-in seen parts partition tenant seat number place old new before.call after.reply within of entered place_is stands_here))
+  where
+    absent : Ok place ≡ Err NoTenant → ⊥
+    absent was = cc
 
 -- what was answered without a message
 pub answered-of : (parts partition tenant seat number : ℕ) (old new : List Account) (call : Call) (result : Result Answered Fault)
@@ -190,6 +194,15 @@ answered-of parts partition tenant seat number old new call (Ok r) there late en
     in_time : Ok r ≡ Err Late → ⊥
     in_time was = cc
 answered-of parts partition tenant seat number old new call (Err f) there late entered told same home of = subst (λ (xs : List Account). AreOf parts partition xs) (sym same) of
+
+-- what stays where a call failed, seen otherwise
+pub stays_as : {X E A B : Type 0} (f : A → B) (x y : A) (result : Result X E) → OnErr result (x ≡ y) → OnErr result (f x ≡ f y)
+stays_as f x y (Ok value) same = tt
+stays_as f x y (Err e) same = ap f same
+
+pub stays_first : {X E : Type 0} (P Q : Type 0) (result : Result X E) → OnErr result (P × Q) → OnErr result P
+stays_first P Q (Ok value) both = tt
+stays_first P Q (Err e) both = both.0
 
 -- ---- a journal that is cut
 

@@ -1,6 +1,7 @@
 -- What a seat's call asks, on its way and as it is served.
 use Rattle.std.specs.Prelude.{◌≡◌, ℕ, None}
 use Rattle.plain_store.specs.declared.message.Message.{Message}
+use Rattle.history.specs.declared.rule.Naming.{Ghosts}
 use Rattle.shard.specs.declared.shard.CallState.TheVariants.{Pending}
 use Rattle.shard.specs.declared.shard.Staged.{Staged}
 use Rattle.shard.specs.declared.seat_call.SeatCall.{SeatCall}
@@ -19,7 +20,7 @@ pub record AskedCall : Type 0 where
   pub number : ℕ
   pub message : Message
 
-abbrev pub asked_of : SeatCall → AskedCall
+abbrev pub asked_of : {J : Type 0} {naming : Ghosts J} → SeatCall J naming → AskedCall
 asked_of call =
     record {
       partition = call.partition;
@@ -30,11 +31,11 @@ asked_of call =
       message = without_reply call.message.value;
     }
 
-abbrev pub asked_by : Staged → AskedCall
+abbrev pub asked_by : {J : Type 0} {naming : Ghosts J} → Staged J naming → AskedCall
 asked_by staged = asked_of staged.call
 
 -- the reply is to this call: to its seat, under its number, and in its message
-pub record IsReplyTo (call : SeatCall) (reply : SeatReply) : Type 0 where
+pub record IsReplyTo {J : Type 0} {naming : Ghosts J} (call : SeatCall J naming) (reply : SeatReply J naming) : Type 0 where
   pub partition : reply.partition ≡ call.partition
   pub tenant : reply.tenant ≡ call.tenant
   pub seat : reply.seat ≡ call.seat
@@ -42,6 +43,6 @@ pub record IsReplyTo (call : SeatCall) (reply : SeatReply) : Type 0 where
   pub message : without_reply reply.message.value ≡ without_reply call.message.value
 
 -- it is for this partition, one of so many, and is as it was staged
-abbrev pub IsOpenAt : (partition parts : ℕ) → Staged → Type 0
+abbrev pub IsOpenAt : {J : Type 0} {naming : Ghosts J} → (partition parts : ℕ) → Staged J naming → Type 0
 IsOpenAt partition parts staged =
     (staged.call.partition ≡ partition) × (staged.call.parts ≡ parts) × (staged.stage ≡ Pending)

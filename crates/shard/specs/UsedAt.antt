@@ -4,7 +4,6 @@ use Rattle.stamps.specs.Limits.{max_tenants}
 use Rattle.partition.specs.Accounts.{Account}
 use Rattle.partition.specs.Used.{IsUsageOf}
 use Rattle.shard.specs.Journals.{AreOf}
-use Rattle.shard.specs.declared.shard.ShardState.{ShardState}
 use Rattle.shard.specs.declared.usages.TenantUsage.{TenantUsage}
 
 -- so much does a tenant use that has this account and had so many collections
@@ -18,25 +17,29 @@ AreUsagesOf (account ∷ accounts) (count ∷ counts) (its ∷ usages) =
     IsUsed account count its × AreUsagesOf accounts counts usages
 AreUsagesOf _ _ _ = ⊥
 
--- this is the state of that partition, one of so many, with no more tenants than a store can have
-abbrev pub IsAt : ℕ → ℕ → ShardState → Type 0
-IsAt parts partition state = (state.parts ≡ parts) × (state.partition ≡ partition) × (length state.book ≤ max_tenants)
+-- a state with these numbers is that of this partition, one of so many, with no more tenants than a store can have
+abbrev pub IsAt : (parts partition its at : ℕ) → List Account → Type 0
+IsAt parts partition its at accounts = (its ≡ parts) × (at ≡ partition) × (length accounts ≤ max_tenants)
 
--- What stood behind a lock was not the state of that partition.
+-- What stood behind a lock was not the state of that partition: it was another one's, or of another number, or with more tenants.
 pub record WasNotAt (parts partition : ℕ) : Type 0 where
-  pub state : ShardState
-  pub elsewhere : IsAt parts partition state → ⊥
+  pub its : ℕ
+  pub at : ℕ
+  pub accounts : List Account
+  pub journals : ∥ AreOf its at accounts ∥₁
+  pub elsewhere : IsAt parts partition its at accounts → ⊥
 
 -- there was such a state
 abbrev pub WasElsewhere : ℕ → ℕ → Type 0
 WasElsewhere parts partition = ∥ WasNotAt parts partition ∥₁
 
--- The partition, one of so many, was in this state at one moment, and the numbers are those of this moment.
+-- The partition, one of so many, had these accounts and so many collections of each tenant at one moment, and the numbers are those of
+-- this moment.
 pub record WereUsedAt (parts partition : ℕ) (usages : List TenantUsage) : Type 0 where
-  pub state : ShardState
-  pub here : (state.parts ≡ parts) × (state.partition ≡ partition)
-  pub journals : AreOf parts partition state.book
-  pub of_each : AreUsagesOf state.book state.collections usages
+  pub accounts : List Account
+  pub collections : List ℕ
+  pub journals : AreOf parts partition accounts
+  pub of_each : AreUsagesOf accounts collections usages
 
 -- there was such a moment
 abbrev pub AreUsagesAt : ℕ → ℕ → List TenantUsage → Type 0

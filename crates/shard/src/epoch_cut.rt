@@ -1,20 +1,25 @@
 //! Epochs that a worker cuts.
 ghost use Rattle.std.specs.Prelude.{◌≡◌, ◌<◌, ◌≤◌, ◌+◌, ◌-◌, ◌*◌, ◌^◌, false, true, length, IfErr, IfOk, IfSome, IfNone, IsErrOf, IsTrue, OnErr};
 ghost use Rattle.partition.specs.Accounts.{IsCut, events_at};
+ghost use Rattle.traced_book.specs.Traced.{IsStretch};
 ghost use Rattle.shard.specs.Journals.{WasCut};
 ghost use Rattle.shard.specs.Rounds.{AreFewer, long_among};
 
 use crate::shard::{Shard, ShardState, is_full};
 use crate::sink::Sink;
+use history::{Front, Naming};
 use partition::Epoch;
 use std::sync::Wait;
 
 /// An epoch that was cut, with its journal's partition and tenant. It cannot be dropped: `hand_over` alone takes it.
-pub struct CutEpoch {
+pub struct CutEpoch<J: Naming> {
     partition: u32,
     tenant: u32,
     epoch: Epoch,
+    /// What was seen of the history: it has the epoch's events.
+    seen: Front<J>,
     ghost was_cut: { WasCut partition tenant epoch },
+    ghost stretch: { ∥ IsStretch seen partition tenant epoch.base epoch.events.items ∥₁ },
 }
 
 /// Why a journal was not cut.
@@ -39,18 +44,22 @@ pub struct Search {
 
 /// Cuts a tenant's journal, and answers its epoch, where it has at least so many events and can be cut now. It stays as it is
 /// where not.
-fn cut_long(state: &mut ShardState, tenant: u32, least: u32) -> Result<CutEpoch, Uncut>
-    requires { tenant < length state.old.book }
-    ensures cut { IfOk result (λ cut. IsCut state.old.book state.new.book tenant cut.epoch) }
+fn cut_long<J: Naming>(
+    state: &mut ShardState<J>,
+    tenant: u32,
+    least: u32,
+) -> Result<CutEpoch<J>, Uncut>
+    requires { tenant < length state.old.book.accounts }
+    ensures cut { IfOk result (λ cut. IsCut state.old.book.accounts state.new.book.accounts tenant cut.epoch) }
     ensures of_journal { IfOk result (λ cut. (cut.partition ≡ state.old.partition) × (cut.tenant ≡ tenant)) }
     ensures long { IfOk result (λ cut. least ≤ length cut.epoch.events.items) }
-    ensures short { IsErrOf result Uncut.Short → length (events_at state.old.book tenant) < least }
-    ensures refused { IsErrOf result Uncut.Refused → least ≤ length (events_at state.old.book tenant) }
-    ensures unchanged { OnErr result (state.new.book ≡ state.old.book) }
+    ensures short { IsErrOf result Uncut.Short → length (events_at state.old.book.accounts tenant) < least }
+    ensures refused { IsErrOf result Uncut.Refused → least ≤ length (events_at state.old.book.accounts tenant) }
+    ensures unchanged { OnErr result (state.new.book.accounts ≡ state.old.book.accounts) }
     ensures partition { state.new.partition ≡ state.old.partition }
     ensures collections { state.new.collections ≡ state.old.collections }
 {
-    if state.book.events(tenant) < least as u64 {
+    if state.book.book().events(tenant) < least as u64 {
         return Err(Uncut::Short);
     }
     match state.book.cut(tenant) {
@@ -58,23 +67,28 @@ fn cut_long(state: &mut ShardState, tenant: u32, least: u32) -> Result<CutEpoch,
             partition: state.partition,
             tenant,
             epoch,
+            seen: state.book.seen(),
         }),
         Err(_) => Err(Uncut::Refused),
     }
 }
 
 /// Cuts a tenant's journal, and answers its epoch, where it is full and can be cut now. It stays as it is where not.
-pub fn cut_full(state: &mut ShardState, tenant: u32, epoch: u32) -> Result<CutEpoch, Uncut>
-    ensures cut { IfOk result (λ cut. IsCut state.old.book state.new.book tenant cut.epoch) }
+pub fn cut_full<J: Naming>(
+    state: &mut ShardState<J>,
+    tenant: u32,
+    epoch: u32,
+) -> Result<CutEpoch<J>, Uncut>
+    ensures cut { IfOk result (λ cut. IsCut state.old.book.accounts state.new.book.accounts tenant cut.epoch) }
     ensures full { IfOk result (λ cut. (0 < epoch) × (2 * epoch ≤ length cut.epoch.events.items)) }
-    ensures short { IsErrOf result Uncut.Short → 0 < epoch → length (events_at state.old.book tenant) < 2 * epoch }
-    ensures refused { IsErrOf result Uncut.Refused → (0 < epoch) × (2 * epoch ≤ length (events_at state.old.book tenant)) }
+    ensures short { IsErrOf result Uncut.Short → 0 < epoch → length (events_at state.old.book.accounts tenant) < 2 * epoch }
+    ensures refused { IsErrOf result Uncut.Refused → (0 < epoch) × (2 * epoch ≤ length (events_at state.old.book.accounts tenant)) }
     ensures of_journal { IfOk result (λ cut. (cut.partition ≡ state.old.partition) × (cut.tenant ≡ tenant)) }
-    ensures unchanged { OnErr result (state.new.book ≡ state.old.book) }
+    ensures unchanged { OnErr result (state.new.book.accounts ≡ state.old.book.accounts) }
     ensures partition { state.new.partition ≡ state.old.partition }
     ensures collections { state.new.collections ≡ state.old.collections }
 {
-    if is_full(&state.book, epoch, tenant) {
+    if is_full(state.book.book(), epoch, tenant) {
         cut_long(state, tenant, epoch)
     } else {
         Err(Uncut::Short)
@@ -96,24 +110,24 @@ impl Search {
     /// Cuts the first journal, from where the search stands, that has at least so many events and can be cut now, and answers its
     /// epoch. The search goes on behind it, or is over.
     #[tactic(auto, using(crate::proofs::LongAmong::long_short, crate::proofs::LongAmong::long_refused))]
-    fn cut_next(&mut self, state: &mut ShardState, least: u32) -> Option<CutEpoch>
+    fn cut_next<J: Naming>(&mut self, state: &mut ShardState<J>, least: u32) -> Option<CutEpoch<J>>
         requires { 0 < least }
-        ensures cut { IfSome result (λ cut. IsCut state.old.book state.new.book cut.tenant cut.epoch) }
+        ensures cut { IfSome result (λ cut. IsCut state.old.book.accounts state.new.book.accounts cut.tenant cut.epoch) }
         ensures of_partition { IfSome result (λ cut. cut.partition ≡ state.old.partition) }
         ensures long { IfSome result (λ cut. least ≤ length cut.epoch.events.items) }
         ensures later { IfSome result (λ cut. (self.old.from ≤ cut.tenant) × (self.new.from ≡ cut.tenant + 1)) }
         // A journal that it passed over is short, where all could be cut; and it counts each that could not.
-        ensures passed { IfSome result (λ cut. self.new.refused ≡ 0 → AreFewer least state.old.book self.old.from cut.tenant) }
-        ensures none { IfNone result (self.new.refused ≡ 0 → AreFewer least state.old.book self.old.from (length state.old.book)) }
-        ensures counted { IfSome result (λ cut. self.new.refused ≡ long_among least state.old.book self.old.from (cut.tenant - self.old.from)) }
-        ensures all { IfNone result (self.new.refused ≡ long_among least state.old.book self.old.from (length state.old.book - self.old.from)) }
-        ensures unchanged { IfNone result (state.new.book ≡ state.old.book) }
+        ensures passed { IfSome result (λ cut. self.new.refused ≡ 0 → AreFewer least state.old.book.accounts self.old.from cut.tenant) }
+        ensures none { IfNone result (self.new.refused ≡ 0 → AreFewer least state.old.book.accounts self.old.from (length state.old.book.accounts)) }
+        ensures counted { IfSome result (λ cut. self.new.refused ≡ long_among least state.old.book.accounts self.old.from (cut.tenant - self.old.from)) }
+        ensures all { IfNone result (self.new.refused ≡ long_among least state.old.book.accounts self.old.from (length state.old.book.accounts - self.old.from)) }
+        ensures unchanged { IfNone result (state.new.book.accounts ≡ state.old.book.accounts) }
         ensures over { IfNone result (self.new.is_over ≡ true) }
         ensures going { IfSome result (λ _. self.new.is_over ≡ self.old.is_over) }
         ensures collections { state.new.collections ≡ state.old.collections }
     {
         let mut refused = 0;
-        for tenant in self.from..state.book.tenants() {
+        for tenant in self.from..state.book.book().tenants() {
             match cut_long(state, tenant, least) {
                 Ok(cut) => {
                     self.from = tenant + 1;
@@ -131,20 +145,21 @@ impl Search {
 }
 
 /// Hands an epoch that was cut to the sink.
-pub fn hand_over<S: Sink>(sink: &S, cut: CutEpoch)
+pub fn hand_over<J: Naming, S: Sink>(sink: &S, cut: CutEpoch<J>)
     ensures { S.has_taken sink.now cut.partition cut.tenant cut.epoch }
 {
     let CutEpoch {
         partition,
         tenant,
         epoch,
+        seen,
     } = cut;
-    sink.epoch(partition, tenant, epoch);
+    sink.epoch(partition, tenant, epoch, &seen);
 }
 
 /// Cuts each journal that has so many events, and hands its epoch to the sink once the lock is released. What could not be cut
 /// is tried again after the next task.
-pub fn cut_all<S: Sink, R: Wait>(rt: &R, shard: &Shard, sink: &S) -> Search
+pub fn cut_all<J: Naming, S: Sink, R: Wait>(rt: &R, shard: &Shard<J>, sink: &S) -> Search
     requires { 0 < shard.now.config.epoch }
     ensures over { result.is_over ≡ true }
 {

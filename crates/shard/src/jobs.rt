@@ -9,6 +9,7 @@ ghost use Rattle.shard.specs.Journals.{CameSo};
 use crate::seat_call::SeatCall;
 use crossbeam_channel::protocol::{Free, Lesson, Outcome, Protocol, Split};
 use crossbeam_channel::{Pass, RuledReceiver, RuledSender, Sender, bounded_with};
+use history::{Front, Naming};
 use plain_store::{Message, Refusal, Reply};
 use std::alloc::{AllocError, Global};
 use std::marker::Model;
@@ -49,27 +50,29 @@ pub struct PlacedReply {
 /// What came of one call of a seat: the event's place in the tenant's journal, and the message with its reply in it. It is in
 /// the box that the call came in.
 #[derive(Drop)]
-pub struct SeatReply {
+pub struct SeatReply<J: Naming> {
     pub tenant: u32,
     pub seat: u64,
     pub number: u64,
     pub partition: u32,
     pub outcome: Result<u64, Fault>,
     pub message: Box<Message>,
-    ghost came: { CameSo partition tenant seat number message.value outcome },
+    /// What was seen of the history: where the call was served, it stands there.
+    pub front: Front<J>,
+    ghost came: { CameSo front partition tenant seat number message.value outcome },
 }
 
 /// A call that the worker is to serve, and where its reply goes.
 #[derive(Drop)]
-pub struct Job {
-    pub call: SeatCall,
-    pub reply_to: Sender<SeatReply>,
+pub struct Job<J: Naming> {
+    pub call: SeatCall<J>,
+    pub reply_to: Sender<SeatReply<J>>,
 }
 
 /// What a worker is sent.
 #[derive(Drop)]
-pub enum Task {
-    Serve(Job),
+pub enum Task<J: Naming> {
+    Serve(Job<J>),
     /// Cut the journals that are long enough.
     Cut,
 }
@@ -77,7 +80,7 @@ pub enum Task {
 /// The rule of every queue. Each end's pass counts the tasks that were sent or taken with it.
 pub struct Homed;
 
-impl Protocol<Task, u64> for Homed {
+impl<J: Naming> Protocol<Task<J>, u64> for Homed {
     ghost use Rattle.shard.specs.Jobs.{AreAtHome};
 
     ghost holds = { λ tasks views. AreAtHome tasks };
@@ -85,14 +88,14 @@ impl Protocol<Task, u64> for Homed {
     ghost first = { 0 };
 }
 
-impl Outcome<Task, u64> for Homed {
+impl<J: Naming> Outcome<Task<J>, u64> for Homed {
     ghost use Rattle.std.specs.Prelude.{◌≡◌, ◌+◌};
     ghost use Rattle.shard.specs.Jobs.{IsTaskAtHome};
 
     ghost then = { λ v task w. (w ≡ v + 1) × IsTaskAtHome task };
 }
 
-impl Lesson<Task, u64> for Homed {
+impl<J: Naming> Lesson<Task<J>, u64> for Homed {
     ghost use Rattle.std.specs.Prelude.{⊤};
 
     ghost fact = { λ v tasks. ⊤ };
@@ -104,24 +107,24 @@ impl Split<u64> for Homed {
     ghost right = { λ v. 0 };
 }
 
-type Sending = RuledSender<Task, u64, Homed>;
+type Sending<J> = RuledSender<Task<J>, u64, Homed>;
 
-type Receiving = RuledReceiver<Task, u64, Homed>;
+type Receiving<J> = RuledReceiver<Task<J>, u64, Homed>;
 
 /// An end that sends tasks, with its right to. A contract sees how many tasks its queue has room for, and how many this end sent.
-pub struct JobSender {
-    queue: Sending,
-    pass: Pass<Task, u64>,
+pub struct JobSender<J: Naming> {
+    queue: Sending<J>,
+    pass: Pass<Task<J>, u64>,
 }
 
 // What lies in it is released here, so that no crate above proves it anew.
-impl Drop for JobSender {
+impl<J: Naming> Drop for JobSender<J> {
     fn drop(self) {
         let JobSender { queue: _, pass: _ } = self;
     }
 }
 
-impl Model for JobSender {
+impl<J: Naming> Model for JobSender<J> {
     ghost Value = { QueueEnd };
 
     ghost view = { λ s. record { capacity = ruled_capacity (sends_on s.queue); count = tally s.pass } };
@@ -131,19 +134,19 @@ impl Model for JobSender {
 
 /// The end that a worker takes tasks from, with its right to. A contract sees how many tasks its queue has room for, and how
 /// many were taken.
-pub struct JobReceiver {
-    queue: Receiving,
-    pass: Pass<Task, u64>,
+pub struct JobReceiver<J: Naming> {
+    queue: Receiving<J>,
+    pass: Pass<Task<J>, u64>,
 }
 
 // What lies in it is released here, so that no crate above proves it anew.
-impl Drop for JobReceiver {
+impl<J: Naming> Drop for JobReceiver<J> {
     fn drop(self) {
         let JobReceiver { queue: _, pass: _ } = self;
     }
 }
 
-impl Model for JobReceiver {
+impl<J: Naming> Model for JobReceiver<J> {
     ghost Value = { QueueEnd };
 
     ghost view = { λ s. record { capacity = ruled_capacity (receives_on s.queue); count = tally s.pass } };
@@ -156,12 +159,17 @@ impl Model for JobReceiver {
 pub struct QueueOver(());
 
 /// A queue of at most `capacity` tasks.
-pub fn job_queue(alloc: Global, capacity: usize) -> Result<(JobSender, JobReceiver), AllocError>
+pub fn job_queue<J: Naming>(
+    alloc: Global,
+    capacity: usize,
+) -> Result<(JobSender<J>, JobReceiver<J>), AllocError>
     requires { 0 < capacity }
     ensures room { IfOk result (λ ends. (ends.0.capacity ≡ capacity) × (ends.1.capacity ≡ capacity)) }
     ensures none { IfOk result (λ ends. (ends.0.count ≡ 0) × (ends.1.count ≡ 0)) }
 {
-    let (sending, receiving, mut pass) = bounded_with::<Task, u64, Homed, Global>(alloc, capacity)?;
+    let (sending, receiving, mut pass) = bounded_with::<Task<J>, u64, Homed, Global>(
+        alloc, capacity,
+    )?;
     let other = sending.another::<Homed>(&mut pass);
     let sender = JobSender {
         queue: sending,
@@ -174,12 +182,12 @@ pub fn job_queue(alloc: Global, capacity: usize) -> Result<(JobSender, JobReceiv
     Ok((sender, receiver))
 }
 
-impl JobSender {
+impl<J: Naming> JobSender<J> {
     ghost use Rattle.std.specs.Prelude.{◌≡◌, ◌+◌, IfErr, IfOk, OnErr, OnOk};
     ghost use Rattle.shard.specs.Jobs.{IsTaskAtHome};
 
     /// Waits for room, and puts the task at the back. An `Err` hands the task back.
-    pub fn send<R: Wait>(&mut self, rt: &R, task: Task) -> Result<(), Task>
+    pub fn send<R: Wait>(&mut self, rt: &R, task: Task<J>) -> Result<(), Task<J>>
         requires { IsTaskAtHome task }
         ensures sent { OnOk result (self.new ≡ record self.old { count = self.old.count + 1 }) }
         ensures refused { IfErr result (λ back. back ≡ task) }
@@ -192,7 +200,7 @@ impl JobSender {
     }
 
     /// Another end that sends to the same queue, and has sent nothing.
-    pub fn another(&mut self) -> Result<JobSender, AllocError>
+    pub fn another(&mut self) -> Result<JobSender<J>, AllocError>
         ensures other { IfOk result (λ other. other ≡ unsent self.old) }
         ensures queue { self.new ≡ self.old }
     {
@@ -202,12 +210,12 @@ impl JobSender {
     }
 }
 
-impl JobReceiver {
+impl<J: Naming> JobReceiver<J> {
     ghost use Rattle.std.specs.Prelude.{◌≡◌, ◌+◌, IfOk, OnErr, OnOk};
     ghost use Rattle.shard.specs.Jobs.{IsTaskAtHome};
 
     /// Waits for a task, and takes it from the front. An `Err` once no end sends any more.
-    pub fn take<R: Wait>(&mut self, rt: &R) -> Result<Task, QueueOver>
+    pub fn take<R: Wait>(&mut self, rt: &R) -> Result<Task<J>, QueueOver>
         ensures home { IfOk result IsTaskAtHome }
         ensures taken { OnOk result (self.new ≡ record self.old { count = self.old.count + 1 }) }
         ensures over { OnErr result (self.new ≡ self.old) }

@@ -8,6 +8,7 @@ use crate::collector::Collector;
 use crate::jobs::Fault;
 use crate::keep_settings::TenantKeep;
 use crate::shard::{Shard, ShardConfig, ShardState, answer, is_full, is_long};
+use history::Naming;
 use plain_store::Call;
 use std::sync::Wait;
 
@@ -54,27 +55,27 @@ impl Round {
 
     /// Collects for the tenant whose turn it is, as seat 0, with its partition's lock held, and keeps as many versions as are set
     /// for it. One whose journal is full is left out until it was cut.
-    fn take_turn(
+    fn take_turn<J: Naming>(
         &mut self,
-        state: &mut ShardState,
+        state: &mut ShardState<J>,
         config: &ShardConfig,
         collector: &Collector,
         its: &TenantKeep,
     ) -> Result<(), Skipped>
         requires { its.now.tenant ≡ self.old.next }
         ensures next { self.new.next ≡ self.old.next + 1 }
-        ensures collected { OnOk result (IsCollected state.old.book state.new.book self.old.next its.now.keep) }
-        ensures full { IsErrOf result Skipped.Full → (0 < config.now.epoch) × (2 * config.now.epoch ≤ length (events_at state.old.book self.old.next)) }
-        ensures no_tenant { IsErrOf result (Skipped.Refused Fault.NoTenant) → length state.old.book ≤ self.old.next }
-        ensures unchanged { OnErr result ((state.new.book ≡ state.old.book) × (self.new.cuts ≡ self.old.cuts)) }
+        ensures collected { OnOk result (IsCollected state.old.book.accounts state.new.book.accounts self.old.next its.now.keep) }
+        ensures full { IsErrOf result Skipped.Full → (0 < config.now.epoch) × (2 * config.now.epoch ≤ length (events_at state.old.book.accounts self.old.next)) }
+        ensures no_tenant { IsErrOf result (Skipped.Refused Fault.NoTenant) → length state.old.book.accounts ≤ self.old.next }
+        ensures unchanged { OnErr result ((state.new.book.accounts ≡ state.old.book.accounts) × (self.new.cuts ≡ self.old.cuts)) }
         ensures counted { OnOk result (state.new.collections ≡ one_more state.old.collections self.old.next) }
         ensures uncounted { OnErr result (state.new.collections ≡ state.old.collections) }
-        ensures cuts { OnOk result (IsTrue self.new.cuts ↔ (IsTrue self.old.cuts ⊎ IsLongAt config.now.epoch state.new.book self.old.next)) }
-        ensures short { AreShort config.now.epoch state.old.book → AreShort config.now.epoch state.new.book }
+        ensures cuts { OnOk result (IsTrue self.new.cuts ↔ (IsTrue self.old.cuts ⊎ IsLongAt config.now.epoch state.new.book.accounts self.old.next)) }
+        ensures short { AreShort config.now.epoch state.old.book.accounts → AreShort config.now.epoch state.new.book.accounts }
     {
         self.next += 1;
         let tenant = its.tenant();
-        if is_full(&state.book, config.epoch, tenant) {
+        if is_full(state.book.book(), config.epoch, tenant) {
             return Err(Skipped::Full);
         }
         let Some(number) = collector.next_number() else {
@@ -84,7 +85,7 @@ impl Round {
         match answer(&mut state.book, COLLECTOR, number, tenant, &call) {
             Ok(_) => {
                 state.collections.count(tenant);
-                self.cuts = self.cuts || is_long(&state.book, config.epoch, tenant);
+                self.cuts = self.cuts || is_long(state.book.book(), config.epoch, tenant);
                 Ok(())
             }
             Err(fault) => Err(Skipped::Refused(fault)),
@@ -93,7 +94,7 @@ impl Round {
 }
 
 /// Collects for each tenant in turn, one lock for each: it keeps as many versions as are set when its turn comes.
-pub fn collect_at<R: Wait>(rt: &R, shard: &Shard) -> Round
+pub fn collect_at<J: Naming, R: Wait>(rt: &R, shard: &Shard<J>) -> Round
     ensures each { result.next ≡ shard.now.config.tenants }
 {
     let mut round = Round::new();

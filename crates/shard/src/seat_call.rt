@@ -2,12 +2,13 @@
 ghost use Rattle.std.specs.Prelude.{◌≡◌};
 ghost use Rattle.shard.specs.Homes.{HasHome};
 
+use history::{Front, Naming};
 use plain_store::Message;
 
 /// A seat's call on its way to its partition, which is the home of its key if it has one. A message is large, so it lies in a
 /// box: the reply is written into the same box.
 #[derive(Drop)]
-pub struct SeatCall {
+pub struct SeatCall<J: Naming> {
     pub partition: u32,
     pub parts: u32,
     pub tenant: u32,
@@ -16,5 +17,7 @@ pub struct SeatCall {
     /// Its number among the calls that arrive at the partition.
     pub arrival: u64,
     pub message: Box<Message>,
+    /// What its seat has seen of the history and, once it was served, that it was.
+    pub front: Front<J>,
     ghost at_home: { HasHome message.value.call parts partition },
 }

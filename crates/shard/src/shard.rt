@@ -1,10 +1,14 @@
 //! One partition, as all that serve there reach it: its book behind a lock, and the numbers of its calls.
-ghost use Rattle.std.specs.Prelude.{◌≡◌, ◌⊎◌, ◌<◌, ◌≤◌, ◌+◌, ◌-◌, ◌*◌, ◌^◌, ◌↔◌, ◌||◌, false, true, All, cond, map, min, nat_le, length, replicate, IfOk, IfSome, OnErr, IsErrOf, IsSomeAnd, IsTrue};
+ghost use Rattle.std.specs.Prelude.{◌≡◌, ◌⊎◌, ◌<◌, ◌≤◌, ◌+◌, ◌-◌, ◌*◌, ◌^◌, ◌↔◌, ◌||◌, false, true, All, List, cond, map, min, nat_le, length, replicate, IfOk, IfSome, OnErr, IsErrOf, IsSomeAnd, IsTrue};
 ghost use Rattle.std.specs.Sync.Mutex.{mutex_guard_value};
 ghost use Rattle.std.specs.VecDeque.{deque_capacity, deque_len};
 ghost use Rattle.partition.specs.Events.{event};
 ghost use Rattle.partition.specs.Journals.{IsLate};
 ghost use Rattle.partition.specs.Accounts.{before_at, events_at, IsEntered, IsReplyInEpoch};
+ghost use mathlib.Core.List.{IsPrefix};
+ghost use Rattle.history.specs.Entries.{StandsInHistory};
+ghost use Rattle.history.specs.Legal.{IsLegal};
+ghost use Rattle.traced_book.specs.Traced.{AreTraced};
 ghost use Rattle.shard.specs.Journals.{AreOf, CameSo, came_to};
 ghost use Rattle.shard.specs.Rounds.{AreShort, IsLongAt};
 ghost use Rattle.stamps.specs.Limits.{max_tenants};
@@ -15,13 +19,15 @@ use crate::counting::{LAST, next_number};
 use crate::gate::Gate;
 use crate::jobs::{Fault, PlacedReply};
 use crate::seat_call::SeatCall;
-use partition::Book;
+use history::{Front, Naming};
+use partition::{Book, Caller};
 use plain_store::{Call, Message, Refusal};
 use std::collections::VecDeque;
 use std::hint::spin_loop;
 use std::sync::atomic::AtomicU64;
 use std::sync::{Arc, Mutex, MutexGuard, Wait};
 use std::thread;
+use traced_book::TracedBook;
 
 /// How often a seat looks whether a lock is free before it lets other threads run, how long it waits in between, and how often it
 /// lets them run before it sleeps. A yield puts it behind all that are ready to run, so it looks for longer than most waits take.
@@ -50,10 +56,10 @@ pub struct ShardConfig {
 
 /// What stands behind a partition's lock: its book, whose journals are those of this partition.
 #[derive(Drop)]
-pub struct ShardState {
+pub struct ShardState<J: Naming> {
     /// The lock's word lies before it, and is written by those that wait.
     behind_lock: Gap,
-    pub book: Book,
+    pub book: TracedBook<J>,
     /// Which partition it is, of how many.
     pub partition: u32,
     pub parts: u32,
@@ -61,7 +67,8 @@ pub struct ShardState {
     events: u32,
     /// How many collections each tenant had here.
     pub collections: CollectionCounts,
-    ghost journals: { ∥ AreOf parts partition book ∥₁ },
+    ghost journals: { ∥ AreOf parts partition book.accounts ∥₁ },
+    ghost its: { book.partition ≡ partition },
 }
 
 /// What is left to be done once the lock is released.
@@ -75,14 +82,14 @@ pub struct FollowUp {
 
 /// One partition.
 #[derive(Drop)]
-pub struct Shard {
+pub struct Shard<J: Naming> {
     pub config: ShardConfig,
     pub collector: Arc<Collector>,
     /// What all threads only read lies before it.
     before_arrivals: Gap,
     arrivals: AtomicU64,
     behind_arrivals: Gap,
-    state: Mutex<ShardState>,
+    state: Mutex<ShardState<J>>,
 }
 
 /// How far a staged call has come.
@@ -97,10 +104,10 @@ pub enum CallState {
 
 /// A call of a seat's round. Where it was served, its reply is that of its place in the tenant's journal.
 #[derive(Drop)]
-pub struct Staged {
-    pub call: SeatCall,
+pub struct Staged<J: Naming> {
+    pub call: SeatCall<J>,
     pub stage: CallState,
-    ghost came: { CameSo call.partition call.tenant call.seat call.number call.message.value (came_to stage) },
+    ghost came: { CameSo call.front call.partition call.tenant call.seat call.number call.message.value (came_to stage) },
 }
 
 impl CallState {
@@ -127,12 +134,13 @@ impl FollowUp {
     }
 }
 
-impl Shard {
+impl<J: Naming> Shard<J> {
     ghost use Rattle.shard.specs.Held.{HasItsJournals};
 
     /// A partition with this book, whose journals are its own. What it begins with behind its lock is that of `ShardState::new`.
-    pub fn new(config: ShardConfig, collector: Arc<Collector>, book: Book) -> Shard
-        requires { ∥ AreOf config.parts config.partition book ∥₁ }
+    pub fn new(config: ShardConfig, collector: Arc<Collector>, book: TracedBook<J>) -> Shard<J>
+        requires journals { ∥ AreOf config.parts config.partition book.accounts ∥₁ }
+        requires its { book.partition ≡ config.partition }
         ensures { result.config ≡ config }
     {
         let state = Mutex::new(ShardState::new(&config, book));
@@ -155,14 +163,14 @@ impl Shard {
     }
 
     /// Takes the lock where it is free.
-    pub fn try_lock(&self) -> Option<MutexGuard<'_, ShardState>>
+    pub fn try_lock(&self) -> Option<MutexGuard<'_, ShardState<J>>>
         ensures { IfSome result (λ guard. HasItsJournals (mutex_guard_value guard)) }
     {
         self.state.try_lock()
     }
 
     /// Waits for the lock.
-    pub fn lock<R: Wait>(&self, rt: &R) -> MutexGuard<'_, ShardState>
+    pub fn lock<R: Wait>(&self, rt: &R) -> MutexGuard<'_, ShardState<J>>
         ensures { HasItsJournals (mutex_guard_value result) }
     {
         self.state.lock(rt)
@@ -170,7 +178,7 @@ impl Shard {
 
     /// Waits for the lock, and looks for a while before it sleeps: a partition is held for a microsecond or two, and a thread that
     /// slept is woken later than that, with the lock kept for it meanwhile.
-    pub fn lock_soon<R: Wait>(&self, rt: &R) -> MutexGuard<'_, ShardState>
+    pub fn lock_soon<R: Wait>(&self, rt: &R) -> MutexGuard<'_, ShardState<J>>
         ensures { HasItsJournals (mutex_guard_value result) }
     {
         for _ in 0..YIELDS {
@@ -183,7 +191,7 @@ impl Shard {
     }
 
     /// Takes the lock where it gets free within so many looks.
-    fn look(&self) -> Option<MutexGuard<'_, ShardState>>
+    fn look(&self) -> Option<MutexGuard<'_, ShardState<J>>>
         ensures { IfSome result (λ guard. HasItsJournals (mutex_guard_value guard)) }
     {
         for _ in 0..LOOKS {
@@ -199,9 +207,12 @@ impl Shard {
 
     /// The book, which no thread has any more. None where it is not this partition's, or has not so many tenants: what lies
     /// behind a lock is known only by its type.
-    pub fn into_book(self) -> Option<Book>
-        ensures journals { IfSome result (λ book. ∥ AreOf self.config.parts self.config.partition book ∥₁) }
-        ensures tenants { IfSome result (λ book. length book ≡ self.config.tenants) }
+    pub fn into_book(self) -> Option<(Book, Front<J>)>
+        ensures journals { IfSome result (λ parts. ∥ AreOf self.config.parts self.config.partition parts.0 ∥₁) }
+        ensures tenants { IfSome result (λ parts. length parts.0 ≡ self.config.tenants) }
+        // The book has what the history has of each tenant there.
+        ensures traced { IfSome result (λ parts. AreTraced parts.1 self.config.partition parts.0) }
+        ensures legal { IfSome result (λ parts. IsLegal parts.1) }
     {
         let Shard {
             config,
@@ -218,20 +229,21 @@ impl Shard {
             ..
         } = state.into_inner();
         let is_here = partition == config.partition && parts == config.parts;
-        if is_here && book.tenants() == config.tenants {
-            Some(book)
+        if is_here && book.book().tenants() == config.tenants {
+            Some(book.into_parts())
         } else {
             None
         }
     }
 }
 
-impl ShardState {
+impl<J: Naming> ShardState<J> {
     ghost use Rattle.shard.specs.Asked.{asked_by, asked_of, IsOpenAt};
 
     /// That of a partition with this book: no event of a seat came since a collection was due, and no tenant was collected.
-    fn new(config: &ShardConfig, book: Book) -> ShardState
-        requires { ∥ AreOf config.now.parts config.now.partition book ∥₁ }
+    fn new(config: &ShardConfig, book: TracedBook<J>) -> ShardState<J>
+        requires journals { ∥ AreOf config.now.parts config.now.partition book.accounts ∥₁ }
+        requires its { book.partition ≡ config.now.partition }
         ensures book { result.book ≡ book }
         ensures partition { (result.partition ≡ config.now.partition) × (result.parts ≡ config.now.parts) }
         ensures events { result.events ≡ 0 }
@@ -253,9 +265,9 @@ impl ShardState {
         &mut self,
         config: &ShardConfig,
         gate: &G,
-        calls: &mut VecDeque<Staged>,
+        calls: &mut VecDeque<Staged<J>>,
     ) -> FollowUp
-        ensures short { AreShort config.now.epoch self.old.book → AreShort config.now.epoch self.new.book }
+        ensures short { AreShort config.now.epoch self.old.book.accounts → AreShort config.now.epoch self.new.book.accounts }
         ensures calls { deque_len calls.new ≡ deque_len calls.old }
         ensures room { deque_capacity calls.new ≡ deque_capacity calls.old }
         // Each asks what it asked.
@@ -278,7 +290,7 @@ impl ShardState {
     }
 
     /// Whether this is the partition that the call is for.
-    fn is_home_of(&self, call: &SeatCall) -> bool
+    fn is_home_of(&self, call: &SeatCall<J>) -> bool
         ensures { IsTrue result ↔ ((call.now.partition ≡ self.now.partition) × (call.now.parts ≡ self.now.parts)) }
     {
         call.partition == self.partition && call.parts == self.parts
@@ -289,18 +301,18 @@ impl ShardState {
         &mut self,
         config: &ShardConfig,
         gate: &G,
-        staged: &mut Staged,
+        staged: &mut Staged<J>,
         follow_up: &mut FollowUp,
     )
         requires { (staged.old.call.partition ≡ self.old.partition) × (staged.old.call.parts ≡ self.old.parts) }
-        ensures short { AreShort config.now.epoch self.old.book → AreShort config.now.epoch self.new.book }
+        ensures short { AreShort config.now.epoch self.old.book.accounts → AreShort config.now.epoch self.new.book.accounts }
         ensures asked { asked_by staged.new ≡ asked_by staged.old }
-        ensures left { staged.new.stage ≡ CallState.Deferred → (0 < config.now.epoch) × (2 * config.now.epoch ≤ length (events_at self.old.book staged.old.call.tenant)) × (self.new.book ≡ self.old.book) }
+        ensures left { staged.new.stage ≡ CallState.Deferred → (0 < config.now.epoch) × (2 * config.now.epoch ≤ length (events_at self.old.book.accounts staged.old.call.tenant)) × (self.new.book.accounts ≡ self.old.book.accounts) }
         ensures served { staged.new.stage ≡ CallState.Pending → ⊥ }
         ensures partition { (self.new.partition ≡ self.old.partition) × (self.new.parts ≡ self.old.parts) }
         ensures collections { self.new.collections ≡ self.old.collections }
     {
-        if is_full(&self.book, config.epoch, staged.call.tenant) {
+        if is_full(self.book.book(), config.epoch, staged.call.tenant) {
             staged.stage = CallState::Deferred;
             return;
         }
@@ -313,18 +325,18 @@ impl ShardState {
         &mut self,
         config: &ShardConfig,
         gate: &G,
-        call: &mut SeatCall,
+        call: &mut SeatCall<J>,
         follow_up: &mut FollowUp,
     ) -> Result<u64, Fault>
-        ensures came { CameSo call.new.partition call.new.tenant call.new.seat call.new.number call.new.message.value result }
+        ensures came { CameSo call.new.front call.new.partition call.new.tenant call.new.seat call.new.number call.new.message.value result }
         ensures call { (call.new.partition ≡ call.old.partition) × (call.new.tenant ≡ call.old.tenant) × (call.new.seat ≡ call.old.seat) × (call.new.number ≡ call.old.number) }
         ensures asked { asked_of call.new ≡ asked_of call.old }
-        ensures entered { IfOk result (λ _. IsSomeAnd call.new.message.value.reply (λ r. IsEntered self.old.book self.new.book call.old.tenant (event call.old.seat call.old.number call.old.message.value.call r))) }
-        ensures no_tenant { call.old.partition ≡ self.old.partition → call.old.parts ≡ self.old.parts → (IsErrOf result Fault.NoTenant ↔ (length self.old.book ≤ call.old.tenant)) }
-        ensures place { IfOk result (λ place. place ≡ before_at self.old.book call.old.tenant + length (events_at self.old.book call.old.tenant) + 1) }
-        ensures late { call.old.partition ≡ self.old.partition → call.old.parts ≡ self.old.parts → call.old.tenant < length self.old.book → (IsErrOf result Fault.Late ↔ IsLate (events_at self.old.book call.old.tenant) call.old.seat call.old.number) }
-        ensures cuts { IfOk result (λ _. 0 < config.now.epoch → length (events_at self.new.book call.old.tenant) ≡ config.now.epoch → follow_up.new.cuts ≡ true) }
-        ensures unchanged { OnErr result (self.new.book ≡ self.old.book) }
+        ensures entered { IfOk result (λ _. IsSomeAnd call.new.message.value.reply (λ r. IsEntered self.old.book.accounts self.new.book.accounts call.old.tenant (event call.old.seat call.old.number call.old.message.value.call r))) }
+        ensures no_tenant { call.old.partition ≡ self.old.partition → call.old.parts ≡ self.old.parts → (IsErrOf result Fault.NoTenant ↔ (length self.old.book.accounts ≤ call.old.tenant)) }
+        ensures place { IfOk result (λ place. place ≡ before_at self.old.book.accounts call.old.tenant + length (events_at self.old.book.accounts call.old.tenant) + 1) }
+        ensures late { call.old.partition ≡ self.old.partition → call.old.parts ≡ self.old.parts → call.old.tenant < length self.old.book.accounts → (IsErrOf result Fault.Late ↔ IsLate (events_at self.old.book.accounts call.old.tenant) call.old.seat call.old.number) }
+        ensures cuts { IfOk result (λ _. 0 < config.now.epoch → length (events_at self.new.book.accounts call.old.tenant) ≡ config.now.epoch → follow_up.new.cuts ≡ true) }
+        ensures unchanged { OnErr result (self.new.book.accounts ≡ self.old.book.accounts) }
         ensures partition { (self.new.partition ≡ self.old.partition) × (self.new.parts ≡ self.old.parts) }
         ensures collections { self.new.collections ≡ self.old.collections }
     {
@@ -340,23 +352,23 @@ impl ShardState {
         &mut self,
         config: &ShardConfig,
         gate: &G,
-        call: &mut SeatCall,
+        call: &mut SeatCall<J>,
         follow_up: &mut FollowUp,
     ) -> Result<u64, Fault>
         requires { (call.old.partition ≡ self.old.partition) × (call.old.parts ≡ self.old.parts) }
-        ensures came { CameSo call.new.partition call.new.tenant call.new.seat call.new.number call.new.message.value result }
-        ensures no_tenant { IsErrOf result Fault.NoTenant ↔ (length self.old.book ≤ call.old.tenant) }
-        ensures entered { IfOk result (λ _. IsSomeAnd call.new.message.value.reply (λ r. IsEntered self.old.book self.new.book call.old.tenant (event call.old.seat call.old.number call.old.message.value.call r))) }
-        ensures place { IfOk result (λ place. place ≡ before_at self.old.book call.old.tenant + length (events_at self.old.book call.old.tenant) + 1) }
-        ensures late { call.old.tenant < length self.old.book → (IsErrOf result Fault.Late ↔ IsLate (events_at self.old.book call.old.tenant) call.old.seat call.old.number) }
-        ensures unchanged { OnErr result (self.new.book ≡ self.old.book) }
+        ensures came { CameSo call.new.front call.new.partition call.new.tenant call.new.seat call.new.number call.new.message.value result }
+        ensures no_tenant { IsErrOf result Fault.NoTenant ↔ (length self.old.book.accounts ≤ call.old.tenant) }
+        ensures entered { IfOk result (λ _. IsSomeAnd call.new.message.value.reply (λ r. IsEntered self.old.book.accounts self.new.book.accounts call.old.tenant (event call.old.seat call.old.number call.old.message.value.call r))) }
+        ensures place { IfOk result (λ place. place ≡ before_at self.old.book.accounts call.old.tenant + length (events_at self.old.book.accounts call.old.tenant) + 1) }
+        ensures late { call.old.tenant < length self.old.book.accounts → (IsErrOf result Fault.Late ↔ IsLate (events_at self.old.book.accounts call.old.tenant) call.old.seat call.old.number) }
+        ensures unchanged { OnErr result (self.new.book.accounts ≡ self.old.book.accounts) }
         ensures partition { (self.new.partition ≡ self.old.partition) × (self.new.parts ≡ self.old.parts) }
         ensures collections { self.new.collections ≡ self.old.collections }
         ensures call { (call.new.partition ≡ call.old.partition) × (call.new.tenant ≡ call.old.tenant) × (call.new.seat ≡ call.old.seat) × (call.new.number ≡ call.old.number) }
         ensures asked { asked_of call.new ≡ asked_of call.old }
-        ensures cuts { IfOk result (λ _. 0 < config.now.epoch → length (events_at self.new.book call.old.tenant) ≡ config.now.epoch → follow_up.new.cuts ≡ true) }
+        ensures cuts { IfOk result (λ _. 0 < config.now.epoch → length (events_at self.new.book.accounts call.old.tenant) ≡ config.now.epoch → follow_up.new.cuts ≡ true) }
         // where its journal was not full
-        ensures short { (0 < config.now.epoch → length (events_at self.old.book call.old.tenant) < 2 * config.now.epoch) → AreShort config.now.epoch self.old.book → AreShort config.now.epoch self.new.book }
+        ensures short { (0 < config.now.epoch → length (events_at self.old.book.accounts call.old.tenant) < 2 * config.now.epoch) → AreShort config.now.epoch self.old.book.accounts → AreShort config.now.epoch self.new.book.accounts }
     {
         gate.inside(self.partition, call.arrival);
         let place = serve_message(
@@ -364,13 +376,16 @@ impl ShardState {
             self.partition,
             call.arrival,
             &mut self.book,
-            call.seat,
-            call.number,
+            Caller {
+                seat: call.seat,
+                number: call.number,
+            },
             call.tenant,
             &mut call.message,
+            &mut call.front,
         )?;
         self.count(config, follow_up);
-        if is_long(&self.book, config.epoch, call.tenant) {
+        if is_long(self.book.book(), config.epoch, call.tenant) {
             follow_up.cuts = true;
         }
         Ok(place)
@@ -378,7 +393,7 @@ impl ShardState {
 
     /// Counts an event of a seat.
     fn count(&mut self, config: &ShardConfig, follow_up: &mut FollowUp)
-        ensures book { self.new.book ≡ self.old.book }
+        ensures book { self.new.book.accounts ≡ self.old.book.accounts }
         ensures partition { (self.new.partition ≡ self.old.partition) × (self.new.parts ≡ self.old.parts) }
         ensures collections { self.new.collections ≡ self.old.collections }
         ensures cuts { follow_up.new.cuts ≡ follow_up.old.cuts }
@@ -412,55 +427,66 @@ pub fn is_long(book: &Book, epoch: u32, tenant: u32) -> bool
 }
 
 /// Serves a call of a tenant that may not be there.
-pub fn answer(
-    book: &mut Book,
+pub fn answer<J: Naming>(
+    book: &mut TracedBook<J>,
     seat: u64,
     number: u64,
     tenant: u32,
     call: &Call,
 ) -> Result<PlacedReply, Fault>
-    ensures no_tenant { IsErrOf result Fault.NoTenant ↔ (length book.old ≤ tenant) }
-    ensures entered { IfOk result (λ r. IsEntered book.old book.new tenant (event seat number call.now r.reply)) }
-    ensures place { IfOk result (λ r. r.place ≡ before_at book.old tenant + length (events_at book.old tenant) + 1) }
-    ensures reply { IfOk result (λ r. IsReplyInEpoch book.old tenant call.now r.reply) }
-    ensures late { tenant < length book.old → (IsErrOf result Fault.Late ↔ IsLate (events_at book.old tenant) seat number) }
-    ensures unchanged { OnErr result (book.new ≡ book.old) }
+    ensures no_tenant { IsErrOf result Fault.NoTenant ↔ (length book.old.accounts ≤ tenant) }
+    ensures entered { IfOk result (λ r. IsEntered book.old.accounts book.new.accounts tenant (event seat number call.now r.reply)) }
+    ensures place { IfOk result (λ r. r.place ≡ before_at book.old.accounts tenant + length (events_at book.old.accounts tenant) + 1) }
+    ensures reply { IfOk result (λ r. IsReplyInEpoch book.old.accounts tenant call.now r.reply) }
+    ensures late { tenant < length book.old.accounts → (IsErrOf result Fault.Late ↔ IsLate (events_at book.old.accounts tenant) seat number) }
+    ensures partition { book.new.partition ≡ book.old.partition }
+    ensures unchanged { OnErr result (book.new.accounts ≡ book.old.accounts) }
 {
-    if tenant >= book.tenants() {
+    if tenant >= book.book().tenants() {
         return Err(Fault::NoTenant);
     }
-    match book.serve(seat, number, tenant, call) {
-        Ok((place, reply)) => Ok(PlacedReply { place, reply }),
+    let mut reply = None;
+    let mut evidence = book.seen();
+    let caller = Caller { seat, number };
+    match book.serve_into(caller, tenant, call, &mut reply, &mut evidence) {
+        Ok(place) => Ok(PlacedReply {
+            place,
+            reply: reply.unwrap(),
+        }),
         Err(Refusal::Late) => Err(Fault::Late),
         Err(_) => Err(Fault::OutOfMemory),
     }
 }
 
 /// Serves a message's call, of which the gate knows as call `nth` of its partition, with the reply written into the message where
-/// the last one lies. Answers its event's place in the journal.
-fn serve_message<G: Gate>(
+/// the last one lies. Answers its event's place in the journal. The evidence has seen then that it was served.
+fn serve_message<G: Gate, J: Naming>(
     _gate: &G,
     _partition: u32,
     _nth: u64,
-    book: &mut Book,
-    seat: u64,
-    number: u64,
+    book: &mut TracedBook<J>,
+    caller: Caller,
     tenant: u32,
     message: &mut Message,
+    evidence: &mut Front<J>,
 ) -> Result<u64, Fault>
     requires inside { G.is_inside _gate.now _partition _nth }
-    ensures no_tenant { IsErrOf result Fault.NoTenant ↔ (length book.old ≤ tenant) }
-    ensures entered { IfOk result (λ _. IsSomeAnd message.new.reply (λ r. IsEntered book.old book.new tenant (event seat number message.old.call r))) }
-    ensures place { IfOk result (λ place. place ≡ before_at book.old tenant + length (events_at book.old tenant) + 1) }
-    ensures reply { IfOk result (λ _. IsSomeAnd message.new.reply (λ r. IsReplyInEpoch book.old tenant message.old.call r)) }
+    ensures no_tenant { IsErrOf result Fault.NoTenant ↔ (length book.old.accounts ≤ tenant) }
+    ensures entered { IfOk result (λ _. IsSomeAnd message.new.reply (λ r. IsEntered book.old.accounts book.new.accounts tenant (event caller.seat caller.number message.old.call r))) }
+    ensures place { IfOk result (λ place. place ≡ before_at book.old.accounts tenant + length (events_at book.old.accounts tenant) + 1) }
+    ensures reply { IfOk result (λ _. IsSomeAnd message.new.reply (λ r. IsReplyInEpoch book.old.accounts tenant message.old.call r)) }
+    ensures served { IfOk result (λ place. IsSomeAnd message.new.reply (λ r. StandsInHistory evidence.new (record { partition = book.old.partition; tenant = tenant; seat = caller.seat; number = caller.number; call = message.old.call }) place r)) }
     ensures message { IfOk result (λ _. message.new ≡ record message.old { reply = message.new.reply }) }
-    ensures late { tenant < length book.old → (IsErrOf result Fault.Late ↔ IsLate (events_at book.old tenant) seat number) }
-    ensures unchanged { OnErr result ((book.new ≡ book.old) × (message.new ≡ message.old)) }
+    ensures asks { message.new.call ≡ message.old.call }
+    ensures evidence { IsPrefix evidence.old evidence.new }
+    ensures partition { book.new.partition ≡ book.old.partition }
+    ensures late { tenant < length book.old.accounts → (IsErrOf result Fault.Late ↔ IsLate (events_at book.old.accounts tenant) caller.seat caller.number) }
+    ensures unchanged { OnErr result ((book.new.accounts ≡ book.old.accounts) × (message.new ≡ message.old)) }
 {
-    if tenant >= book.tenants() {
+    if tenant >= book.book().tenants() {
         return Err(Fault::NoTenant);
     }
-    match book.serve_into(seat, number, tenant, &message.call, &mut message.reply) {
+    match book.serve_into(caller, tenant, &message.call, &mut message.reply, evidence) {
         Ok(place) => Ok(place),
         Err(Refusal::Late) => Err(Fault::Late),
         Err(_) => Err(Fault::OutOfMemory),

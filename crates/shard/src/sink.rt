@@ -1,8 +1,10 @@
 //! Where epochs go.
 ghost use Rattle.std.specs.Prelude.{ℕ};
 ghost use Rattle.partition.specs.declared.journal.Epoch.{Epoch as Cut};
+ghost use Rattle.traced_book.specs.Traced.{IsStretch};
 ghost use Rattle.shard.specs.Journals.{WasCut};
 
+use history::{Front, Naming};
 use partition::Epoch;
 
 /// A worker hands over each epoch that it cut, with no lock held. The epochs of one journal come one after the other, in the
@@ -13,13 +15,15 @@ use partition::Epoch;
 pub trait Sink {
     ghost has_taken: { Self → ℕ → ℕ → Cut → Type 0 } = { λ _ _ _ _. Unit {0} };
 
-    /// Takes an epoch of a tenant's journal at this partition: what a cut of that journal gave.
-    fn epoch(&self, partition: u32, tenant: u32, epoch: Epoch)
-        requires { WasCut partition tenant epoch }
+    /// Takes an epoch of a tenant's journal at this partition: what a cut of that journal gave. Its events are a stretch of what was
+    /// seen of the store's history.
+    fn epoch<J: Naming>(&self, partition: u32, tenant: u32, epoch: Epoch, seen: &Front<J>)
+        requires cut { WasCut partition tenant epoch }
+        requires stretch { ∥ IsStretch seen.now partition tenant epoch.base epoch.events.items ∥₁ }
         ensures { has_taken self.now partition tenant epoch };
 }
 
 /// Keeps nothing.
 impl Sink for () {
-    fn epoch(&self, _partition: u32, _tenant: u32, _epoch: Epoch) {}
+    fn epoch<J: Naming>(&self, _partition: u32, _tenant: u32, _epoch: Epoch, _seen: &Front<J>) {}
 }

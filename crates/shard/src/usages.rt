@@ -4,6 +4,7 @@ ghost use Rattle.shard.specs.UsedAt.{AreUsagesAt, AreUsagesOf, IsAt, WasElsewher
 ghost use Rattle.stamps.specs.Limits.{max_tenants};
 
 use crate::shard::{Shard, ShardState};
+use history::Naming;
 use partition::Usage;
 use std::alloc::AllocError;
 use std::sync::Wait;
@@ -17,19 +18,19 @@ pub struct TenantUsage {
     pub collections: u64,
 }
 
-impl ShardState {
+impl<J: Naming> ShardState<J> {
     /// Puts how much each tenant uses, in their order, in place of what the list has. Answers true unless there are more tenants
     /// than a store can have. The one error is that an allocation failed.
     fn put_usages(&self, usages: &mut Vec<TenantUsage>) -> Result<bool, AllocError>
-        ensures used { IfOk result (λ is_there. IsTrue is_there → AreUsagesOf self.now.book self.now.collections usages.new.items) }
-        ensures there { IfOk result (λ is_there. IsTrue is_there ↔ (length self.now.book ≤ max_tenants)) }
+        ensures used { IfOk result (λ is_there. IsTrue is_there → AreUsagesOf self.now.book.accounts self.now.collections usages.new.items) }
+        ensures there { IfOk result (λ is_there. IsTrue is_there ↔ (length self.now.book.accounts ≤ max_tenants)) }
     {
         usages.clear();
-        for tenant in 0..self.book.tenants() {
+        for tenant in 0..self.book.book().tenants() {
             let Some(collections) = self.collections.of_tenant(tenant) else {
                 return Ok(false);
             };
-            let usage = self.book.usage(tenant);
+            let usage = self.book.book().usage(tenant);
             usages.push(TenantUsage { usage, collections })?;
         }
         Ok(true)
@@ -43,7 +44,7 @@ impl ShardState {
         usages: &mut Vec<TenantUsage>,
     ) -> Result<bool, AllocError>
         ensures used { IfOk result (λ is_there. IsTrue is_there → AreUsagesAt parts partition usages.new.items) }
-        ensures there { IfOk result (λ is_there. IsTrue is_there ↔ IsAt parts partition self.now) }
+        ensures there { IfOk result (λ is_there. IsTrue is_there ↔ IsAt parts partition self.now.parts self.now.partition self.now.book.accounts) }
     {
         if self.parts != parts || self.partition != partition {
             return Ok(false);
@@ -52,7 +53,7 @@ impl ShardState {
     }
 }
 
-impl Shard {
+impl<J: Naming> Shard<J> {
     /// Puts how much each tenant uses of this partition, one of so many, in their order and at one moment, in place of what the
     /// list has. It takes the lock, and time for each tenant, and visits none of what they hold. Answers false only where the
     /// state behind the lock is not that partition's. The one error is that an allocation failed.

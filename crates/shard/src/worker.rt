@@ -12,24 +12,25 @@ use crate::seat_call::SeatCall;
 use crate::shard::{FollowUp, Shard};
 use crate::sink::Sink;
 use crossbeam_channel::{SendError, Sender};
+use history::Naming;
 use std::sync::Wait;
 use std::thread;
 
-/// Where the reply to a call of a seat goes.
+/// Where the reply to a call of a seat goes, which is an X.
 ///
 /// `has_come` stands for what a reply that was sent leaves. An implementation need not say what it is. Code for any of them learns
 /// it from this call alone, so a contract that names it says that the reply was sent.
-trait ReplyTo {
-    ghost has_come: { Self → Told → Type 0 } = { λ _ _. Unit {0} };
+trait ReplyTo<X> {
+    ghost has_come: { Self → X → Type 0 } = { λ _ _. Unit {0} };
 
     /// Sends the reply. Hands it back where an allocation failed; where the seat is gone the reply is dropped.
-    fn try_reply<R: Wait>(&self, rt: &R, reply: SeatReply) -> Option<SeatReply>
+    fn try_reply<R: Wait>(&self, rt: &R, reply: X) -> Option<X>
         ensures sent { IfNone result (has_come self.now reply) }
         ensures back { IfSome result (λ back. back ≡ reply) };
 }
 
-impl ReplyTo for Sender<SeatReply> {
-    fn try_reply<R: Wait>(&self, rt: &R, reply: SeatReply) -> Option<SeatReply>
+impl<X: Drop> ReplyTo<X> for Sender<X> {
+    fn try_reply<R: Wait>(&self, rt: &R, reply: X) -> Option<X>
         ensures back { IfSome result (λ back. back ≡ reply) }
     {
         match self.send(rt, reply) {
@@ -40,7 +41,7 @@ impl ReplyTo for Sender<SeatReply> {
 }
 
 // Sends the reply, again and again where an allocation failed.
-fn send_reply<T: ReplyTo, R: Wait>(rt: &R, to: &T, reply: SeatReply)
+fn send_reply<X: Drop, T: ReplyTo<X>, R: Wait>(rt: &R, to: &T, reply: X)
     ensures { T.has_come to.now reply }
 {
     let mut left = reply;
@@ -62,10 +63,10 @@ pub struct WorkEnded {
 }
 
 /// Does what it is sent until no end sends any more. After each task it cuts the journals that have `epoch` events.
-pub fn work<G: Gate, S: Sink, R: Wait>(
+pub fn work<J: Naming, G: Gate, S: Sink, R: Wait>(
     rt: &R,
-    mut tasks: JobReceiver,
-    shard: &Shard,
+    mut tasks: JobReceiver<J>,
+    shard: &Shard<J>,
     gate: &G,
     sink: &S,
 ) -> WorkEnded
@@ -91,15 +92,15 @@ pub fn work<G: Gate, S: Sink, R: Wait>(
 
 /// Serves a call and sends the reply. A journal that is full is cut first, under the same lock, and its epoch goes to the sink
 /// after the reply.
-fn serve_job<G: Gate, S: Sink, T: ReplyTo, R: Wait>(
+fn serve_job<J: Naming, G: Gate, S: Sink, T: ReplyTo<SeatReply<J>>, R: Wait>(
     rt: &R,
-    shard: &Shard,
+    shard: &Shard<J>,
     gate: &G,
     sink: &S,
-    call: SeatCall,
+    call: SeatCall<J>,
     reply_to: &T,
 )
-    ensures { (reply : Told) × IsReplyTo call reply × T.has_come reply_to.now reply }
+    ensures { (reply : Told J _) × IsReplyTo call reply × T.has_come reply_to.now reply }
 {
     let mut call = call;
     let mut follow_up = FollowUp::nothing();
@@ -119,11 +120,11 @@ fn serve_job<G: Gate, S: Sink, T: ReplyTo, R: Wait>(
 }
 
 /// What came of a call.
-pub fn replied(call: SeatCall, outcome: Result<u64, Fault>) -> SeatReply
-    requires { CameSo call.partition call.tenant call.seat call.number call.message.value outcome }
+pub fn replied<J: Naming>(call: SeatCall<J>, outcome: Result<u64, Fault>) -> SeatReply<J>
+    requires { CameSo call.front call.partition call.tenant call.seat call.number call.message.value outcome }
     ensures call { (result.number ≡ call.number) × (result.partition ≡ call.partition) }
     ensures seat { (result.tenant ≡ call.tenant) × (result.seat ≡ call.seat) }
-    ensures outcome { (result.outcome ≡ outcome) × (result.message ≡ call.message) }
+    ensures outcome { (result.outcome ≡ outcome) × (result.message ≡ call.message) × (result.front ≡ call.front) }
 {
     let SeatCall {
         partition,
@@ -131,6 +132,7 @@ pub fn replied(call: SeatCall, outcome: Result<u64, Fault>) -> SeatReply
         seat,
         number,
         message,
+        front,
         ..
     } = call;
     SeatReply {
@@ -140,5 +142,6 @@ pub fn replied(call: SeatCall, outcome: Result<u64, Fault>) -> SeatReply
         partition,
         outcome,
         message,
+        front,
     }
 }

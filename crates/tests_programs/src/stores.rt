@@ -1,11 +1,13 @@
 //! What the tests share: a store of two partitions and two tenants, `t` and `u`.
-use hub::{Config, Hub};
+ghost use Rattle.std.specs.Prelude.{◌≡◌};
+
+use hub::{Config, Hub, Named, Naming, NewStore};
 use line_protocol::Name;
 use stamps::{Keep, Limits};
 use std::alloc::Global;
 use std::sync::Wait;
 use std::thread::Threads;
-use workload::Open;
+use workload::{Open, OpenHub};
 
 fn config(alloc: Global) -> Option<Config> {
     let its = Limits::new(4096, 64, Keep::new(2)?, 16)?;
@@ -21,11 +23,17 @@ fn config(alloc: Global) -> Option<Config> {
     }
 }
 
-pub fn opened<R: Threads + Wait + Clone + Send + Drop + 'static>(
-    rt: &R,
-    alloc: Global,
-) -> Option<Hub<Open>> {
-    Hub::open(rt, alloc, config(alloc)?, Open, ()).ok()
+pub fn store(alloc: Global) -> Option<NewStore> {
+    Some(NewStore::of(config(alloc)?))
+}
+
+pub fn opened<
+    J: Naming + Send + Sync + Drop + 'static,
+    R: Threads + Wait + Clone + Send + Drop + 'static,
+>(rt: &R, alloc: Global, store: NewStore) -> Option<OpenHub<J>>
+    requires { store.history.seen.book ≡ J.book }
+{
+    Hub::open(rt, alloc, store, Named::<J, Open>::new(Open), ()).ok()
 }
 
 pub fn names() -> Option<[Name; 2]> {

@@ -1,16 +1,22 @@
 //! The verdict over what a real hub left.
-use super::stores::opened;
-use hub::{Hub, Seat, Transcript};
+ghost use Rattle.std.specs.Prelude.{◌≡◌};
+
+use super::stores::{opened, store};
+use hub::{Gate, Hub, Naming, NewStore, Seat, Transcript};
 use plain_store::Answer;
 use settle::settle;
 use stamps::{Client, Counter, Item, Key, Stamp, Tag, Value};
 use std::alloc::Global;
+use std::marker::Brand;
 use std::sync::Wait;
 use std::thread::Threads;
-use workload::Open;
 
 /// A seat of a client of the first tenant, from base 0.
-pub fn seated<'a, R: Wait>(rt: &R, hub: &'a Hub<Open>, number: u16) -> Option<Seat<'a, Open>> {
+pub fn seated<'a, G: Gate + Naming, R: Wait>(
+    rt: &R,
+    hub: &'a Hub<G>,
+    number: u16,
+) -> Option<Seat<'a, G>> {
     let (client, base) = (Client::new(number)?, Counter::new(0)?);
     hub.seat(rt, 0, client, base).ok()
 }
@@ -39,13 +45,13 @@ fn count_read(answer: &Answer) -> Option<usize> {
 }
 
 /// The seat that reads: the writer's own, or another client's where the write is abandoned after so many replies.
-fn reader<'a, R: Wait>(
+fn reader<'a, G: Gate + Naming, R: Wait>(
     rt: &R,
-    hub: &'a Hub<Open>,
+    hub: &'a Hub<G>,
     takes: Option<u32>,
     items: &[Item; 2],
     transcripts: &mut Vec<Transcript>,
-) -> Option<Seat<'a, Open>> {
+) -> Option<Seat<'a, G>> {
     let mut writer = seated(rt, hub, 1)?;
     let Some(takes) = takes else {
         let _ = writer.put_all(rt, items);
@@ -56,9 +62,9 @@ fn reader<'a, R: Wait>(
 }
 
 /// How many items of the write are read.
-fn read_after<R: Wait>(
+fn read_after<G: Gate + Naming, R: Wait>(
     rt: &R,
-    hub: &Hub<Open>,
+    hub: &Hub<G>,
     takes: Option<u32>,
     transcripts: &mut Vec<Transcript>,
 ) -> Option<usize> {
@@ -77,7 +83,16 @@ fn settled<R: Threads + Wait + Clone + Send + Drop + 'static>(
     alloc: Global,
     takes: Option<u32>,
 ) -> Option<usize> {
-    let hub = opened(rt, alloc)?;
+    settled_in::<Brand, R>(rt, alloc, store(alloc)?, takes)
+}
+
+fn settled_in<
+    J: Naming + Send + Sync + Drop + 'static,
+    R: Threads + Wait + Clone + Send + Drop + 'static,
+>(rt: &R, alloc: Global, store: NewStore, takes: Option<u32>) -> Option<usize>
+    requires { store.history.seen.book ≡ J.book }
+{
+    let hub = opened::<J, R>(rt, alloc, store)?;
     let mut transcripts = Vec::new(alloc);
     let read = read_after(rt, &hub, takes, &mut transcripts);
     let closed = hub.close(rt, transcripts);

@@ -1,14 +1,17 @@
 //! Rows of sessions: what is typed comes whole, byte by byte, and, where it is short, cut at each place in turn.
+ghost use Rattle.std.specs.Prelude.{◌≡◌};
+
 use crate::devices::{Pieces, Taken};
 use crate::handles::Handles;
 use crate::row::Row;
 use crate::words;
 use command_line::{ServerOptions, StoreOptions};
-use hub::{Config, Hub, Transcript};
+use hub::{Config, Gate, Hub, Named, Naming, NewStore, Transcript};
 use line_protocol::Name;
 use stamps::limits::{MAX_PARTS, MAX_TENANTS};
 use std::alloc::Global;
 use std::io::{self, ErrorKind};
+use std::marker::Brand;
 use workload::{Open, SessionOptions, run_session_as, tell_verdicts};
 
 /// What is no longer than this is cut at each place.
@@ -53,15 +56,34 @@ pub fn is_right(
     Ok(is_right)
 }
 
-fn is_store_right(
-    rt: &impl Handles,
+fn is_store_right<H: Handles>(
+    rt: &H,
     alloc: Global,
     row: &Row<'_>,
     store: &StoreOptions,
     options: ServerOptions,
     way: Way,
 ) -> io::Result<bool> {
-    let hub = opened(rt, alloc, store, options)?;
+    let new = NewStore::of(config(alloc, store, options)?);
+    is_new_store_right::<Brand, H>(rt, alloc, row, &store.names, options, way, new)
+}
+
+/// So of a store that is opened here.
+fn is_new_store_right<J: Naming + Send + Sync + Drop + 'static, H: Handles>(
+    rt: &H,
+    alloc: Global,
+    row: &Row<'_>,
+    names: &[Name],
+    options: ServerOptions,
+    way: Way,
+    store: NewStore,
+) -> io::Result<bool>
+    requires { store.history.seen.book ≡ J.book }
+{
+    let gate = Named::<J, Open>::new(Open);
+    let Ok(hub) = Hub::open(rt, alloc, store, gate, ()) else {
+        return Err(io::Error::from(ErrorKind::Other));
+    };
     let manner = SessionOptions {
         strict: options.strict,
         newest: options.newest,
@@ -75,7 +97,7 @@ fn is_store_right(
             rt,
             alloc,
             &hub,
-            &store.names,
+            names,
             manner,
             None,
             &mut reader,
@@ -93,7 +115,7 @@ fn is_store_right(
             .filter(|line| line.answer.starts_with("ready"))
             .count();
     let is_answered = words::is_answered(rt, row, "in a session", &writer.bytes)?;
-    let is_settled = is_settled(rt, alloc, hub, &store.names, transcripts)?;
+    let is_settled = is_settled(rt, alloc, hub, names, transcripts)?;
     let is_right = is_seated && is_settled && have_ended;
     if !is_right {
         println!(rt;
@@ -104,37 +126,28 @@ fn is_store_right(
     Ok(is_right && is_answered)
 }
 
-/// The running store that the words ask for.
-fn opened(
-    rt: &impl Handles,
-    alloc: Global,
-    store: &StoreOptions,
-    options: ServerOptions,
-) -> io::Result<Hub<Open>> {
+/// How the store that the words ask for is made.
+fn config(alloc: Global, store: &StoreOptions, options: ServerOptions) -> io::Result<Config> {
     let count = store.names.len();
     let has_parts = 1 <= store.parts && store.parts <= MAX_PARTS;
     let has_tenants = 1 <= count && count <= MAX_TENANTS as usize;
     if !has_parts || !has_tenants {
         return Err(io::Error::from(ErrorKind::InvalidData));
     }
-    let config = Config {
+    Ok(Config {
         parts: store.parts,
         limits: vec![in alloc; store.limits; count]?,
         queue: options.queue,
         every: options.every,
         epoch: options.epoch,
-    };
-    match Hub::open(rt, alloc, config, Open, ()) {
-        Ok(hub) => Ok(hub),
-        Err(_) => Err(io::Error::from(ErrorKind::Other)),
-    }
+    })
 }
 
 /// Whether each tenant is settled.
-fn is_settled(
+fn is_settled<G: Gate + Naming + Send + Sync + Drop + 'static>(
     rt: &impl Handles,
     alloc: Global,
-    hub: Hub<Open>,
+    hub: Hub<G>,
     names: &[Name],
     transcripts: Vec<Transcript>,
 ) -> io::Result<bool> {

@@ -1,12 +1,16 @@
 //! hub: the running store over threads, and what it leaves.
+ghost use Rattle.std.specs.Prelude.{◌≡◌};
+
 use crate::values::{client, item, key, limits, no_parts, tag};
 use hub::{
-    Closed, Config, Entry, EntryList, Gate, Hub, HubFault, JoinFault, Seat, Sink, Transcript,
+    Closed, Config, Entry, EntryList, Front, Gate, Hub, HubFault, JoinFault, Named, Naming,
+    NewStore, Seat, Sink, Transcript,
 };
 use partition::{Counts, Epoch, Journal};
 use plain_store::{Answer, Refusal};
 use stamps::{Client, Counter, Item, Keep, Key, Limits, Tag};
 use std::alloc::Global;
+use std::marker::Brand;
 use std::sync::Wait;
 use std::thread::Threads;
 
@@ -25,7 +29,7 @@ impl Gate for Watcher {
 struct Keeper;
 
 impl Sink for Keeper {
-    fn epoch(&self, _partition: u32, _tenant: u32, _epoch: Epoch) {}
+    fn epoch<J: Naming>(&self, _partition: u32, _tenant: u32, _epoch: Epoch, _seen: &Front<J>) {}
 }
 
 /// A store of two partitions and one tenant.
@@ -92,14 +96,14 @@ fn are_entries(alloc: Global, entries: &EntryList) -> Option<bool> {
 }
 
 /// Whether a seat writes, reads and searches, and hands out its entries.
-fn is_served<R: Wait>(
+fn is_served<G: Gate + Naming, R: Wait>(
     rt: &R,
     alloc: Global,
-    hub: &Hub<Watcher>,
+    hub: &Hub<G>,
     left: &mut Vec<Transcript>,
 ) -> Option<bool> {
     let (client, base): (Client, Counter) = (client(1)?, Counter::new(0)?);
-    let seated: Result<Seat<'_, Watcher>, Refusal> = hub.seat(rt, 0, client, base);
+    let seated: Result<Seat<'_, G>, Refusal> = hub.seat(rt, 0, client, base);
     let mut seat = seated.ok()?;
     let (items, keys): ([Item; 1], [Key; 1]) = ([item("x")?], [key("x")?]);
     let red: Tag = tag("red")?;
@@ -115,7 +119,7 @@ fn is_served<R: Wait>(
 }
 
 /// Whether a write that takes no reply is abandoned.
-fn is_abandoned<R: Wait>(rt: &R, hub: &Hub<Watcher>) -> Option<bool> {
+fn is_abandoned<G: Gate + Naming, R: Wait>(rt: &R, hub: &Hub<G>) -> Option<bool> {
     let seat = hub.seat(rt, 0, client(2)?, Counter::new(0)?).ok()?;
     let left: Transcript = seat.abandon(rt, &[item("y")?], 0);
     let set: Result<(), Refusal> = hub.set_keep(rt, 0, Keep::new(2)?);
@@ -127,12 +131,19 @@ fn closed<R: Threads + Wait + Clone + Send + Drop + 'static>(
     rt: &R,
     alloc: Global,
 ) -> Option<(bool, Closed)> {
-    let opened: Result<Hub<Watcher>, HubFault> = Hub::open(
-        rt,
-        alloc,
-        config(alloc)?,
-        Watcher,
-        Keeper,
+    let store: NewStore = NewStore::of(config(alloc)?);
+    closed_in::<Brand, R>(rt, alloc, store)
+}
+
+fn closed_in<
+    J: Naming + Send + Sync + Drop + 'static,
+    R: Threads + Wait + Clone + Send + Drop + 'static,
+>(rt: &R, alloc: Global, store: NewStore) -> Option<(bool, Closed)>
+    requires { store.history.seen.book ≡ J.book }
+{
+    let gate: Named<J, Watcher> = Named::new(Watcher);
+    let opened: Result<Hub<Named<J, Watcher>>, HubFault> = Hub::open(
+        rt, alloc, store, gate, Keeper,
     );
     let hub = opened.ok()?;
     let mut left: Vec<Transcript> = Vec::new(alloc);

@@ -1,9 +1,12 @@
 //! workload: the programs, each over a reader and a writer.
+ghost use Rattle.std.specs.Prelude.{◌≡◌};
+
 use crate::values::limits;
-use hub::{Config, Hub, Transcript};
+use hub::{Config, Hub, Named, Naming, NewStore, Transcript};
 use line_protocol::Name;
 use line_runs::{End, RunFault};
 use std::alloc::Global;
+use std::marker::Brand;
 use std::net::{Net, TcpListener, TcpStream};
 use std::sync::Wait;
 use std::thread::Threads;
@@ -61,7 +64,17 @@ fn runs_session<R: Threads + Wait + Clone + Send + Drop + 'static>(
         every: 64,
         epoch: 0,
     };
-    let hub: Hub<()> = Hub::open(rt, alloc, config, (), ()).ok()?;
+    session_in::<Brand, R>(rt, alloc, NewStore::of(config))
+}
+
+fn session_in<
+    J: Naming + Send + Sync + Drop + 'static,
+    R: Threads + Wait + Clone + Send + Drop + 'static,
+>(rt: &R, alloc: Global, store: NewStore) -> Option<bool>
+    requires { store.history.seen.book ≡ J.book }
+{
+    let gate = Named::<J, ()>::new(());
+    let hub: Hub<Named<J, ()>> = Hub::open(rt, alloc, store, gate, ()).ok()?;
     let names = [Name::read(b"t")?];
     let mut reader: &[u8] = b"hello t 1\nbye\n";
     let mut writer: Vec<u8> = Vec::new(alloc);

@@ -1,5 +1,9 @@
 //! One partition with its worker, in one thread: what the gate and the sink find of its lock.
+ghost use Rattle.std.specs.Prelude.{◌≡◌, ◌≤◌, [], ◌∷◌, IfSome, length};
+ghost use Rattle.history.specs.declared.entry.HistoryEntry.TheVariants.{Opened};
+
 use crossbeam_channel::{Receiver, unbounded};
+use history::{Front, Naming, NewHistory};
 use partition::{Book, Epoch};
 use plain_store::{Call, Message};
 use shard::{
@@ -8,8 +12,10 @@ use shard::{
 };
 use stamps::{Client, Keep, Limits, Stamp};
 use std::alloc::Global;
+use std::marker::Brand;
 use std::sync::atomic::{AtomicU64, Ordering};
 use std::sync::{Arc, Wait};
+use traced_book::TracedBook;
 
 /// How often the lock was found as it should be, and how often not.
 #[derive(Drop)]
@@ -20,12 +26,12 @@ struct Found {
 
 /// Tries the lock of this partition: it is to be held where a call is served, and free where an epoch is handed over.
 #[derive(Drop)]
-struct Trier {
-    shard: Arc<Shard>,
+struct Trier<J: Naming> {
+    shard: Arc<Shard<J>>,
     found: Arc<Found>,
 }
 
-impl Trier {
+impl<J: Naming> Trier<J> {
     fn note(&self, is_right: bool) {
         let count = if is_right {
             &self.found.right
@@ -36,7 +42,7 @@ impl Trier {
     }
 }
 
-impl Gate for Trier {
+impl<J: Naming> Gate for Trier<J> {
     fn pass(&self, _partition: u32, _nth: u64) {}
 
     fn inside(&self, _partition: u32, _nth: u64) {
@@ -44,14 +50,16 @@ impl Gate for Trier {
     }
 }
 
-impl Sink for Trier {
-    fn epoch(&self, _partition: u32, _tenant: u32, _epoch: Epoch) {
+impl<J: Naming> Sink for Trier<J> {
+    fn epoch<K: Naming>(&self, _partition: u32, _tenant: u32, _epoch: Epoch, _seen: &Front<K>) {
         self.note(self.shard.try_lock().is_some());
     }
 }
 
-/// The one partition of a store of so many tenants, 1 to 64, whose journals are cut after so many events.
-fn shard(alloc: Global, tenants: u32, epoch: u32) -> Option<Arc<Shard>> {
+/// The limits of so many tenants, 1 to 64.
+fn limits_of(alloc: Global, tenants: u32) -> Option<Vec<Limits>>
+    ensures { IfSome result (λ limits. length limits.items ≤ 64) }
+{
     let its = Limits::new(16, 16, Keep::new(1)?, 4)?;
     let mut limits = Vec::new(alloc);
     for _tenant in 0..tenants {
@@ -60,11 +68,29 @@ fn shard(alloc: Global, tenants: u32, epoch: u32) -> Option<Arc<Shard>> {
     if limits.len() > 64 {
         return None;
     }
-    let keeps = KeepSettings::of(alloc, &limits).ok()?;
+    Some(limits)
+}
+
+/// The one partition of a store of these tenants, whose journals are cut after so many events, and what was seen of the store's
+/// history.
+fn shard<J: Naming>(
+    alloc: Global,
+    limits: &[Limits],
+    epoch: u32,
+    history: NewHistory,
+) -> Option<(Arc<Shard<J>>, Front<J>)>
+    requires few { length limits.now ≤ 64 }
+    requires opened { history.seen.log ≡ Opened (record { parts = 1; limits = limits.now }) ∷ [] }
+    requires name { history.seen.book ≡ J.book }
+{
+    let (_, mut words, seen) = history.named::<J>();
+    let tally = words.take().unwrap();
+    let keeps = KeepSettings::of(alloc, limits).ok()?;
     let collector = Arc::new(alloc, Collector::new(keeps)).ok()?;
-    let Ok(book) = Book::open(alloc, &limits) else {
+    let Ok(book) = Book::open(alloc, limits) else {
         return None;
     };
+    let book = TracedBook::new(book, 0, tally, seen.again());
     let config = ShardConfig {
         partition: 0,
         parts: 1,
@@ -72,11 +98,16 @@ fn shard(alloc: Global, tenants: u32, epoch: u32) -> Option<Arc<Shard>> {
         every: 1000,
         epoch,
     };
-    Arc::new(alloc, Shard::new(config, collector, book)).ok()
+    let shard = Arc::new(alloc, Shard::new(config, collector, book)).ok()?;
+    Some((shard, seen))
 }
 
 /// A job of this number, which names no key.
-fn job(alloc: Global, number: u64) -> Option<(Job, Receiver<SeatReply>)> {
+fn job<J: Naming>(
+    alloc: Global,
+    number: u64,
+    seen: &Front<J>,
+) -> Option<(Job<J>, Receiver<SeatReply<J>>)> {
     let message = Message {
         client: Client::new(1)?,
         ticket: 1,
@@ -92,6 +123,7 @@ fn job(alloc: Global, number: u64) -> Option<(Job, Receiver<SeatReply>)> {
         number,
         arrival: number,
         message: Box::new(alloc, message).ok()?,
+        front: seen.again(),
     };
     let (reply_to, replies) = unbounded(alloc).ok()?;
     Some((Job { call, reply_to }, replies))
@@ -99,7 +131,21 @@ fn job(alloc: Global, number: u64) -> Option<(Job, Receiver<SeatReply>)> {
 
 /// How often the lock was found right and wrong by three jobs that a queue of three holds, and how many of them were answered.
 fn serve_three<R: Wait>(rt: &R, alloc: Global) -> Option<[u64; 3]> {
-    let shard = shard(alloc, 1, 1)?;
+    let limits = limits_of(alloc, 1)?;
+    serve_three_in::<Brand, R>(rt, alloc, &limits, NewHistory::new(1, &limits))
+}
+
+fn serve_three_in<J: Naming, R: Wait>(
+    rt: &R,
+    alloc: Global,
+    limits: &[Limits],
+    history: NewHistory,
+) -> Option<[u64; 3]>
+    requires few { length limits.now ≤ 64 }
+    requires opened { history.seen.log ≡ Opened (record { parts = 1; limits = limits.now }) ∷ [] }
+    requires name { history.seen.book ≡ J.book }
+{
+    let (shard, seen) = shard::<J>(alloc, limits, 1, history)?;
     let counts = Found {
         right: AtomicU64::new(0),
         wrong: AtomicU64::new(0),
@@ -112,7 +158,7 @@ fn serve_three<R: Wait>(rt: &R, alloc: Global) -> Option<[u64; 3]> {
     let (mut sender, receiver) = job_queue(alloc, 3).ok()?;
     let mut answered = Vec::new(alloc);
     for number in 1..4u64 {
-        let (job, replies) = job(alloc, number)?;
+        let (job, replies) = job(alloc, number, &seen)?;
         sender.send(rt, Task::Serve(job)).ok()?;
         answered.push(replies).ok()?;
     }
@@ -145,7 +191,24 @@ fn collections<R: Wait>(
     epoch: u32,
     rounds: u32,
 ) -> Option<Vec<u64>> {
-    let shard = shard(alloc, tenants, epoch)?;
+    let limits = limits_of(alloc, tenants)?;
+    let history = NewHistory::new(1, &limits);
+    collections_in::<Brand, R>(rt, alloc, &limits, history, epoch, rounds)
+}
+
+fn collections_in<J: Naming, R: Wait>(
+    rt: &R,
+    alloc: Global,
+    limits: &[Limits],
+    history: NewHistory,
+    epoch: u32,
+    rounds: u32,
+) -> Option<Vec<u64>>
+    requires few { length limits.now ≤ 64 }
+    requires opened { history.seen.log ≡ Opened (record { parts = 1; limits = limits.now }) ∷ [] }
+    requires name { history.seen.book ≡ J.book }
+{
+    let (shard, _) = shard::<J>(alloc, limits, epoch, history)?;
     for _round in 0..rounds {
         collect_at(rt, &shard);
     }

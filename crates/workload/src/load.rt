@@ -14,7 +14,7 @@ mod seats;
 mod tally;
 
 use crate::serve::open_hub;
-use hub::{Closed, Config, Sink};
+use hub::{Closed, Config, Naming, NewStore, Sink};
 use joined::tell_kept;
 use kept::KeptEpochs;
 use line_protocol::Name;
@@ -23,6 +23,7 @@ use seats::{Orders, run_seats};
 use server_verdicts::tell_verdicts;
 use std::alloc::Global;
 use std::io::Write;
+use std::marker::Brand;
 use std::sync::Wait;
 use std::thread::Threads;
 use tally::tell_begun;
@@ -128,8 +129,30 @@ fn run_store<
         (seats_of (length config.limits.items) seats) closed.transcripts.items) }
     ensures refused { IfErr result (λ fault. (fault ≡ NoMemory) ⊎ (fault ≡ Device)) }
 {
-    let tenants = config.limits.len() as u32;
-    let hub = open_hub(rt, alloc, config, sink)?;
+    run_new::<Brand, S, H>(rt, alloc, NewStore::of(config), sink, seats, orders)
+}
+
+/// Does so for a store whose history J names.
+fn run_new<
+    J: Naming + Send + Sync + Drop + 'static,
+    S: Sink + Send + Sync + Drop + 'static,
+    H: Threads + Wait + Clone + Send + Sync + Drop + 'static,
+>(
+    rt: &H,
+    alloc: Global,
+    store: NewStore,
+    sink: S,
+    seats: u16,
+    orders: Orders,
+) -> Result<Closed, ProgramFault>
+    requires seats { seats ≤ 16 }
+    requires name { store.history.seen.book ≡ J.book }
+    ensures closed { IfOk result (λ closed. IsClosed (config_view store.config) closed) }
+    ensures seats { IfOk result (λ closed. AreOfSeats orders.seed orders.rounds orders.keys (seats_of (length store.config.limits.items) seats) closed.transcripts.items) }
+    ensures refused { IfErr result (λ fault. (fault ≡ NoMemory) ⊎ (fault ≡ Device)) }
+{
+    let tenants = store.config.limits.len() as u32;
+    let hub = open_hub::<J, S, H>(rt, alloc, store, sink)?;
     match run_seats(rt, alloc, &hub, tenants, seats, orders) {
         Ok(transcripts) => Ok(hub.close(rt, transcripts)),
         Err(fault) => {

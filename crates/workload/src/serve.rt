@@ -7,14 +7,15 @@ ghost use Rattle.workload.specs.Serving.{HasListened, HasServed, IsFaultBefore, 
 ghost use Rattle.server_sessions.specs.Ports.{listener_of, options_of, port_of};
 
 use command_line::{ServerOptions, VERSION};
-use hub::{Config, Hub, HubFault, Sink};
+use hub::{Config, Hub, HubFault, Named, Naming, NewStore, Sink};
 use line_protocol::Name;
 use line_runs::{ProgramFault, write_text};
-use server_sessions::{Left, Listener, Open, Server, SessionOptions, serve_connections};
+use server_sessions::{Left, Listener, Open, OpenHub, Server, SessionOptions, serve_connections};
 use server_status::{StatusPort, Watched, serve_and_report};
 use server_verdicts::{Checking, Known, endings_of, tell_checks, tell_verdicts};
 use std::alloc::{AllocError, Global};
 use std::io::{Read, Write};
+use std::marker::Brand;
 use std::net::{Net, TcpListener, TcpStream};
 use std::sync::Wait;
 use std::thread::Threads;
@@ -77,9 +78,11 @@ pub fn run_server<
     let server = server_of(alloc, listener, options)?;
     let status = bind_status(rt, options.status)?;
     if config.epoch == 0 {
-        serve_and_settle(rt, alloc, config, names, server, status, reader, writer)
+        let store = NewStore::of(config);
+        serve_and_settle::<Brand, H, R, W>(rt, alloc, store, names, server, status, reader, writer)
     } else {
-        serve_and_check(rt, alloc, config, names, server, status, reader, writer)
+        let store = NewStore::of(config);
+        serve_and_check::<Brand, H, R, W>(rt, alloc, store, names, server, status, reader, writer)
     }
 }
 
@@ -133,26 +136,26 @@ fn plain_server_of(
 
 // Serves a store whose journals are kept, and settles its tenants.
 fn serve_and_settle<
+    J: Naming + Send + Sync + Drop + 'static,
     H: Threads + Wait + Clock + Clone + Send + Sync + Drop + 'static,
     R: Read,
     W: Write,
 >(
     rt: &H,
     alloc: Global,
-    config: Config,
+    store: NewStore,
     names: &[Name],
     server: Server<Listener>,
     status: Option<StatusPort>,
     reader: &mut R,
     writer: &mut W,
 ) -> Result<(), ProgramFault>
-    requires { config.epoch ≡ 0 }
-    ensures served { HasServed (config_view config) names.now (W.contents writer.old)
-        (W.contents writer.new) result }
-    ensures port { TellsPortFirst (port_of (listener_of server)) (W.contents writer.old)
-        (W.contents writer.new) result }
+    requires kept { store.config.epoch ≡ 0 }
+    requires name { store.history.seen.book ≡ J.book }
+    ensures served { HasServed (config_view store.config) names.now (W.contents writer.old) (W.contents writer.new) result }
+    ensures port { TellsPortFirst (port_of (listener_of server)) (W.contents writer.old) (W.contents writer.new) result }
 {
-    let hub = open_hub(rt, alloc, config, ())?;
+    let hub = open_hub::<J, (), H>(rt, alloc, store, ())?;
     let reporting = Reporting {
         port: status.as_ref(),
         known: None,
@@ -171,26 +174,26 @@ fn serve_and_settle<
 
 // Serves a store whose journals are cut, has each epoch checked meanwhile, and checks the last one of each journal.
 fn serve_and_check<
+    J: Naming + Send + Sync + Drop + 'static,
     H: Threads + Wait + Clock + Clone + Send + Sync + Drop + 'static,
     R: Read,
     W: Write,
 >(
     rt: &H,
     alloc: Global,
-    config: Config,
+    store: NewStore,
     names: &[Name],
     server: Server<Listener>,
     status: Option<StatusPort>,
     reader: &mut R,
     writer: &mut W,
 ) -> Result<(), ProgramFault>
-    requires { 0 < config.epoch }
-    ensures served { HasServed (config_view config) names.now (W.contents writer.old)
-        (W.contents writer.new) result }
-    ensures port { TellsPortFirst (port_of (listener_of server)) (W.contents writer.old)
-        (W.contents writer.new) result }
+    requires cut { 0 < store.config.epoch }
+    requires name { store.history.seen.book ≡ J.book }
+    ensures served { HasServed (config_view store.config) names.now (W.contents writer.old) (W.contents writer.new) result }
+    ensures port { TellsPortFirst (port_of (listener_of server)) (W.contents writer.old) (W.contents writer.new) result }
 {
-    let (hub, checking) = open_checked(rt, alloc, config)?;
+    let (hub, checking) = open_checked::<J, H>(rt, alloc, store)?;
     let reporting = Reporting {
         port: status.as_ref(),
         known: Some(checking.known()),
@@ -243,21 +246,22 @@ fn ended_after(
 }
 
 // Opens a hub that nobody watches, whose epochs are checked.
-fn open_checked<H: Threads + Wait + Clone + Send + Sync + Drop + 'static>(
-    rt: &H,
-    alloc: Global,
-    config: Config,
-) -> Result<(Hub<Open>, Checking), ProgramFault>
-    ensures opened { IfOk result (λ r. r.0 ≡ config_view config) }
+fn open_checked<
+    J: Naming + Send + Sync + Drop + 'static,
+    H: Threads + Wait + Clone + Send + Sync + Drop + 'static,
+>(rt: &H, alloc: Global, store: NewStore) -> Result<(OpenHub<J>, Checking), ProgramFault>
+    requires { store.history.seen.book ≡ J.book }
+    ensures opened { IfOk result (λ r. r.0 ≡ config_view store.config) }
     ensures refused { IfErr result (λ fault. (fault ≡ NoMemory) ⊎ (fault ≡ Device)) }
 {
-    let limits = config.limits.as_slice();
-    let (checking, checker) = match Checking::start(rt, alloc, config.parts, limits) {
+    let limits = store.config.limits.as_slice();
+    let (checking, checker) = match Checking::start(rt, alloc, store.config.parts, limits) {
         Ok(started) => started,
         Err(HubFault::OutOfMemory) => return Err(ProgramFault::OutOfMemory),
         Err(HubFault::Thread) => return Err(ProgramFault::Device),
     };
-    match open_hub(rt, alloc, config, checker) {
+    let opened: Result<OpenHub<J>, ProgramFault> = open_hub(rt, alloc, store, checker);
+    match opened {
         Ok(hub) => Ok((hub, checking)),
         Err(fault) => {
             let _ = checking.end(rt, alloc);
@@ -268,13 +272,15 @@ fn open_checked<H: Threads + Wait + Clone + Send + Sync + Drop + 'static>(
 
 /// Opens a hub that nobody watches.
 pub(crate) fn open_hub<
+    J: Naming + Send + Sync + Drop + 'static,
     S: Sink + Send + Sync + Drop + 'static,
     H: Threads + Wait + Clone + Send + Drop + 'static,
->(rt: &H, alloc: Global, config: Config, sink: S) -> Result<Hub<Open>, ProgramFault>
-    ensures opened { IfOk result (λ hub. hub ≡ config_view config) }
+>(rt: &H, alloc: Global, store: NewStore, sink: S) -> Result<OpenHub<J>, ProgramFault>
+    requires { store.history.seen.book ≡ J.book }
+    ensures opened { IfOk result (λ hub. hub ≡ config_view store.config) }
     ensures refused { IfErr result (λ fault. (fault ≡ NoMemory) ⊎ (fault ≡ Device)) }
 {
-    match Hub::open(rt, alloc, config, Open, sink) {
+    match Hub::open(rt, alloc, store, Named::<J, Open>::new(Open), sink) {
         Ok(hub) => Ok(hub),
         Err(HubFault::OutOfMemory) => Err(ProgramFault::OutOfMemory),
         Err(HubFault::Thread) => Err(ProgramFault::Device),
@@ -282,10 +288,10 @@ pub(crate) fn open_hub<
 }
 
 // Reports the port, and serves the connections, and the status port beside them.
-fn serve_all<H: Threads + Wait + Clock + Sync, R: Read, W: Write>(
+fn serve_all<J: Naming + Send + Sync, H: Threads + Wait + Clock + Sync, R: Read, W: Write>(
     rt: &H,
     alloc: Global,
-    hub: &Hub<Open>,
+    hub: &OpenHub<J>,
     names: &[Name],
     server: &Server<Listener>,
     reporting: Reporting<'_>,

@@ -6,7 +6,7 @@ ghost use Rattle.shard.specs.Journals.{WasCut};
 
 use crate::epochs::{Checked, Progress, Taken};
 use crossbeam_channel::{Receiver, Sender, bounded};
-use hub::{HubFault, Sink};
+use hub::{Front, HubFault, Naming, Sink};
 use partition::Epoch;
 use stamps::Limits;
 use std::alloc::{AllocError, Global};
@@ -39,7 +39,7 @@ pub struct Checker<H> {
 }
 
 impl<H: Wait> Sink for Checker<H> {
-    fn epoch(&self, partition: u32, tenant: u32, epoch: Epoch) {
+    fn epoch<J: Naming>(&self, partition: u32, tenant: u32, epoch: Epoch, _seen: &Front<J>) {
         let Some(queue) = self.queue_of(partition) else {
             return;
         };

@@ -1,14 +1,17 @@
 //! Sessions whose devices fail.
-use super::super::stores::{names, opened};
+ghost use Rattle.std.specs.Prelude.{◌≡◌};
+
+use super::super::stores::{names, opened, store};
 use super::super::verdict_tests::seated;
 use super::{FIRST, MANY, Narrow, Slow, Talk, whole};
-use hub::{Closed, Hub, Transcript};
+use hub::{Closed, Gate, Hub, Naming, NewStore, Transcript};
 use line_runs::RunFault;
 use std::alloc::Global;
 use std::io::{self, Write};
+use std::marker::Brand;
 use std::sync::Wait;
 use std::thread::Threads;
-use workload::{Open, run_session, tell_verdicts};
+use workload::{run_session, tell_verdicts};
 
 const LONG: Talk = (
     "hello t 1\nput x=1 y=1\nget x y\nget x\nfind red\nbye\n",
@@ -46,10 +49,10 @@ fn operations(transcript: &Transcript) -> usize {
 }
 
 /// What a session over these devices came to.
-fn played<R: Wait>(
+fn played<G: Gate + Naming, R: Wait>(
     rt: &R,
     alloc: Global,
-    hub: &Hub<Open>,
+    hub: &Hub<G>,
     mut reader: Slow<'_>,
     mut writer: Narrow,
     transcripts: &mut Vec<Transcript>,
@@ -70,10 +73,10 @@ fn played<R: Wait>(
 }
 
 /// Plays lines in a session over these devices, and then a session of the same client that reads what the first one wrote.
-fn two_sessions<R: Wait>(
+fn two_sessions<G: Gate + Naming, R: Wait>(
     rt: &R,
     alloc: Global,
-    hub: &Hub<Open>,
+    hub: &Hub<G>,
     reader: Slow<'_>,
     writer: Narrow,
     transcripts: &mut Vec<Transcript>,
@@ -100,7 +103,22 @@ fn settled<R: Threads + Wait + Clone + Send + Drop + 'static>(
     reader: Slow<'_>,
     writer: Narrow,
 ) -> Option<(Outcome, Outcome)> {
-    let hub = opened(rt, alloc)?;
+    settled_in::<Brand, R>(rt, alloc, store(alloc)?, reader, writer)
+}
+
+fn settled_in<
+    J: Naming + Send + Sync + Drop + 'static,
+    R: Threads + Wait + Clone + Send + Drop + 'static,
+>(
+    rt: &R,
+    alloc: Global,
+    store: NewStore,
+    reader: Slow<'_>,
+    writer: Narrow,
+) -> Option<(Outcome, Outcome)>
+    requires { store.history.seen.book ≡ J.book }
+{
+    let hub = opened::<J, R>(rt, alloc, store)?;
     let mut transcripts = Vec::new(alloc);
     let seen = two_sessions(rt, alloc, &hub, reader, writer, &mut transcripts);
     let closed = hub.close(rt, transcripts);
@@ -178,16 +196,16 @@ fn a_session_whose_device_fails_gives_up_its_seat(rt: HostRuntime) {
 
 /// Takes what it is given. Once that ends in this line, the client's next session is opened.
 #[derive(Drop)]
-struct Next<'h, R> {
+struct Next<'h, G: Naming, R> {
     rt: &'h R,
-    hub: &'h Hub<Open>,
-    last: &'static str,
+    hub: &'h Hub<G>,
+    last: &'static [u8],
     is_open: bool,
 }
 
-impl<R: Wait> Write for Next<'_, R> {
+impl<G: Gate + Naming, R: Wait> Write for Next<'_, G, R> {
     fn write(&mut self, buf: &[u8]) -> io::Result<usize> {
-        if buf.ends_with(self.last.as_bytes()) {
+        if buf.ends_with(self.last) {
             self.is_open = seated(self.rt, self.hub, 1).is_some();
         }
         Ok(buf.len())
@@ -205,15 +223,25 @@ fn is_next_open<R: Threads + Wait + Clone + Send + Drop + 'static>(
     lines: &str,
     last: &'static str,
 ) -> Option<bool> {
+    let (lines, last) = (lines.as_bytes(), last.as_bytes());
+    is_next_open_in::<Brand, R>(rt, alloc, store(alloc)?, lines, last)
+}
+
+fn is_next_open_in<
+    J: Naming + Send + Sync + Drop + 'static,
+    R: Threads + Wait + Clone + Send + Drop + 'static,
+>(rt: &R, alloc: Global, store: NewStore, lines: &[u8], last: &'static [u8]) -> Option<bool>
+    requires { store.history.seen.book ≡ J.book }
+{
     let names = names()?;
-    let hub = opened(rt, alloc)?;
+    let hub = opened::<J, R>(rt, alloc, store)?;
     let mut next = Next {
         rt,
         hub: &hub,
         last,
         is_open: false,
     };
-    let mut reader = whole(lines.as_bytes());
+    let mut reader = whole(lines);
     let _ = run_session(rt, alloc, &hub, &names, &mut reader, &mut next);
     let is_open = next.is_open;
     let _ = hub.close(rt, Vec::new(alloc));

@@ -1,11 +1,15 @@
 //! A status port that is asked over a socket whether its server is well.
-use super::super::stores::{names, opened};
+ghost use Rattle.std.specs.Prelude.{◌≡◌};
+
+use super::super::stores::{names, opened, store};
 use super::epochs::{Given, epoch_of, limits_of};
 use super::server::told;
+use hub::{Naming, NewStore};
 use server_status::{StatusPort, Watched, serve_and_report};
 use server_verdicts::{Checked, Known};
 use std::alloc::Global;
 use std::io::{self, Read};
+use std::marker::Brand;
 use std::net::{Net, TcpListener, TcpStream};
 use std::sync::{Mutex, Wait};
 use std::test::Fail;
@@ -67,6 +71,23 @@ where
         + Drop
         + 'static,
 {
+    health_in::<Brand, R>(rt, alloc, store(alloc)?, known, named)
+}
+
+fn health_in<
+    J: Naming + Send + Sync + Drop + 'static,
+    R: Threads
+        + Wait
+        + Clock
+        + Net<Listener = TcpListener, Stream = TcpStream>
+        + Clone
+        + Send
+        + Sync
+        + Drop
+        + 'static,
+>(rt: &R, alloc: Global, store: NewStore, known: Option<&Known>, named: usize) -> Option<Vec<u8>>
+    requires { store.history.seen.book ≡ J.book }
+{
     let names = names()?;
     let server = Server::staying(alloc, Listener::bind(rt, 0).ok()?, 1).ok()?;
     let listener = Listener::bind(rt, 0).ok()?;
@@ -77,7 +98,7 @@ where
         answer: Vec::new(alloc),
     };
     let port = StatusPort::new(listener);
-    let hub = opened(rt, alloc)?;
+    let hub = opened::<J, R>(rt, alloc, store)?;
     let watched = Watched {
         hub: &hub,
         names: names.get(..named)?,

@@ -1,10 +1,13 @@
 //! What a `keep` line sets: the number of its session's tenant, and that of no other.
+ghost use Rattle.std.specs.Prelude.{◌≡◌};
+
 use super::{MANY, Narrow, whole};
-use hub::{Closed, Config, Hub};
+use hub::{Closed, Config, Hub, Named, Naming, NewStore};
 use line_protocol::Name;
 use plain_store::Call;
 use stamps::{Keep, Limits};
 use std::alloc::Global;
+use std::marker::Brand;
 use std::sync::Wait;
 use std::thread::Threads;
 use workload::{Open, run_session};
@@ -28,9 +31,19 @@ fn left_by<R: Threads + Wait + Clone + Send + Drop + 'static>(
     alloc: Global,
     lines: &str,
 ) -> Option<Closed> {
+    let store = NewStore::of(config(alloc)?);
+    left_in::<Brand, R>(rt, alloc, store, lines.as_bytes())
+}
+
+fn left_in<
+    J: Naming + Send + Sync + Drop + 'static,
+    R: Threads + Wait + Clone + Send + Drop + 'static,
+>(rt: &R, alloc: Global, store: NewStore, lines: &[u8]) -> Option<Closed>
+    requires { store.history.seen.book ≡ J.book }
+{
     let names = [Name::read(b"t")?, Name::read(b"u")?, Name::read(b"v")?];
-    let hub = Hub::open(rt, alloc, config(alloc)?, Open, ()).ok()?;
-    let (mut reader, mut writer) = (whole(lines.as_bytes()), Narrow::new(alloc, MANY, MANY));
+    let hub = Hub::open(rt, alloc, store, Named::<J, Open>::new(Open), ()).ok()?;
+    let (mut reader, mut writer) = (whole(lines), Narrow::new(alloc, MANY, MANY));
     let _ = run_session(rt, alloc, &hub, &names, &mut reader, &mut writer);
     let closed = hub.close(rt, Vec::new(alloc));
     if writer.taken.ends_with(b"done 1.1\nbye\n") {

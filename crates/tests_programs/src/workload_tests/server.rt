@@ -1,8 +1,12 @@
 //! Servers over sockets, with many connections, with some that behave badly, and over listeners that fail.
-use super::super::stores::{names, opened};
+ghost use Rattle.std.specs.Prelude.{◌≡◌};
+
+use super::super::stores::{names, opened, store};
 use super::{FIRST, MANY, Narrow, OF_A_DEVICE, Talk, run_over, whole};
+use hub::{Naming, NewStore};
 use std::alloc::{AllocError, Global};
 use std::io::{self, Read, Write};
+use std::marker::Brand;
 use std::net::{Ipv4Addr, Net, Shutdown, TcpListener, TcpStream};
 use std::sync::Wait;
 use std::sync::atomic::{AtomicUsize, Ordering};
@@ -314,6 +318,30 @@ fn served<
         + Drop
         + 'static,
 >(rt: &R, alloc: Global, codes: &[i32], visit: Visit, sessions: u32) -> Option<(usize, bool)> {
+    served_in::<Brand, R>(rt, alloc, store(alloc)?, codes, visit, sessions)
+}
+
+fn served_in<
+    J: Naming + Send + Sync + Drop + 'static,
+    R: Threads
+        + Wait
+        + Clock
+        + Net<Listener = TcpListener, Stream = TcpStream>
+        + Clone
+        + Send
+        + Sync
+        + Drop
+        + 'static,
+>(
+    rt: &R,
+    alloc: Global,
+    store: NewStore,
+    codes: &[i32],
+    visit: Visit,
+    sessions: u32,
+) -> Option<(usize, bool)>
+    requires { store.history.seen.book ≡ J.book }
+{
     let names = names()?;
     let listener = Listener::bind(rt, 0).ok()?;
     let port = listener.port();
@@ -324,7 +352,7 @@ fn served<
         calls,
     };
     let server = Server::counted(alloc, failing, sessions).ok()?;
-    let hub = opened(rt, alloc)?;
+    let hub = opened::<J, R>(rt, alloc, store)?;
     let (lent, names, shared) = (&hub, &names, &server);
     let (_, right) = thread::join(
         rt,

@@ -1,13 +1,17 @@
 //! Servers that stay, and the program as a server.
-use super::super::stores::{names, opened};
+ghost use Rattle.std.specs.Prelude.{◌≡◌};
+
+use super::super::stores::{names, opened, store};
 use super::connection::are_settled;
 use super::server::{
     CONNECTIONS, OPEN, Turn, connected, had_turns, is_answered, rest, told, unread, written,
 };
 use super::{FIRST, MANY, Narrow, OF_A_DEVICE, Talk, split};
+use hub::{Naming, NewStore};
 use log::{Handle, LevelFilter, Logged};
 use std::alloc::{AllocError, Global};
 use std::io::{self, Read, Write};
+use std::marker::Brand;
 use std::net::{Net, TcpListener, TcpStream};
 use std::sync::atomic::{AtomicUsize, Ordering};
 use std::sync::{Arc, Mutex, Wait};
@@ -91,6 +95,23 @@ fn stays<
         + Drop
         + 'static,
 >(rt: &R, alloc: Global) -> Option<bool> {
+    stays_in::<Brand, R>(rt, alloc, store(alloc)?)
+}
+
+fn stays_in<
+    J: Naming + Send + Sync + Drop + 'static,
+    R: Threads
+        + Wait
+        + Clock
+        + Net<Listener = TcpListener, Stream = TcpStream>
+        + Clone
+        + Send
+        + Sync
+        + Drop
+        + 'static,
+>(rt: &R, alloc: Global, store: NewStore) -> Option<bool>
+    requires { store.history.seen.book ≡ J.book }
+{
     let names = names()?;
     let listener = Listener::bind(rt, 0).ok()?;
     let port = listener.port();
@@ -102,7 +123,7 @@ fn stays<
         streams: Vec::new(alloc),
         right: false,
     };
-    let hub = opened(rt, alloc)?;
+    let hub = opened::<J, R>(rt, alloc, store)?;
     serve_connections(rt, alloc, &hub, &names, &server, &mut input);
     let left = server.left();
     let closed = hub.close(rt, left.transcripts);

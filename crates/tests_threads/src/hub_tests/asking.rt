@@ -1,7 +1,7 @@
 //! What the tests of a hub share.
-ghost use Rattle.std.specs.Prelude.{◌<◌, ◌≤◌};
+ghost use Rattle.std.specs.Prelude.{◌≡◌, ◌<◌, ◌≤◌};
 
-use hub::{Config, Gate, Hub, Seat};
+use hub::{Config, Gate, Hub, Named, Naming, NewStore, Seat};
 use plain_store::Answer;
 use stamps::{Client, Counter, Item, Keep, Key, Limits, Stamp, Tag, Value};
 use std::alloc::Global;
@@ -28,22 +28,26 @@ pub fn config(alloc: Global, slots: u32, every: u32, epoch: u32) -> Option<Confi
     }
 }
 
-/// A hub whose workers nobody holds, and which cuts no journal.
-pub fn opened<R: Threads + Wait + Clone + Send + Drop + 'static>(
-    rt: &R,
-    alloc: Global,
-    slots: u32,
-    every: u32,
-) -> Option<Hub<()>>
+/// A store that cuts no journal.
+pub fn store(alloc: Global, slots: u32, every: u32) -> Option<NewStore>
     requires some { 0 < every }
     requires few { every ≤ 65536 }
 {
-    let config = config(alloc, slots, every, 0)?;
-    Hub::open(rt, alloc, config, (), ()).ok()
+    Some(NewStore::of(config(alloc, slots, every, 0)?))
+}
+
+/// A hub whose workers nobody holds.
+pub fn opened<
+    J: Naming + Send + Sync + Drop + 'static,
+    R: Threads + Wait + Clone + Send + Drop + 'static,
+>(rt: &R, alloc: Global, store: NewStore) -> Option<Hub<Named<J, ()>>>
+    requires { store.history.seen.book ≡ J.book }
+{
+    Hub::open(rt, alloc, store, Named::<J, ()>::new(()), ()).ok()
 }
 
 /// A seat of a client, from base 0.
-pub fn seated<'a, G: Gate, R: Wait>(
+pub fn seated<'a, G: Gate + Naming, R: Wait>(
     rt: &R,
     hub: &'a Hub<G>,
     tenant: u32,

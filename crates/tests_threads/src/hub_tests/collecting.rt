@@ -1,17 +1,18 @@
 //! Collections, after each event and after many.
-ghost use Rattle.std.specs.Prelude.{◌<◌, ◌≤◌};
+ghost use Rattle.std.specs.Prelude.{◌≡◌, ◌<◌, ◌≤◌};
 
-use super::asking::{opened, seated, two_items};
-use hub::{Closed, Hub};
+use super::asking::{opened, seated, store, two_items};
+use hub::{Closed, Gate, Hub, Naming, NewStore};
 use partition::{Book, Journal};
 use plain_store::{Call, ReadReply, Reply};
 use stamps::{Item, Keep, Key, Stamp};
 use std::alloc::Global;
+use std::marker::Brand;
 use std::sync::Wait;
 use std::thread::Threads;
 
 /// Client 1 of tenant 0 writes `x` twice.
-fn write_twice<R: Wait>(rt: &R, hub: &Hub<()>) -> Option<()> {
+fn write_twice<G: Gate + Naming, R: Wait>(rt: &R, hub: &Hub<G>) -> Option<()> {
     let [x, _] = two_items("1")?;
     let one = [x];
     let mut seat = seated(rt, hub, 0, 1)?;
@@ -29,7 +30,16 @@ fn written_twice<R: Threads + Wait + Clone + Send + Drop + 'static>(
     keep: u8,
     other: u8,
 ) -> Option<Closed> {
-    let hub = opened(rt, alloc, 16, 1)?;
+    written_in::<Brand, R>(rt, alloc, store(alloc, 16, 1)?, keep, other)
+}
+
+fn written_in<
+    J: Naming + Send + Sync + Drop + 'static,
+    R: Threads + Wait + Clone + Send + Drop + 'static,
+>(rt: &R, alloc: Global, store: NewStore, keep: u8, other: u8) -> Option<Closed>
+    requires { store.history.seen.book ≡ J.book }
+{
+    let hub = opened::<J, R>(rt, alloc, store)?;
     let is_set = match (Keep::new(keep), Keep::new(other)) {
         (Some(keep), Some(other)) => {
             hub.set_keep(rt, 0, keep).is_ok()
@@ -153,7 +163,12 @@ fn sixteen_items(alloc: Global) -> Option<Vec<Item>> {
 }
 
 /// Client 1 of tenant 1 writes these so many times.
-fn write_often<R: Wait>(rt: &R, hub: &Hub<()>, items: &[Item], times: u32) -> Option<()> {
+fn write_often<G: Gate + Naming, R: Wait>(
+    rt: &R,
+    hub: &Hub<G>,
+    items: &[Item],
+    times: u32,
+) -> Option<()> {
     let mut seat = seated(rt, hub, 1, 1)?;
     for _ in 0..times {
         let _ = seat.put_all(rt, items);
@@ -189,8 +204,17 @@ fn collected_after<R: Threads + Wait + Clone + Send + Drop + 'static>(
     requires some { 0 < every }
     requires few { every ≤ 65536 }
 {
+    collected_in::<Brand, R>(rt, alloc, store(alloc, 16, every)?, every, times)
+}
+
+fn collected_in<
+    J: Naming + Send + Sync + Drop + 'static,
+    R: Threads + Wait + Clone + Send + Drop + 'static,
+>(rt: &R, alloc: Global, store: NewStore, every: u32, times: u32) -> Option<u32>
+    requires { store.history.seen.book ≡ J.book }
+{
     let items = sixteen_items(alloc)?;
-    let hub = opened(rt, alloc, 16, every)?;
+    let hub = opened::<J, R>(rt, alloc, store)?;
     let written = write_often(rt, &hub, items.as_slice(), times);
     let closed = hub.close(rt, Vec::new(alloc));
     written?;

@@ -1,12 +1,15 @@
 //! Journals that are cut while the hub runs, and entries that are returned; and both put before what is left.
-ghost use Rattle.std.specs.Prelude.{◌≤◌};
+ghost use Rattle.std.specs.Prelude.{◌≡◌, ◌≤◌};
 
 use super::asking::{config, seated, two_items};
-use hub::{Closed, EntryList, Hub, JoinFault, Sink, Transcript};
+use hub::{
+    Closed, EntryList, Front, Gate, Hub, JoinFault, Named, Naming, NewStore, Sink, Transcript,
+};
 use partition::{Epoch, Journal};
 use plain_store::Answer;
 use stamps::{Item, Key};
 use std::alloc::Global;
+use std::marker::Brand;
 use std::sync::{Arc, Mutex, Wait};
 use std::thread::Threads;
 
@@ -21,15 +24,15 @@ struct Keeper<R> {
 }
 
 impl<R: Wait> Sink for Keeper<R> {
-    fn epoch(&self, partition: u32, tenant: u32, epoch: Epoch) {
+    fn epoch<J: Naming>(&self, partition: u32, tenant: u32, epoch: Epoch, _seen: &Front<J>) {
         let _ = self.parts.lock(&self.rt).push((partition, tenant, epoch));
     }
 }
 
 /// Client 1 of tenant 0 writes `x` twice and hands out its entries in between.
-fn write_and_drain<R: Wait>(
+fn write_and_drain<G: Gate + Naming, R: Wait>(
     rt: &R,
-    hub: &Hub<()>,
+    hub: &Hub<G>,
     transcripts: &mut Vec<Transcript>,
 ) -> Option<EntryList> {
     let [x, _] = two_items("1")?;
@@ -51,8 +54,17 @@ fn run<R: Threads + Wait + Clone + Send + Sync + Drop + 'static>(
 ) -> Option<(Option<EntryList>, Closed)>
     requires { epoch ≤ 1048576 }
 {
-    let config = config(alloc, 16, 65536, epoch)?;
-    let hub = Hub::open(rt, alloc, config, (), keeper).ok()?;
+    let store = NewStore::of(config(alloc, 16, 65536, epoch)?);
+    run_in::<Brand, R>(rt, alloc, store, keeper)
+}
+
+fn run_in<
+    J: Naming + Send + Sync + Drop + 'static,
+    R: Threads + Wait + Clone + Send + Sync + Drop + 'static,
+>(rt: &R, alloc: Global, store: NewStore, keeper: Keeper<R>) -> Option<(Option<EntryList>, Closed)>
+    requires { store.history.seen.book ≡ J.book }
+{
+    let hub = Hub::open(rt, alloc, store, Named::<J, ()>::new(()), keeper).ok()?;
     let mut transcripts = Vec::new(alloc);
     let handed = write_and_drain(rt, &hub, &mut transcripts);
     Some((handed, hub.close(rt, transcripts)))
@@ -169,7 +181,7 @@ fn keyed(item: Item, key: Key) -> Item {
 }
 
 /// Client 1 of tenant 0 writes four keys, and whether that was done.
-pub(super) fn write_four<R: Wait>(rt: &R, hub: &Hub<()>) -> Option<bool> {
+pub(super) fn write_four<G: Gate + Naming, R: Wait>(rt: &R, hub: &Hub<G>) -> Option<bool> {
     let [x, y] = two_items("1")?;
     let v = keyed(x, Key::read(b"v")?);
     let w = keyed(x, Key::read(b"w")?);
@@ -191,13 +203,24 @@ fn write_four_in_epochs<R: Threads + Wait + Clone + Send + Sync + Drop + 'static
     };
     let mut config = config(alloc, 16, 65536, 1)?;
     config.parts = 1;
-    let hub = Hub::open(rt, alloc, config, (), keeper).ok()?;
-    let is_written = write_four(rt, &hub);
-    let _ = hub.close(rt, Vec::new(alloc));
+    let is_written = write_four_in::<Brand, R>(rt, alloc, NewStore::of(config), keeper);
     if is_written != Some(true) {
         return None;
     }
     Some(Arc::into_inner(parts)?.into_inner())
+}
+
+/// Whether they were written.
+fn write_four_in<
+    J: Naming + Send + Sync + Drop + 'static,
+    R: Threads + Wait + Clone + Send + Sync + Drop + 'static,
+>(rt: &R, alloc: Global, store: NewStore, keeper: Keeper<R>) -> Option<bool>
+    requires { store.history.seen.book ≡ J.book }
+{
+    let hub = Hub::open(rt, alloc, store, Named::<J, ()>::new(()), keeper).ok()?;
+    let is_written = write_four(rt, &hub);
+    let _ = hub.close(rt, Vec::new(alloc));
+    is_written
 }
 
 /// A journal that is cut at each event is full with two. Of four calls to one partition the seat serves two, under one lock,

@@ -1,12 +1,13 @@
 //! A gate that holds a call of partition 0, and with it the seat or the worker that serves it, until another seat's call was answered
 //! at partition 1, or waits for partition 0 too.
-ghost use Rattle.std.specs.Prelude.{◌≤◌};
+ghost use Rattle.std.specs.Prelude.{◌≡◌, ◌≤◌};
 
 use super::asking::{config, seated, told, two_items};
-use hub::{Gate, Hub};
+use hub::{Gate, Hub, Named, Naming, NewStore};
 use plain_store::Answer;
 use stamps::{Item, Key};
 use std::alloc::Global;
+use std::marker::Brand;
 use std::sync::atomic::{AtomicU64, Ordering};
 use std::sync::{Arc, Wait};
 use std::thread;
@@ -73,15 +74,18 @@ impl Gate for Holder {
     }
 }
 
-/// A hub with a holder and its marks, which cuts a journal at so many events.
-fn held<R: Threads + Wait + Clone + Send + Drop + 'static>(
+/// A hub with a holder, and the holder's marks.
+fn held<
+    J: Naming + Send + Sync + Drop + 'static,
+    R: Threads + Wait + Clone + Send + Drop + 'static,
+>(
     rt: &R,
     alloc: Global,
+    store: NewStore,
     place: Place,
     nth: u64,
-    epoch: u32,
-) -> Option<(Hub<Holder>, Arc<Marks>)>
-    requires { epoch ≤ 1048576 }
+) -> Option<(Hub<Named<J, Holder>>, Arc<Marks>)>
+    requires { store.history.seen.book ≡ J.book }
 {
     let marks = Marks {
         holding: AtomicU64::new(0),
@@ -94,13 +98,17 @@ fn held<R: Threads + Wait + Clone + Send + Drop + 'static>(
         nth,
         marks: Arc::try_clone(&marks).ok()?,
     };
-    let config = config(alloc, 16, 64, epoch)?;
-    let hub = Hub::open(rt, alloc, config, holder, ()).ok()?;
+    let hub = Hub::open(rt, alloc, store, Named::<J, Holder>::new(holder), ()).ok()?;
     Some((hub, marks))
 }
 
 /// How many initial versions a client reads of one key.
-fn read_one<R: Wait>(rt: &R, hub: &Hub<Holder>, number: u16, key: &[u8]) -> Option<u32> {
+fn read_one<G: Gate + Naming, R: Wait>(
+    rt: &R,
+    hub: &Hub<G>,
+    number: u16,
+    key: &[u8],
+) -> Option<u32> {
     let key = Key::read(key)?;
     let mut seat = seated(rt, hub, 0, number)?;
     let count = told(&seat.get_all(rt, &[key]), 0, 0);
@@ -109,9 +117,9 @@ fn read_one<R: Wait>(rt: &R, hub: &Hub<Holder>, number: u16, key: &[u8]) -> Opti
 }
 
 /// The first client reads `x`, which the gate holds. The second waits for that, reads this key, and lets the gate go on.
-fn read<R: Wait>(
+fn read<G: Gate + Naming, R: Wait>(
     rt: &R,
-    hub: &Hub<Holder>,
+    hub: &Hub<G>,
     marks: &Marks,
     second: &[u8],
     nth: usize,
@@ -134,7 +142,17 @@ fn is_read_beside<R: Threads + Wait + Clone + Send + Sync + Drop + 'static>(
     place: Place,
     second: &[u8],
 ) -> Option<bool> {
-    let (hub, marks) = held(rt, alloc, place, 1, 0)?;
+    let store = NewStore::of(config(alloc, 16, 64, 0)?);
+    read_beside::<Brand, R>(rt, alloc, store, place, second)
+}
+
+fn read_beside<
+    J: Naming + Send + Sync + Drop + 'static,
+    R: Threads + Wait + Clone + Send + Sync + Drop + 'static,
+>(rt: &R, alloc: Global, store: NewStore, place: Place, second: &[u8]) -> Option<bool>
+    requires { store.history.seen.book ≡ J.book }
+{
+    let (hub, marks) = held::<J, R>(rt, alloc, store, place, 1)?;
     let (lent, shared) = (&hub, &*marks);
     let counts = thread::map_indices(rt, alloc, 2, &|nth| read(rt, lent, shared, second, nth));
     let is_seen = marks.seen.load(Ordering::SeqCst) == 1;
@@ -164,7 +182,12 @@ fn keyed(item: Item, letter: u8) -> Option<Item> {
 }
 
 /// Whether a client has written the items with these keys.
-fn write_four<R: Wait>(rt: &R, hub: &Hub<Holder>, number: u16, keys: [u8; 4]) -> Option<bool> {
+fn write_four<G: Gate + Naming, R: Wait>(
+    rt: &R,
+    hub: &Hub<G>,
+    number: u16,
+    keys: [u8; 4],
+) -> Option<bool> {
     let [item, _] = two_items("1")?;
     let [first, second, third, last] = keys;
     let items = [
@@ -181,7 +204,12 @@ fn write_four<R: Wait>(rt: &R, hub: &Hub<Holder>, number: u16, keys: [u8; 4]) ->
 
 /// The first client writes at partition 0, whose worker the gate holds. The second waits for that, writes at partition 1, and lets the
 /// gate go on.
-fn write<R: Wait>(rt: &R, hub: &Hub<Holder>, marks: &Marks, nth: usize) -> Option<bool> {
+fn write<G: Gate + Naming, R: Wait>(
+    rt: &R,
+    hub: &Hub<G>,
+    marks: &Marks,
+    nth: usize,
+) -> Option<bool> {
     if nth == 0 {
         let is_written = write_four(rt, hub, 1, *b"xzbv");
         marks.holding.store(1, Ordering::SeqCst);
@@ -198,7 +226,17 @@ fn are_written_beside<R: Threads + Wait + Clone + Send + Sync + Drop + 'static>(
     rt: &R,
     alloc: Global,
 ) -> Option<bool> {
-    let (hub, marks) = held(rt, alloc, Place::Inside, 3, 1)?;
+    let store = NewStore::of(config(alloc, 16, 64, 1)?);
+    written_beside::<Brand, R>(rt, alloc, store)
+}
+
+fn written_beside<
+    J: Naming + Send + Sync + Drop + 'static,
+    R: Threads + Wait + Clone + Send + Sync + Drop + 'static,
+>(rt: &R, alloc: Global, store: NewStore) -> Option<bool>
+    requires { store.history.seen.book ≡ J.book }
+{
+    let (hub, marks) = held::<J, R>(rt, alloc, store, Place::Inside, 3)?;
     let (lent, shared) = (&hub, &*marks);
     let written = thread::map_indices(rt, alloc, 2, &|nth| write(rt, lent, shared, nth));
     let is_seen = marks.seen.load(Ordering::SeqCst) == 1;

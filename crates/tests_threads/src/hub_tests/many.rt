@@ -1,9 +1,12 @@
 //! Four seats of two tenants, each in a thread of its own.
-use super::asking::{opened, seated, two_items};
-use hub::{Hub, Seat};
+ghost use Rattle.std.specs.Prelude.{◌≡◌};
+
+use super::asking::{opened, seated, store, two_items};
+use hub::{Gate, Hub, Naming, NewStore, Seat};
 use plain_store::Answer;
 use stamps::Item;
 use std::alloc::Global;
+use std::marker::Brand;
 use std::sync::Wait;
 use std::thread;
 use std::thread::Threads;
@@ -26,14 +29,14 @@ fn is_whole(answer: &Answer, own: &Item) -> bool {
 }
 
 /// Whether both items are written, and read whole.
-fn is_good<R: Wait>(rt: &R, seat: &mut Seat<'_, ()>, items: &[Item; 2]) -> bool {
+fn is_good<G: Gate + Naming, R: Wait>(rt: &R, seat: &mut Seat<'_, G>, items: &[Item; 2]) -> bool {
     let [x, y] = items;
     let is_written = matches!(seat.put_all(rt, items), Answer::Done(_));
     is_written && is_whole(&seat.get_all(rt, &[x.key, y.key]), x)
 }
 
 /// How often both keys are written and read well in turn, by a client of each number below 4. Each write has the tenant's own value.
-fn good_rounds<R: Wait>(rt: &R, hub: &Hub<()>, nth: usize) -> Option<u32> {
+fn good_rounds<G: Gate + Naming, R: Wait>(rt: &R, hub: &Hub<G>, nth: usize) -> Option<u32> {
     let (tenant, own) = if nth < 2 { (0, "first") } else { (1, "second") };
     let number = if nth % 2 == 0 { 1 } else { 2 };
     let items = two_items(own)?;
@@ -53,7 +56,16 @@ fn four_sessions<R: Threads + Wait + Clone + Send + Sync + Drop + 'static>(
     rt: &R,
     alloc: Global,
 ) -> Option<Vec<Option<u32>>> {
-    let hub = opened(rt, alloc, 64, 2)?;
+    sessions_in::<Brand, R>(rt, alloc, store(alloc, 64, 2)?)
+}
+
+fn sessions_in<
+    J: Naming + Send + Sync + Drop + 'static,
+    R: Threads + Wait + Clone + Send + Sync + Drop + 'static,
+>(rt: &R, alloc: Global, store: NewStore) -> Option<Vec<Option<u32>>>
+    requires { store.history.seen.book ≡ J.book }
+{
+    let hub = opened::<J, R>(rt, alloc, store)?;
     let lent = &hub;
     let counts = thread::map_indices(rt, alloc, 4, &|nth| good_rounds(rt, lent, nth));
     let _ = hub.close(rt, Vec::new(alloc));

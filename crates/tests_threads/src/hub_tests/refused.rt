@@ -1,13 +1,16 @@
 //! What stands where an allocation failed, whichever it was. `tools/refuse-memory` has each fail; in a plain run none does.
-use super::asking::{config, opened, seated, two_items};
+ghost use Rattle.std.specs.Prelude.{◌≡◌};
+
+use super::asking::{config, opened, seated, store, two_items};
 use super::epochs::{journal, write_four};
-use hub::{Config, Gate, Hub, HubFault, Seat, Sink, Transcript};
+use hub::{Config, Front, Gate, Hub, HubFault, Named, Naming, NewStore, Seat, Sink, Transcript};
 use partition::Epoch;
 use plain_store::{Answer, Readings, Refusal};
 use settle::{SettleFault, settle};
 use stamps::{Item, Stamp};
 use std::alloc::Global;
 use std::io;
+use std::marker::Brand;
 use std::sync::atomic::{AtomicU64, Ordering};
 use std::sync::{Arc, Wait};
 use std::thread::Threads;
@@ -49,13 +52,14 @@ fn config_again(alloc: Global) -> Option<Config> {
 }
 
 /// Opens and closes a hub that has this mark: what was refused, if anything was.
-fn open_and_close<R: Threads + Wait + Clone + Send + Drop + 'static>(
-    rt: &R,
-    alloc: Global,
-    config: Config,
-    mark: Arc<u8>,
-) -> Option<&'static str> {
-    match Hub::open(rt, alloc, config, Marked { mark }, ()) {
+fn open_and_close<
+    J: Naming + Send + Sync + Drop + 'static,
+    R: Threads + Wait + Clone + Send + Drop + 'static,
+>(rt: &R, alloc: Global, store: NewStore, mark: Arc<u8>) -> Option<&'static str>
+    requires { store.history.seen.book ≡ J.book }
+{
+    let gate = Named::<J, Marked>::new(Marked { mark });
+    match Hub::open(rt, alloc, store, gate, ()) {
         Ok(hub) => {
             let _ = hub.close(rt, Vec::new(alloc));
             None
@@ -72,7 +76,8 @@ fn refused_hub<R: Threads + Wait + Clone + Send + Drop + 'static>(
 ) -> Option<Option<&'static str>> {
     let config = config_again(alloc)?;
     let mark = shared_mark(alloc)?;
-    let refused = open_and_close(rt, alloc, config, Arc::try_clone(&mark).ok()?);
+    let store = NewStore::of(config);
+    let refused = open_and_close::<Brand, R>(rt, alloc, store, Arc::try_clone(&mark).ok()?);
     match Arc::into_inner(mark) {
         Some(1) => Some(refused),
         _ => None,
@@ -95,7 +100,12 @@ struct Seen {
 }
 
 /// An operation of a client, which writes, reads and searches in turn. Its second write reads its keys first.
-fn operation<R: Wait>(rt: &R, seat: &mut Seat<'_, ()>, items: &[Item; 2], nth: u32) -> Answer {
+fn operation<G: Gate + Naming, R: Wait>(
+    rt: &R,
+    seat: &mut Seat<'_, G>,
+    items: &[Item; 2],
+    nth: u32,
+) -> Answer {
     let [x, y] = items;
     match nth {
         0 => seat.put_all(rt, items),
@@ -130,7 +140,12 @@ fn last_done(answer: &Answer, done: Stamp) -> Option<Stamp> {
 
 /// Asks for the operations from this one to the sixth: each again where it was answered 30. Which it did not do, since it was then
 /// answered 19, or 6; none where an answer was wrong.
-fn ask<R: Wait>(rt: &R, seat: &mut Seat<'_, ()>, first: u32, seen: &mut Seen) -> Option<u32> {
+fn ask<G: Gate + Naming, R: Wait>(
+    rt: &R,
+    seat: &mut Seat<'_, G>,
+    first: u32,
+    seen: &mut Seen,
+) -> Option<u32> {
     let items = two_items("1")?;
     for nth in first..6 {
         let mut answer = operation(rt, seat, &items, nth);
@@ -148,7 +163,11 @@ fn ask<R: Wait>(rt: &R, seat: &mut Seat<'_, ()>, first: u32, seen: &mut Seen) ->
 }
 
 /// A seat of client 1: taken again where an allocation failed.
-fn sit<'a, R: Wait>(rt: &R, hub: &'a Hub<()>, seen: &mut Seen) -> Option<Seat<'a, ()>> {
+fn sit<'a, G: Gate + Naming, R: Wait>(
+    rt: &R,
+    hub: &'a Hub<G>,
+    seen: &mut Seen,
+) -> Option<Seat<'a, G>> {
     match seated(rt, hub, 0, 1) {
         Some(seat) => Some(seat),
         None => {
@@ -159,9 +178,9 @@ fn sit<'a, R: Wait>(rt: &R, hub: &'a Hub<()>, seen: &mut Seen) -> Option<Seat<'a
 }
 
 /// A session from this operation on, and which one it did not do.
-fn session<R: Wait>(
+fn session<G: Gate + Naming, R: Wait>(
     rt: &R,
-    hub: &Hub<()>,
+    hub: &Hub<G>,
     first: u32,
     seen: &mut Seen,
     transcripts: &mut Vec<Transcript>,
@@ -173,9 +192,9 @@ fn session<R: Wait>(
 }
 
 /// Whether six operations were done: the rest by a second session where the first one's seat was stopped.
-fn are_done<R: Wait>(
+fn are_done<G: Gate + Naming, R: Wait>(
     rt: &R,
-    hub: &Hub<()>,
+    hub: &Hub<G>,
     seen: &mut Seen,
     transcripts: &mut Vec<Transcript>,
 ) -> bool {
@@ -194,25 +213,36 @@ fn two_places(alloc: Global) -> Option<Vec<Transcript>> {
     }
 }
 
-/// A hub: opened again where an allocation failed.
-fn opened_again<R: Threads + Wait + Clone + Send + Drop + 'static>(
-    rt: &R,
-    alloc: Global,
-) -> Option<Hub<()>> {
-    match opened(rt, alloc, 64, 4) {
-        Some(hub) => Some(hub),
-        None => opened(rt, alloc, 64, 4),
-    }
-}
-
-/// Whether six operations were done and are settled: asked for again where an allocation failed.
+/// Whether six operations were done and are settled, in a hub that is opened again where an allocation failed.
 fn is_settled<R: Threads + Wait + Clone + Send + Drop + 'static>(
     rt: &R,
     alloc: Global,
     seen: &mut Seen,
 ) -> Option<bool> {
+    match is_settled_at_once(rt, alloc, seen) {
+        Some(is_settled) => Some(is_settled),
+        None => is_settled_at_once(rt, alloc, seen),
+    }
+}
+
+/// So in a hub that is opened once.
+fn is_settled_at_once<R: Threads + Wait + Clone + Send + Drop + 'static>(
+    rt: &R,
+    alloc: Global,
+    seen: &mut Seen,
+) -> Option<bool> {
+    is_settled_in::<Brand, R>(rt, alloc, store(alloc, 64, 4)?, seen)
+}
+
+/// Whether six operations were done and are settled: asked for again where an allocation failed.
+fn is_settled_in<
+    J: Naming + Send + Sync + Drop + 'static,
+    R: Threads + Wait + Clone + Send + Drop + 'static,
+>(rt: &R, alloc: Global, store: NewStore, seen: &mut Seen) -> Option<bool>
+    requires { store.history.seen.book ≡ J.book }
+{
     let mut transcripts = two_places(alloc)?;
-    let hub = opened_again(rt, alloc)?;
+    let hub = opened::<J, R>(rt, alloc, store)?;
     let is_done = are_done(rt, &hub, seen, &mut transcripts);
     let closed = hub.close(rt, transcripts);
     let is_settled = match settle(alloc, &closed, 0) {
@@ -243,7 +273,7 @@ struct Counting {
 }
 
 impl Sink for Counting {
-    fn epoch(&self, _partition: u32, _tenant: u32, epoch: Epoch) {
+    fn epoch<J: Naming>(&self, _partition: u32, _tenant: u32, epoch: Epoch, _seen: &Front<J>) {
         let events = epoch.events.len() as u64;
         self.events.fetch_add(events, Ordering::SeqCst);
     }
@@ -257,30 +287,46 @@ fn shared_count(alloc: Global) -> Option<Arc<AtomicU64>> {
     }
 }
 
-/// A hub of one partition that cuts its journals at each event, and counts the events that it cut.
-fn opened_cutting<R: Threads + Wait + Clone + Send + Drop + 'static>(
-    rt: &R,
-    alloc: Global,
-    cut: &Arc<AtomicU64>,
-) -> Option<Hub<()>> {
+/// A store of one partition that cuts its journals at each event.
+fn cutting(alloc: Global) -> Option<NewStore> {
     let mut config = config(alloc, 16, 65536, 1)?;
     config.parts = 1;
-    let events = Arc::try_clone(cut).ok()?;
-    Hub::open(rt, alloc, config, (), Counting { events }).ok()
+    Some(NewStore::of(config))
 }
 
-/// Whether four keys were written, by calls of which the worker served two, and each epoch was handed over: asked for again, by the
-/// same client's next session, where an allocation failed.
+/// Whether four keys were written and each epoch was handed over, in a hub that is opened again where an allocation failed.
 fn are_written<R: Threads + Wait + Clone + Send + Drop + 'static>(
     rt: &R,
     alloc: Global,
     refused: &mut Option<&'static str>,
 ) -> Option<bool> {
+    match are_written_at_once(rt, alloc, refused) {
+        Some(are_written) => Some(are_written),
+        None => are_written_at_once(rt, alloc, refused),
+    }
+}
+
+/// So in a hub that is opened once.
+fn are_written_at_once<R: Threads + Wait + Clone + Send + Drop + 'static>(
+    rt: &R,
+    alloc: Global,
+    refused: &mut Option<&'static str>,
+) -> Option<bool> {
+    are_written_in::<Brand, R>(rt, alloc, cutting(alloc)?, refused)
+}
+
+/// Whether four keys were written, by calls of which the worker served two, and each epoch was handed over: asked for again, by the
+/// same client's next session, where an allocation failed.
+fn are_written_in<
+    J: Naming + Send + Sync + Drop + 'static,
+    R: Threads + Wait + Clone + Send + Drop + 'static,
+>(rt: &R, alloc: Global, store: NewStore, refused: &mut Option<&'static str>) -> Option<bool>
+    requires { store.history.seen.book ≡ J.book }
+{
     let cut = shared_count(alloc)?;
-    let hub = match opened_cutting(rt, alloc, &cut) {
-        Some(hub) => hub,
-        None => opened_cutting(rt, alloc, &cut)?,
-    };
+    let events = Arc::try_clone(&cut).ok()?;
+    let gate = Named::<J, ()>::new(());
+    let hub = Hub::open(rt, alloc, store, gate, Counting { events }).ok()?;
     let mut are_written = write_four(rt, &hub) == Some(true);
     if !are_written {
         *refused = Some("a write");

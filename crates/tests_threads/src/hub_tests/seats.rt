@@ -1,15 +1,18 @@
 //! One seat after another.
-use super::asking::{opened, seated, told, two_items, two_keys};
-use hub::{EntryList, Hub, Taken};
+ghost use Rattle.std.specs.Prelude.{◌≡◌};
+
+use super::asking::{opened, seated, store, told, two_items, two_keys};
+use hub::{EntryList, Gate, Hub, Naming, NewStore, Taken};
 use plain_store::{Answer, Refusal, Reply};
 use stamps::{Client, Counter, Item, Key};
 use std::alloc::Global;
+use std::marker::Brand;
 use std::sync::Wait;
 use std::thread::Threads;
 
 /// A write of two keys, a search, and a write of no key: how many items are found, whether the last one is refused, and how many
 /// entries there are.
-fn write_and_search<R: Wait>(rt: &R, hub: &Hub<()>) -> Option<(u32, bool, usize)> {
+fn write_and_search<G: Gate + Naming, R: Wait>(rt: &R, hub: &Hub<G>) -> Option<(u32, bool, usize)> {
     let items = two_items("1")?;
     let mut seat = seated(rt, hub, 0, 1)?;
     let _ = seat.put_all(rt, &items);
@@ -23,7 +26,16 @@ fn searched<R: Threads + Wait + Clone + Send + Drop + 'static>(
     rt: &R,
     alloc: Global,
 ) -> Option<((u32, bool, usize), [u128; 2])> {
-    let hub = opened(rt, alloc, 16, 64)?;
+    searched_in::<Brand, R>(rt, alloc, store(alloc, 16, 64)?)
+}
+
+fn searched_in<
+    J: Naming + Send + Sync + Drop + 'static,
+    R: Threads + Wait + Clone + Send + Drop + 'static,
+>(rt: &R, alloc: Global, store: NewStore) -> Option<((u32, bool, usize), [u128; 2])>
+    requires { store.history.seen.book ≡ J.book }
+{
+    let hub = opened::<J, R>(rt, alloc, store)?;
     let seen = write_and_search(rt, &hub);
     let closed = hub.close(rt, Vec::new(alloc));
     match closed.counts.as_slice() {
@@ -58,7 +70,7 @@ fn is_of_discard(taken: Option<Taken>) -> bool {
 }
 
 /// A write that two replies refuse, where there is one slot and it is taken.
-fn refused_twice<R: Wait>(rt: &R, hub: &Hub<()>) -> Option<bool> {
+fn refused_twice<G: Gate + Naming, R: Wait>(rt: &R, hub: &Hub<G>) -> Option<bool> {
     let [x, y] = two_items("1")?;
     let [b, z] = [Key::read(b"b")?, Key::read(b"z")?];
     let mut seat = seated(rt, hub, 0, 1)?;
@@ -71,7 +83,16 @@ fn refused_in_full<R: Threads + Wait + Clone + Send + Drop + 'static>(
     rt: &R,
     alloc: Global,
 ) -> Option<bool> {
-    let hub = opened(rt, alloc, 1, 64)?;
+    refused_in::<Brand, R>(rt, alloc, store(alloc, 1, 64)?)
+}
+
+fn refused_in<
+    J: Naming + Send + Sync + Drop + 'static,
+    R: Threads + Wait + Clone + Send + Drop + 'static,
+>(rt: &R, alloc: Global, store: NewStore) -> Option<bool>
+    requires { store.history.seen.book ≡ J.book }
+{
+    let hub = opened::<J, R>(rt, alloc, store)?;
     let ends_so = refused_twice(rt, &hub);
     let _ = hub.close(rt, Vec::new(alloc));
     ends_so
@@ -95,9 +116,9 @@ enum Deed {
 
 /// Takes a seat from this base: the turn, the seat's number and the counter of its session, none where it is dropped, or why it was
 /// refused.
-fn sit<R: Wait>(
+fn sit<G: Gate + Naming, R: Wait>(
     rt: &R,
-    hub: &Hub<()>,
+    hub: &Hub<G>,
     (tenant, client): (u32, u16),
     base: u64,
     deed: Deed,
@@ -120,7 +141,7 @@ fn sit<R: Wait>(
 }
 
 /// The first seat that is not as it should be, by its place in the table.
-fn first_wrong<R: Wait>(rt: &R, hub: &Hub<()>) -> Option<usize> {
+fn first_wrong<G: Gate + Naming, R: Wait>(rt: &R, hub: &Hub<G>) -> Option<usize> {
     // A client with its tenant, its base, what its seat does, and what comes of that.
     let rows = [
         ((2, 1), 0, Deed::End, Err(Refusal::NoTenant)),
@@ -148,20 +169,35 @@ fn first_wrong<R: Wait>(rt: &R, hub: &Hub<()>) -> Option<usize> {
     None
 }
 
+/// The first wrong one in a hub, and how many transcripts are left.
+fn wrong_and_left<R: Threads + Wait + Clone + Send + Drop + 'static>(
+    rt: &R,
+    alloc: Global,
+) -> Option<(Option<usize>, usize)> {
+    wrong_in::<Brand, R>(rt, alloc, store(alloc, 16, 64)?)
+}
+
+fn wrong_in<
+    J: Naming + Send + Sync + Drop + 'static,
+    R: Threads + Wait + Clone + Send + Drop + 'static,
+>(rt: &R, alloc: Global, store: NewStore) -> Option<(Option<usize>, usize)>
+    requires { store.history.seen.book ≡ J.book }
+{
+    let hub = opened::<J, R>(rt, alloc, store)?;
+    let wrong = first_wrong(rt, &hub);
+    let left = hub.close(rt, Vec::new(alloc)).transcripts.len();
+    Some((wrong, left))
+}
+
 /// A tenant has so many clients, each has one session at a time, and one that is dropped stays open, and leaves no transcript.
 #[test]
 fn sessions_come_one_after_the_other(rt: HostRuntime) {
-    let mut wrong = Some(0);
-    let mut left = 1;
-    if let Some(hub) = opened(&rt, rt.alloc(), 16, 64) {
-        wrong = first_wrong(&rt, &hub);
-        left = hub.close(&rt, Vec::new(rt.alloc())).transcripts.len();
-    }
-    assert!(rt; wrong.is_none() && left == 0, "{wrong:?}");
+    let seen = wrong_and_left(&rt, rt.alloc());
+    assert!(rt; seen == Some((None, 0)), "{seen:?}");
 }
 
 /// How many of two items a read finds after a write of them was abandoned once it had taken so many replies.
-fn found_after<R: Wait>(rt: &R, hub: &Hub<()>, takes: u32) -> Option<u32> {
+fn found_after<G: Gate + Naming, R: Wait>(rt: &R, hub: &Hub<G>, takes: u32) -> Option<u32> {
     let (keys, items) = (two_keys()?, two_items("1")?);
     let _ = seated(rt, hub, 0, 1)?.abandon(rt, &items, takes);
     let mut reader = seated(rt, hub, 0, 2)?;
@@ -170,14 +206,30 @@ fn found_after<R: Wait>(rt: &R, hub: &Hub<()>, takes: u32) -> Option<u32> {
     Some(told(&read, 1, 1))
 }
 
+fn found<R: Threads + Wait + Clone + Send + Drop + 'static>(
+    rt: &R,
+    alloc: Global,
+    takes: u32,
+) -> Option<u32> {
+    found_in::<Brand, R>(rt, alloc, store(alloc, 16, 64)?, takes)
+}
+
+fn found_in<
+    J: Naming + Send + Sync + Drop + 'static,
+    R: Threads + Wait + Clone + Send + Drop + 'static,
+>(rt: &R, alloc: Global, store: NewStore, takes: u32) -> Option<u32>
+    requires { store.history.seen.book ≡ J.book }
+{
+    let hub = opened::<J, R>(rt, alloc, store)?;
+    let found = found_after(rt, &hub, takes);
+    let _ = hub.close(rt, Vec::new(alloc));
+    found
+}
+
 #[test]
 fn an_abandoned_write_is_read_once_it_is_decided(rt: HostRuntime) {
     for (takes, wanted) in [(0, 0), (1, 0), (2, 2), (3, 2), (4, 2)] {
-        let mut found = None;
-        if let Some(hub) = opened(&rt, rt.alloc(), 16, 64) {
-            found = found_after(&rt, &hub, takes);
-            let _ = hub.close(&rt, Vec::new(rt.alloc()));
-        }
+        let found = found(&rt, rt.alloc(), takes);
         assert!(rt; found == Some(wanted), "{takes} replies");
     }
 }

@@ -1,13 +1,14 @@
 //! Stores of many tenants and partitions: each tenant is collected at each partition and keeps what is set for it, and each epoch of
 //! each of its journals is handed over.
-ghost use Rattle.std.specs.Prelude.{◌<◌, ◌≤◌};
+ghost use Rattle.std.specs.Prelude.{◌≡◌, ◌<◌, ◌≤◌};
 
 use super::asking::{seated, two_items};
-use hub::{Closed, Config, Gate, Hub, Sink};
+use hub::{Closed, Config, Front, Gate, Hub, Named, Naming, NewStore, Sink};
 use partition::{Epoch, EventList};
 use plain_store::{Answer, Call, Refusal};
 use stamps::{Client, Counter, Item, Keep, Key, Limits, home};
 use std::alloc::Global;
+use std::marker::Brand;
 use std::sync::atomic::{AtomicU64, Ordering};
 use std::sync::{Arc, Mutex, Wait};
 use std::thread::Threads;
@@ -23,7 +24,7 @@ struct Keeper<R> {
 }
 
 impl<R: Wait> Sink for Keeper<R> {
-    fn epoch(&self, partition: u32, tenant: u32, epoch: Epoch) {
+    fn epoch<J: Naming>(&self, partition: u32, tenant: u32, epoch: Epoch, _seen: &Front<J>) {
         let _ = self.parts.lock(&self.rt).push((partition, tenant, epoch));
     }
 }
@@ -107,10 +108,10 @@ fn items_from(alloc: Global, first: u32, parts: u32) -> Option<Vec<Item>> {
 }
 
 /// Client 1 of the last tenant, which has one session at a time, writes one key at each partition, twice.
-fn write_at_each<R: Wait>(
+fn write_at_each<G: Gate + Naming, R: Wait>(
     rt: &R,
     alloc: Global,
-    hub: &Hub<Watcher>,
+    hub: &Hub<G>,
     parts: u32,
     tenants: u32,
 ) -> Option<()> {
@@ -134,10 +135,10 @@ fn write_at_each<R: Wait>(
 
 /// Whether the hub then reports of each partition, and of no other, how much each tenant uses there, of the last one at least its four
 /// calls; and that one client of the last tenant had a session, and none of another.
-fn is_told<R: Wait>(
+fn is_told<G: Gate + Naming, R: Wait>(
     rt: &R,
     alloc: Global,
-    hub: &Hub<Watcher>,
+    hub: &Hub<G>,
     parts: u32,
     tenants: u32,
 ) -> Option<bool> {
@@ -185,6 +186,16 @@ fn written<R: Threads + Wait + Clone + Send + Sync + Drop + 'static>(
     parts: u32,
     tenants: u32,
 ) -> Option<Left> {
+    let store = NewStore::of(config(alloc, parts, tenants)?);
+    written_in::<Brand, R>(rt, alloc, store, parts, tenants)
+}
+
+fn written_in<
+    J: Naming + Send + Sync + Drop + 'static,
+    R: Threads + Wait + Clone + Send + Sync + Drop + 'static,
+>(rt: &R, alloc: Global, store: NewStore, parts: u32, tenants: u32) -> Option<Left>
+    requires { store.history.seen.book ≡ J.book }
+{
     let kept = Arc::new(alloc, Mutex::new(Vec::new(alloc))).ok()?;
     let keeper = Keeper {
         rt: rt.clone().ok()?,
@@ -200,7 +211,8 @@ fn written<R: Threads + Wait + Clone + Send + Sync + Drop + 'static>(
     let watcher = Watcher {
         turns: Arc::try_clone(&turns).ok()?,
     };
-    let hub = Hub::open(rt, alloc, config(alloc, parts, tenants)?, watcher, keeper).ok()?;
+    let gate = Named::<J, Watcher>::new(watcher);
+    let hub = Hub::open(rt, alloc, store, gate, keeper).ok()?;
     for tenant in 0..tenants {
         hub.set_keep(rt, tenant, keep_of(tenant)?).ok()?;
     }

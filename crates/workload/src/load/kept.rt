@@ -5,7 +5,7 @@ ghost use Rattle.line_runs.specs.declared.fault.ProgramFault.TheVariants.{OutOfM
 ghost use Rattle.workload.specs.Loading.{AreAllThere};
 
 use crate::load::all_there::are_all_there;
-use hub::{Closed, Sink};
+use hub::{Closed, Front, Naming, Sink};
 use line_runs::ProgramFault;
 use partition::Epoch;
 use std::alloc::{AllocError, Global};
@@ -21,7 +21,7 @@ pub(crate) struct KeptEpochs<H> {
 }
 
 impl<H: Wait> Sink for KeptEpochs<H> {
-    fn epoch(&self, partition: u32, tenant: u32, epoch: Epoch) {
+    fn epoch<J: Naming>(&self, partition: u32, tenant: u32, epoch: Epoch, _seen: &Front<J>) {
         // One that finds no memory is missing from then on: `epochs` reports so.
         let _ = self.came.lock(&self.rt).push((partition, tenant, epoch));
     }

@@ -9,9 +9,9 @@ ghost use Rattle.server_sessions.specs.Telling.{IsServed};
 ghost use Rattle.workload.specs.Rounds.{AreOfSeats, ArePicked, IsOfSeat, act_in, act_of_round, acts_drawn, seats_of};
 
 use crate::load::mix::{Draws, Round, RoundKind, four_keys, items_of, tag_of};
-use hub::{Hub, Seat, Transcript};
+use hub::{Naming, Transcript};
 use line_runs::ProgramFault;
-use server_sessions::Open;
+use server_sessions::{OpenHub, OpenSeat};
 use stamps::{Client, Counter};
 use std::alloc::Global;
 use std::sync::Wait;
@@ -48,10 +48,10 @@ impl Promise<Option<Transcript>> for LoadSeat {
 /// Has the seats of each tenant run, each in a thread of its own, and answers their transcripts. When it returns, these
 /// threads have ended. It is `Device` where a thread can't be started, once those that were begun by then have run to their
 /// end, and `OutOfMemory` where a seat or a transcript found no memory.
-pub(crate) fn run_seats<H: Threads + Wait + Sync>(
+pub(crate) fn run_seats<J: Naming + Send + Sync, H: Threads + Wait + Sync>(
     rt: &H,
     alloc: Global,
-    hub: &Hub<Open>,
+    hub: &OpenHub<J>,
     tenants: u32,
     seats: u16,
     orders: Orders,
@@ -147,9 +147,8 @@ fn join_seat<H: Threads>(
 
 /// Does the rounds of one client. It answers its seat's transcript, or nothing where the seat found no memory, or the tenant
 /// may not have so many clients.
-fn run_seat<H: Wait>(rt: &H, hub: &Hub<Open>, of: LoadSeat) -> Option<Transcript>
-    ensures { IfSome result
-        (IsOfSeat of.orders.seed of.orders.rounds of.orders.keys of.tenant of.number) }
+fn run_seat<J: Naming, H: Wait>(rt: &H, hub: &OpenHub<J>, of: LoadSeat) -> Option<Transcript>
+    ensures { IfSome result (IsOfSeat of.orders.seed of.orders.rounds of.orders.keys of.tenant of.number) }
 {
     let client = Client::new(of.number)?;
     let base = Counter::new(0)?;
@@ -163,7 +162,12 @@ fn run_seat<H: Wait>(rt: &H, hub: &Hub<Open>, of: LoadSeat) -> Option<Transcript
 }
 
 /// Does so many rounds, and ends the seat.
-fn run_rounds<H: Wait>(rt: &H, seat: Seat<'_, Open>, draws: Draws, orders: Orders) -> Transcript
+fn run_rounds<J: Naming, H: Wait>(
+    rt: &H,
+    seat: OpenSeat<'_, J>,
+    draws: Draws,
+    orders: Orders,
+) -> Transcript
     ensures name { IsNamed result seat.entry.name }
     // What it began are some of the acts that it drew, in their order.
     ensures began { seat.entry.entries ≡ []
@@ -180,7 +184,13 @@ fn run_rounds<H: Wait>(rt: &H, seat: Seat<'_, Open>, draws: Draws, orders: Order
 }
 
 /// Does a round. Whatever is answered, the next round follows.
-fn run_round<H: Wait>(rt: &H, seat: &mut Seat<'_, Open>, nth: u32, round: &Round, keys: u32)
+fn run_round<J: Naming, H: Wait>(
+    rt: &H,
+    seat: &mut OpenSeat<'_, J>,
+    nth: u32,
+    round: &Round,
+    keys: u32,
+)
     requires { 0 < keys }
     // It does just what was drawn.
     ensures served { (answer : Told)

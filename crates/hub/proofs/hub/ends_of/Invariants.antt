@@ -5,7 +5,7 @@ use Rattle.hub.proofs.hub.ends_of.Given as goal
 
 -- there is an end of each queue so far, and room for the others
 abbrev pub invariant-loop-at : goal.invariant-loop-at
-invariant-loop-at l = record {
+invariant-loop-at g l = record {
   len : vec_len l.ends ≡ l.at;
   room : vec_len l.fn.queues ≤ vec_capacity l.ends;
   ends : l.ends.items ≡ map unsent (take l.at l.fn.queues.items);

@@ -1,4 +1,4 @@
-use Rattle.std.proofs.Common.{◌≡◌, ◌+◌, ℕ, List, ◌∷◌, [], ap, sym, subst, arith, refl, length, length-append, ◌∙◌}
+use Rattle.std.proofs.Common.{◌≡◌, ◌+◌, ℕ, List, ◌∷◌, [], ap, sym, subst, arith, rules, refl, length, length-append, ◌∙◌}
 use Rattle.std.specs.Prelude.{All}
 use Rattle.std.proofs.lemmas.List.Elements.{All-nil, All-cons, All-append}
 use Rattle.std.specs.Arc.{arc_value}
@@ -21,9 +21,10 @@ loop-partition-init g c = record {
   counts = refl;
   of_room = λ none. subst (All (λ (queue : QueueEnd). (queue.capacity ≡ c.args.config.now.queue) × (queue.count ≡ 0))) (sym none) (All-nil (λ (queue : QueueEnd). (queue.capacity ≡ c.args.config.now.queue) × (queue.count ≡ 0)));
   of_config = λ none.
-      let P : List (Arc Shard Global) → Type 0 = λ shards. AreShardsFrom c.args.config.now 0 shards in
+      let P : List (Arc (Shard g.row.G.Denot g.G.Naming) Global) → Type 0 = λ shards. AreShardsFrom c.args.config.now 0 shards in
       subst P (sym none) tt;
   workers = λ same. same;
+  words = omega arith;
 }
 
 -- this one is that of the next partition
@@ -44,10 +45,11 @@ loop-partition-preserved g c =
           let P : QueueEnd → Type 0 = λ queue. (queue.capacity ≡ config.queue) × (queue.count ≡ 0) in
           subst (All P) (sym c.push_reserved-in-loop-partition.ensures.items) (All-append P _ _ (so_far.of_room none) (All-cons P _ [] (c.in_ok-queue.ensures.room.0, c.in_ok-queue.ensures.none.0) (All-nil P)));
       of_config = λ none.
-          let P : List (Arc Shard Global) → Type 0 = λ ds. AreShardsFrom config 0 ds in
+          let P : List (Arc (Shard g.row.G.Denot g.G.Naming) Global) → Type 0 = λ ds. AreShardsFrom config 0 ds in
           let Q : ℕ → Type 0 = λ n. IsConfigOf config n (arc_value c.in_ok-shard.shard).config in
           let count : c.loop-partition.partition ≡ 0 + length shards = omega (arith, so_far.started, ap length none) in
           subst P (sym c.push_reserved.ensures.items) (shards-more config 0 shards c.in_ok-shard.shard (so_far.of_config none) (subst Q count c.in_ok-shard.ensures.config));
-      workers = λ same. mapped-more _ _ _ _ _ _ _ _ (so_far.workers same) (c.in_ok-thread.ensures ∙ ap (λ (d : Shard). d.config.partition) c.in_ok-theirs.ensures)
+      workers = λ same. mapped-more _ _ _ _ _ _ _ _ (so_far.workers same) (c.in_ok-thread.ensures ∙ ap (λ (d : Shard g.row.G.Denot g.G.Naming). d.config.partition) c.in_ok-theirs.ensures)
           c.push_reserved-in-loop-partition-2.ensures.items c.push_reserved.ensures.items;
+      words = search rules;
     }

@@ -16,4 +16,5 @@ invariant-loop-partition g l = record {
   of_config : l.fn.lists.shards.items ≡ [] → AreShardsFrom l.config 0 l.lists.shards.items;
   workers : map (λ thread. thread.promise.partition) l.fn.lists.threads.items ≡ map partition_of l.fn.lists.shards.items
       → map (λ thread. thread.promise.partition) l.lists.threads.items ≡ map partition_of l.lists.shards.items;
+  words : l.words.next ≡ l.partition;
 }

@@ -7,8 +7,8 @@ use Rattle.workload.proofs.serve.serve_and_check.Goals as goal
 
 pub returns-clause-served : goal.returns-clause-served
 returns-clause-served g c =
-    closed_on (config_view c.args.config) c.args.names.now (g.W.Write.contents c.args.writer.now) (g.W.Write.contents c.serve_all-told.new.writer) (g.W.Write.contents c.tell_checks-ended.new.writer)
-    c.close-closed.result c.tell_checks-ended.result c.ended_after.result c.in_ok-told.ensures.listened (is_closed (config_view c.args.config) _ c.close-closed.result c.close-closed.ensures.config c.close-closed.ensures.parts c.close-closed.ensures.books c.in_ok-hub.ensures.opened) (λ kept. absurd (omega (arith, kept, c.requires)))
+    closed_on (config_view c.args.store.config) c.args.names.now (g.W.Write.contents c.args.writer.now) (g.W.Write.contents c.serve_all-told.new.writer) (g.W.Write.contents c.tell_checks-ended.new.writer)
+    c.close-closed.result c.tell_checks-ended.result c.ended_after.result c.in_ok-told.ensures.listened (is_closed (config_view c.args.store.config) _ c.close-closed.result c.close-closed.ensures.config c.close-closed.ensures.parts c.close-closed.ensures.books c.in_ok-hub.ensures.opened) (λ kept. absurd (omega (arith, kept, c.requires.cut)))
     (λ cut. inr (
       c.in_ok-endings.endings,
       c.in_ok-endings.ensures.limits ∙ ap (λ (v : ConfigView). v.limits) (c.close-closed.ensures.config ∙ c.in_ok-hub.ensures.opened),
@@ -21,17 +21,17 @@ returns-clause-served g c =
 pub returns-in_err-endings-clause-served : goal.returns-in_err-endings-clause-served
 returns-in_err-endings-clause-served g c =
     let p = err_from_is_err_and c.from_residual-in_err-endings.result c.from_residual-in_err-endings.ensures.1 in
-    rw (p.1, p.2) (no_room_to_check (config_view c.args.config) c.args.names.now (g.W.Write.contents c.args.writer.now) (g.W.Write.contents c.serve_all-told.new.writer)
-    c.close-closed.result c.in_ok-told.ensures.listened (is_closed (config_view c.args.config) _ c.close-closed.result c.close-closed.ensures.config c.close-closed.ensures.parts c.close-closed.ensures.books c.in_ok-hub.ensures.opened) c.requires)
+    rw (p.1, p.2) (no_room_to_check (config_view c.args.store.config) c.args.names.now (g.W.Write.contents c.args.writer.now) (g.W.Write.contents c.serve_all-told.new.writer)
+    c.close-closed.result c.in_ok-told.ensures.listened (is_closed (config_view c.args.store.config) _ c.close-closed.result c.close-closed.ensures.config c.close-closed.ensures.parts c.close-closed.ensures.books c.in_ok-hub.ensures.opened) c.requires.cut)
 
 pub returns-in_err-hub-clause-served : goal.returns-in_err-hub-clause-served
 returns-in_err-hub-clause-served g c =
     let p = err_from_is_err_and c.from_residual.result c.from_residual.ensures.1 in
-    rw (p.1, p.2) (nothing_told (config_view c.args.config) c.args.names.now (g.W.Write.contents c.args.writer.now) c.in_err-hub.field-0.0 c.in_err-hub.ensures.refused)
+    rw (p.1, p.2) (nothing_told (config_view c.args.store.config) c.args.names.now (g.W.Write.contents c.args.writer.now) c.in_err-hub.field-0.0 c.in_err-hub.ensures.refused)
 
 pub returns-clause-port : goal.returns-clause-port
 returns-clause-port g c =
-    port_then_checked (config_view c.args.config) c.close-closed.result c.args.names.now (port_of (listener_of c.args.server)) (g.W.Write.contents c.args.writer.now)
+    port_then_checked (config_view c.args.store.config) c.close-closed.result c.args.names.now (port_of (listener_of c.args.server)) (g.W.Write.contents c.args.writer.now)
     (g.W.Write.contents c.serve_all-told.new.writer) (g.W.Write.contents c.tell_checks-ended.new.writer) c.tell_checks-ended.result c.ended_after.result
     c.in_ok-told.ensures.port (inr (
       c.in_ok-endings.endings,

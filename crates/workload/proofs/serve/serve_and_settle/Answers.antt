@@ -9,19 +9,19 @@ use Rattle.workload.proofs.serve.serve_and_settle.Goals as goal
 
 pub returns-clause-served : goal.returns-clause-served
 returns-clause-served g c =
-    closed_on (config_view c.args.config) c.args.names.now (g.W.Write.contents c.args.writer.now) (g.W.Write.contents c.serve_all-told.new.writer) (g.W.Write.contents c.tell_verdicts-ended.new.writer)
-    c.close-closed.result c.tell_verdicts-ended.result c.ended_after.result c.in_ok-told.ensures.listened (is_closed (config_view c.args.config) _ c.close-closed.result c.close-closed.ensures.config c.close-closed.ensures.parts c.close-closed.ensures.books c.in_ok-hub.ensures.opened) (λ kept. c.tell_verdicts-ended.ensures)
-    (λ cut. absurd (omega (arith, cut, c.requires))) (_, c.fault_of-before.ensures.before, c.ended_after.ensures)
+    closed_on (config_view c.args.store.config) c.args.names.now (g.W.Write.contents c.args.writer.now) (g.W.Write.contents c.serve_all-told.new.writer) (g.W.Write.contents c.tell_verdicts-ended.new.writer)
+    c.close-closed.result c.tell_verdicts-ended.result c.ended_after.result c.in_ok-told.ensures.listened (is_closed (config_view c.args.store.config) _ c.close-closed.result c.close-closed.ensures.config c.close-closed.ensures.parts c.close-closed.ensures.books c.in_ok-hub.ensures.opened) (λ kept. c.tell_verdicts-ended.ensures)
+    (λ cut. absurd (omega (arith, cut, c.requires.kept))) (_, c.fault_of-before.ensures.before, c.ended_after.ensures)
 
 pub returns-then-left-clause-served : goal.returns-then-left-clause-served
 returns-then-left-clause-served g c =
-    no_transcript (config_view c.args.config) c.args.names.now (g.W.Write.contents c.args.writer.now) (g.W.Write.contents c.serve_all-told.new.writer) c.close-closed.result c.in_ok-told.ensures.listened
-    (is_closed (config_view c.args.config) _ c.close-closed.result c.close-closed.ensures.config c.close-closed.ensures.parts c.close-closed.ensures.books c.in_ok-hub.ensures.opened) c.requires
+    no_transcript (config_view c.args.store.config) c.args.names.now (g.W.Write.contents c.args.writer.now) (g.W.Write.contents c.serve_all-told.new.writer) c.close-closed.result c.in_ok-told.ensures.listened
+    (is_closed (config_view c.args.store.config) _ c.close-closed.result c.close-closed.ensures.config c.close-closed.ensures.parts c.close-closed.ensures.books c.in_ok-hub.ensures.opened) c.requires.kept
 
 pub returns-in_err-hub-clause-served : goal.returns-in_err-hub-clause-served
 returns-in_err-hub-clause-served g c =
     let p = err_from_is_err_and c.from_residual.result c.from_residual.ensures.1 in
-    rw (p.1, p.2) (nothing_told (config_view c.args.config) c.args.names.now (g.W.Write.contents c.args.writer.now) c.in_err-hub.field-0.0 c.in_err-hub.ensures.refused)
+    rw (p.1, p.2) (nothing_told (config_view c.args.store.config) c.args.names.now (g.W.Write.contents c.args.writer.now) c.in_err-hub.field-0.0 c.in_err-hub.ensures.refused)
 
 pub returns-clause-port : goal.returns-clause-port
 returns-clause-port g c =

@@ -2,7 +2,9 @@ use Rattle.std.proofs.Common.{◌≡◌, List, sym, ap, subst, ◌∙◌}
 use Rattle.plain_store.specs.declared.reading.Reading.{Reading}
 use Rattle.tenant_sessions.specs.Moves.{moved, answer_of}
 use Rattle.tenant_sessions.specs.Showing.{IfTells}
-use Rattle.hub.specs.Replies.{IsToldOf}
+use Rattle.history.specs.declared.entry.HistoryEntry.{HistoryEntry}
+use Rattle.hub.specs.Replies.{AreServed, IsToldOf}
+use Rattle.hub.specs.Sights.{sight_of}
 use Rattle.hub.specs.Seats.{at_seat}
 use Rattle.hub.proofs.Entries.{told-none, told-some, follows-told}
 use Rattle.tenant_sessions.specs.declared.session.ClientSession.{ClientSession}
@@ -25,7 +27,10 @@ returns-clause-read g c name setup asked start reads moves =
 
 pub returns-clause-served : goal.returns-clause-served
 returns-clause-served g c first last start are =
-    served-answered c.args.self.now.name first last start c.args.self.now.entries.items c.enter_answer.new.self.entries.items c.tell_end.new.answer c.enter_answer.ensures.answer are
+    let name = c.args.self.now.name in
+    let R : List HistoryEntry → Type 0 = λ s. AreServed (sight_of name s) first last start c.enter_answer.new.self.entries.items in
+    subst R (sym c.enter_answer.ensures.seen)
+    (served-answered (sight_of name c.args.self.now.seen) first last start c.args.self.now.entries.items c.enter_answer.new.self.entries.items c.tell_end.new.answer c.enter_answer.ensures.answer are)
 
 pub returns-clause-told : goal.returns-clause-told
 returns-clause-told g c rows some =

@@ -1,9 +1,9 @@
-use Rattle.std.proofs.Common.{ap, sym, subst, arith}
+use Rattle.std.proofs.Common.{ap, refl, sym, subst, arith}
 use Rattle.tenant_sessions.specs.CallsLeft.{calls_left}
 use Rattle.tenant_sessions.specs.declared.session.ClientSession.{ClientSession}
 use Rattle.hub.specs.Rooms.{HasRoom}
 use Rattle.hub.specs.declared.operation.RunningOperation.{RunningOperation}
-use Rattle.hub.proofs.Given.{IsStagedOn, served-on}
+use Rattle.hub.proofs.Given.{IsStagedOn, served-on, sights}
 use Rattle.hub.proofs.operation.RunningOperation.exchange.Goals as goal
 use Rattle.hub.proofs.operation.RunningOperation.exchange.Goals.{then-not-send_calls, else-not-send_calls}
 
@@ -12,31 +12,31 @@ pub take_replies-requires-clause-calls : goal.take_replies-requires-clause-calls
 take_replies-requires-clause-calls g c =
     let sent = c.send_calls.new.self in
     let Q : ClientSession → Type 0 = λ s. HasRoom (calls_left s.running) sent.queues in
-    let P : RunningOperation g.row.G.Denot → Type 0 = λ o. HasRoom (calls_left o.session.running) o.queues in
+    let P : RunningOperation g.row.G.Denot g.G.Naming → Type 0 = λ o. HasRoom (calls_left o.session.running) o.queues in
     let left = subst Q (sym c.send_calls.ensures.rest.1) (c.send_calls.ensures.room _ c.requires.calls) in
     elim c.if-not-send_calls.branch [ then-not-send_calls w ↦ subst P (sym w.self-is) left | else-not-send_calls w ↦ subst P (sym w.self-is) left ]
 
 -- what was staged is as it was, but for the calls
 pub returns-in-Some-clause-served : goal.returns-in-Some-clause-served
 returns-in-Some-clause-served g c start are =
-    let P : RunningOperation g.row.G.Denot → Type 0 = λ o. IsStagedOn c.args.self.now o in
+    let P : RunningOperation g.row.G.Denot g.G.Naming → Type 0 = λ o. IsStagedOn c.args.self.now o in
     let rest = c.send_calls.ensures.rest in
-    let all : P c.send_calls.new.self = (rest.0, rest.3, omega (arith, c.send_calls.ensures.sent), ap (λ e. e.items) rest.2) in
+    let all : P c.send_calls.new.self = (rest.0, rest.3, omega (arith, c.send_calls.ensures.sent), ap (λ e. e.items) rest.2, rest.7) in
     let begun : P c.if-not-send_calls.self = elim c.if-not-send_calls.branch [ then-not-send_calls w ↦ subst P (sym w.self-is) all | else-not-send_calls w ↦ subst P (sym w.self-is) all ] in
-    served-on _ _ _ _ _ _ _ start _ _ _ begun.0 begun.1 begun.2 begun.3 c.take_replies.ensures.served are
+    served-on _ _ _ _ _ _ _ _ _ start _ _ _ (sights _ _ _ _ begun.0 begun.4) (sights _ _ _ _ begun.0 refl) begun.1 begun.2 begun.3 c.take_replies.ensures.served are
 
 pub returns-then-is_some-clause-served : goal.returns-then-is_some-clause-served
 returns-then-is_some-clause-served g c start are =
-    let P : RunningOperation g.row.G.Denot → Type 0 = λ o. IsStagedOn c.args.self.now o in
+    let P : RunningOperation g.row.G.Denot g.G.Naming → Type 0 = λ o. IsStagedOn c.args.self.now o in
     let rest = c.send_calls.ensures.rest in
-    let all : P c.send_calls.new.self = (rest.0, rest.3, omega (arith, c.send_calls.ensures.sent), ap (λ e. e.items) rest.2) in
+    let all : P c.send_calls.new.self = (rest.0, rest.3, omega (arith, c.send_calls.ensures.sent), ap (λ e. e.items) rest.2, rest.7) in
     let begun : P c.if-not-send_calls.self = elim c.if-not-send_calls.branch [ then-not-send_calls w ↦ subst P (sym w.self-is) all | else-not-send_calls w ↦ subst P (sym w.self-is) all ] in
-    served-on _ _ _ _ _ _ _ start _ _ _ begun.0 begun.1 begun.2 begun.3 c.take_replies.ensures.served are
+    served-on _ _ _ _ _ _ _ _ _ start _ _ _ (sights _ _ _ _ begun.0 begun.4) (sights _ _ _ _ begun.0 refl) begun.1 begun.2 begun.3 c.take_replies.ensures.served are
 
 pub returns-clause-served : goal.returns-clause-served
 returns-clause-served g c start are =
-    let P : RunningOperation g.row.G.Denot → Type 0 = λ o. IsStagedOn c.args.self.now o in
+    let P : RunningOperation g.row.G.Denot g.G.Naming → Type 0 = λ o. IsStagedOn c.args.self.now o in
     let rest = c.send_calls.ensures.rest in
-    let all : P c.send_calls.new.self = (rest.0, rest.3, omega (arith, c.send_calls.ensures.sent), ap (λ e. e.items) rest.2) in
+    let all : P c.send_calls.new.self = (rest.0, rest.3, omega (arith, c.send_calls.ensures.sent), ap (λ e. e.items) rest.2, rest.7) in
     let begun : P c.if-not-send_calls.self = elim c.if-not-send_calls.branch [ then-not-send_calls w ↦ subst P (sym w.self-is) all | else-not-send_calls w ↦ subst P (sym w.self-is) all ] in
-    served-on _ _ _ _ _ _ _ start _ _ _ begun.0 begun.1 begun.2 begun.3 c.take_replies.ensures.served are
+    served-on _ _ _ _ _ _ _ _ _ start _ _ _ (sights _ _ _ _ begun.0 begun.4) (sights _ _ _ _ begun.0 refl) begun.1 begun.2 begun.3 c.take_replies.ensures.served are

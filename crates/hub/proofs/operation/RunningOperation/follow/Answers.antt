@@ -35,7 +35,7 @@ pub returns-else-sends-clause-calls : goal.returns-else-sends-clause-calls
 returns-else-sends-clause-calls g c =
     let before = c.args.self.now in
     let left = calls_left before.session.running in
-    let P : RunningOperation g.row.G.Denot → Type 0 = λ o. HasRoom left o.queues in
+    let P : RunningOperation g.row.G.Denot g.G.Naming → Type 0 = λ o. HasRoom left o.queues in
     elim c.else-sends.branch [
       | else-sends-via-then-sends+else-not-send_calls w ↦
           let sends = sym (c.sends.ensures before.readings.value) ∙ w.if-sends.true in
@@ -71,7 +71,7 @@ returns-else-sends-clause-sent g c =
     let told = before.readings.value in
     let move = moved c.args.taken.now told in
     let waiting = calls_waiting before.session.running in
-    let P : RunningOperation g.row.G.Denot → Type 0 = λ o. o.queues.sent ≡ before.queues.sent + calls_sent move waiting in
+    let P : RunningOperation g.row.G.Denot g.G.Naming → Type 0 = λ o. o.queues.sent ≡ before.queues.sent + calls_sent move waiting in
     elim c.else-sends.branch [
       | else-sends-via-then-sends+else-not-send_calls w ↦
           let sends = sym (c.sends.ensures told) ∙ w.if-sends.true in

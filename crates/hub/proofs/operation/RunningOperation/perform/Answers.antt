@@ -1,4 +1,4 @@
-use Rattle.std.proofs.Common.{◌≡◌, ℕ, Option, sym, ap, subst, ◌∙◌, ◌+◌, refl, arith}
+use Rattle.std.proofs.Common.{◌≡◌, ℕ, List, Option, sym, ap, subst, ◌∙◌, ◌+◌, refl, arith}
 use Rattle.std.specs.Prelude.{IsNone}
 use Rattle.stamps.specs.Stamp.{stamp}
 use Rattle.stamps.specs.StampLaws.{counter_of-stamp}
@@ -6,7 +6,9 @@ use Rattle.plain_store.specs.Words.{Stamp}
 use Rattle.plain_store.specs.History.{Intent}
 use Rattle.hub.specs.Requests.{intent_of}
 use Rattle.tenant_sessions.specs.Held.{drawn_counter}
+use Rattle.history.specs.declared.entry.HistoryEntry.{HistoryEntry}
 use Rattle.hub.specs.Replies.{AreServed, IsDrawn}
+use Rattle.hub.specs.Sights.{sight_of}
 use Rattle.plain_store.specs.declared.answer.Answer.TheVariants.{Refused}
 use Rattle.shard.specs.declared.jobs.Fault.{Fault}
 use Rattle.hub.proofs.Entries.{answered-outcome, follows-start, told-none, told-some, follows-told, on_ok}
@@ -59,7 +61,7 @@ returns-in-Ok-clause-read g c =
     let next : started.counter ≡ before + 1 = omega (arith, counted, begun.counter) in
     c.last_stamp.ensures.value (omega (arith, next)) ∙ ap (λ n. stamp n client) next) in
     on_ok _ _
-    (reads-begun c.args.self.now.name c.args.parts own (IsDrawn client before after) c.args.request.now asked c.args.self.now.session started c.exchange.new.self.session c.args.self.now.entries.items c.exchange.new.self.entries.items c.args.self.now.place c.exchange.new.self.place c.args.answer.now c.exchange.new.answer
+    (reads-begun (sight_of c.args.self.now.name c.args.self.now.seen) (sight_of c.args.self.now.name c.exchange.new.self.seen) c.args.parts own (IsDrawn client before after) c.args.request.now asked c.args.self.now.session started c.exchange.new.self.session c.args.self.now.entries.items c.exchange.new.self.entries.items c.args.self.now.place c.exchange.new.self.place c.args.answer.now c.exchange.new.answer
     (λ items is.
     let counted = ap drawn_counter is in
     (refl, omega (arith, counted, begun.counter, c.exchange.ensures.counter)))
@@ -67,7 +69,7 @@ returns-in-Ok-clause-read g c =
     c.exchange.result c.exchange.ensures.answered
 
 pub returns-in-Err-clause-read : goal.returns-in-Err-clause-read
-returns-in-Err-clause-read g c = reads-refused c.args.self.now.name c.args.parts _ c.args.request.now c.in-Err.refusal _ _ _ c.tell_refusal.ensures
+returns-in-Err-clause-read g c = reads-refused (sight_of c.args.self.now.name c.enter_answer.new.self.seen) c.args.parts _ c.args.request.now c.in-Err.refusal _ _ _ c.tell_refusal.ensures
 
 pub returns-in-Ok-clause-served : goal.returns-in-Ok-clause-served
 returns-in-Ok-clause-served g c = c.exchange.ensures.served
@@ -75,9 +77,11 @@ returns-in-Ok-clause-served g c = c.exchange.ensures.served
 pub returns-in-Err-clause-served : goal.returns-in-Err-clause-served
 returns-in-Err-clause-served g c start are =
     let first = c.args.self.now.first in
-    let Q : ℕ → Type 0 = λ n. AreServed c.args.self.now.name first (first + n) start c.enter_answer.new.self.entries.items in
+    let name = c.args.self.now.name in
+    let Q : ℕ → Type 0 = λ n. AreServed (sight_of name c.enter_answer.new.self.seen) first (first + n) start c.enter_answer.new.self.entries.items in
+    let R : List HistoryEntry → Type 0 = λ s. AreServed (sight_of name s) first (first + c.args.self.now.queues.sent) start c.enter_answer.new.self.entries.items in
     subst Q (sym (ap (λ q. q.sent) c.enter_answer.ensures.queues))
-    (served-answered c.args.self.now.name first _ start c.args.self.now.entries.items c.enter_answer.new.self.entries.items c.tell_refusal.new.answer c.enter_answer.ensures.answer are)
+    (subst R (sym c.enter_answer.ensures.seen) (served-answered (sight_of name c.args.self.now.seen) first _ start c.args.self.now.entries.items c.enter_answer.new.self.entries.items c.tell_refusal.new.answer c.enter_answer.ensures.answer are))
 
 -- what begins sends no more than there was made room for
 pub exchange-requires-clause-calls : goal.exchange-requires-clause-calls

@@ -19,6 +19,7 @@ invariant-loop-nth g l = record {
   place : l.self.place ≡ l.fn.self.place;
   fault : l.self.fault ≡ l.fn.self.fault;
   readings : l.self.readings ≡ l.fn.self.readings;
+  seen : l.self.seen ≡ l.fn.self.seen;
   sent : l.self.queues.sent ≡ l.fn.self.queues.sent + l.nth;
   parts : l.self.queues.parts ≡ l.fn.self.queues.parts;
   staged : (setup : Setup) (asked : Asked) (taken : List Message) (running : Running) → l.fn.self.session.running ≡ Some running → RunningStands setup asked taken running

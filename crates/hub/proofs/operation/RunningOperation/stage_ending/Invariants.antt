@@ -16,6 +16,7 @@ invariant-loop-nth g l = record {
   place : l.self.place ≡ l.fn.self.place;
   fault : l.self.fault ≡ l.fn.self.fault;
   readings : l.self.readings ≡ l.fn.self.readings;
+  seen : l.self.seen ≡ l.fn.self.seen;
   sent : l.self.queues.sent ≡ l.fn.self.queues.sent + l.nth;
   parts : l.self.queues.parts ≡ l.fn.self.queues.parts;
   staged : (told : List Reading) → AreStagedBehind l.fn.self.name l.fn.self.queues.parts (l.fn.self.first + 1 + l.fn.self.queues.sent)

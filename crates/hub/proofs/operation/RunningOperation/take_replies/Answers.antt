@@ -1,5 +1,8 @@
 use Rattle.std.proofs.Common.{◌<◌, ◌≤◌, ◌+◌, refl, sym, ap, is_some, ◌∙◌, arith}
-use Rattle.hub.proofs.Given.{served-same}
+use Rattle.history.proofs.Lists.{prefix_join}
+use Rattle.hub.specs.Sights.{sight_of}
+use Rattle.hub.proofs.Given.{IsLaterSight, prefix_is, served-later, served-same, sights}
+use Rattle.hub.proofs.Replies.{reads-later}
 use Rattle.hub.proofs.operation.RunningOperation.take_replies.Goals as goal
 
 pub enter_reply-requires-clause-calls : goal.enter_reply-requires-clause-calls
@@ -15,6 +18,10 @@ loop-taken-preserved g c =
     let entered = c.enter_reply.ensures in
     let own = c.in-Some.ensures.own in
     let numbered = c.in-Some.ensures.numbered in
+    let at = sight_of name before.seen in
+    let learned = sight_of name c.learn.new.self in
+    let more : IsLaterSight at learned = record { tenant = refl; seat = refl; seen = c.learn.ensures.this } in
+    let ends : IsLaterSight learned (sight_of name after.seen) = record { tenant = refl; seat = refl; seen = prefix_is _ _ (sym entered.seen) } in
     let first = c.args.self.now.first in
     let later : before.queues.sent ≤ c.keep.new.self.sent = omega (arith, c.next_reply.ensures.sent, entered.sent, c.keep.ensures.sent) in
     let last = first + c.keep.new.self.sent in
@@ -28,14 +35,19 @@ loop-taken-preserved g c =
       few = (omega arith, omega (arith, entered.replies, so_far.few.1));
       ends = λ ended. entered.ends (so_far.ends ended);
       entered = λ start follows. entered.entered start (so_far.entered start follows);
-      read = λ setup asked start stamped reads. entered.read name setup asked start stamped (own.0 ∙ ap (λ n. n.tenant) so_far.name) (own.1 ∙ ap (λ n. n.seat) so_far.name) (so_far.read setup asked start stamped reads);
+      read = λ setup asked start stamped reads.
+          reads-later learned (sight_of name after.seen) setup asked start _ _ _ ends
+          (entered.read learned setup asked start stamped (own.0 ∙ ap (λ n. n.tenant) so_far.name) (own.1 ∙ ap (λ n. n.seat) so_far.name) c.learn.ensures.that
+          (reads-later at learned setup asked start _ _ _ more (so_far.read setup asked start stamped reads)));
       served = λ start are.
           let behind : first < c.in-Some.reply.number = omega (arith, numbered.0, so_far.first) in
           let up_to : c.in-Some.reply.number ≤ last = omega (arith, numbered.1, so_far.first, later) in
-          served-same before.name name first first last last start after.entries.items after.entries.items (sym so_far.name) refl (omega arith) refl
-          (entered.served first last start own.0 own.1 behind up_to
-          (served-same name before.name first first (first + before.queues.sent) last start before.entries.items before.entries.items so_far.name refl (omega (arith, later)) refl (so_far.served start are)));
+          served-same (sight_of before.name after.seen) (sight_of name after.seen) first first last last start after.entries.items after.entries.items (sights _ _ _ _ (sym so_far.name) refl) refl (omega arith) refl
+          (entered.served first last start own.0 own.1 c.learn.ensures.that behind up_to
+          (served-same learned (sight_of before.name c.learn.new.self) first first (first + before.queues.sent) last start before.entries.items before.entries.items (sights _ _ _ _ so_far.name refl) refl (omega (arith, later)) refl
+          (served-later at learned first (first + before.queues.sent) start before.entries.items more (so_far.served start are))));
       counter = omega (arith, entered.counter, so_far.counter);
+      seen = prefix_join _ _ _ so_far.seen (prefix_join _ _ _ c.learn.ensures.this (prefix_is _ _ (sym entered.seen)));
       name = entered.name ∙ so_far.name;
       first = entered.first ∙ so_far.first;
     }

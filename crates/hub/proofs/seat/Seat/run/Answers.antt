@@ -7,11 +7,13 @@ use Rattle.hub.specs.Limits.{max_calls}
 use Rattle.hub.specs.Replies.{IsDrawn, IsToldFor}
 use Rattle.shard.specs.declared.seat_name.SeatName.{SeatName}
 use Rattle.hub.specs.Requests.{act_of}
-use Rattle.hub.specs.Seats.{SeatView, Follows, IsEntered}
+use Rattle.hub.specs.Seats.{SeatView, Follows, IsEntered, sight}
+use Rattle.hub.specs.Sights.{SeatSight, sight_of}
+use Rattle.history.proofs.Lists.{prefix_join}
 use Rattle.hub.specs.Taken.{replies_in}
 use Rattle.hub.proofs.Taking.{replies-other}
 use Rattle.hub.proofs.Entries.{follows-extends, extends-after, answer-entered, on_ok, fault-left, recorded-goes-on}
-use Rattle.hub.proofs.Given.{served-began, served-same}
+use Rattle.hub.proofs.Given.{prefix_is, served-began, served-same, sights}
 use Rattle.hub.proofs.Operations.{entered-as, later-same, unbegun-entered}
 use Rattle.hub.proofs.Replies.{reads-refused, reads-run}
 use Rattle.hub.proofs.seat.Seat.run.Goals as goal
@@ -50,14 +52,17 @@ returns-clause-later g c =
     let named = c.in-Ok.ensures.name ∙ ap (λ (s : SeatView). s.name) c.self.view_is in
     let since = c.in-Ok.ensures.first ∙ ap (λ (s : SeatView). s.sent) c.self.view_is in
     let counted = ap (λ (s : ClientSession). s.counter) c.in-Ok.ensures.session ∙ ap (λ (s : SeatView). s.counter) c.self.view_is in
+    let seen = c.finish.ensures.seen ∙ c.count-sent.ensures.seen in
     let last = c.prepare.new.self.first + c.perform-told.new.self.queues.sent in
     let later : last ≤ c.finish.new.self.sent = omega (arith, c.finish.ensures.sent, c.count-sent.ensures.first, c.perform-told.ensures.first) in
     record {
       name = c.finish.ensures.name ∙ c.count-sent.ensures.name ∙ c.perform-told.ensures.name ∙ named;
       parts = c.finish.ensures.parts ∙ ap (λ (s : SeatView). s.parts) c.self.view_is;
       kept = rw same (extends-after start _ _ (follows-extends _ told.0 entries (subst (λ (es : List Entry). Follows es told.0 entries) started told.1)));
-      served = served-same name c.args.self.now.name c.prepare.new.self.first c.args.self.now.sent last c.finish.new.self.sent start entries c.finish.new.self.entries (sym named) (sym since) later same
-          (c.perform-told.ensures.served start (served-began name _ _ start _ _ started));
+      seen = prefix_join _ _ _ (prefix_is _ _ (sym (c.in-Ok.ensures.seen ∙ ap (λ (s : SeatView). s.seen) c.self.view_is))) (prefix_join _ _ _ c.perform-told.ensures.seen (prefix_is _ _ (sym seen)));
+      served = served-same (sight_of name c.perform-told.new.self.seen) (sight c.finish.new.self) c.prepare.new.self.first c.args.self.now.sent last c.finish.new.self.sent start entries c.finish.new.self.entries
+          (sights _ _ _ _ (c.finish.ensures.name ∙ c.count-sent.ensures.name ∙ c.perform-told.ensures.name) seen) (sym since) later same
+          (c.perform-told.ensures.served start (served-began (sight_of name c.prepare.new.self.seen) _ _ start _ _ started));
       sent = (omega (arith, since, c.finish.ensures.sent, c.count-sent.ensures.few.0, c.perform-told.ensures.first), omega (arith, since, c.finish.ensures.sent, c.count-sent.ensures.few.1, c.perform-told.ensures.first));
       counter = omega (arith, counted, c.perform-told.ensures.counter, c.finish.ensures.counter, ap (λ (s : ClientSession). s.counter) c.count-sent.ensures.session);
     }
@@ -73,18 +78,22 @@ returns-clause-told g c =
     let named = c.in-Ok.ensures.name ∙ ap (λ (s : SeatView). s.name) c.self.view_is in
     let counted = ap (λ (s : ClientSession). s.counter) c.in-Ok.ensures.session ∙ ap (λ (s : SeatView). s.counter) c.self.view_is in
     let after = c.finish.new.self.counter in
-    let P : ℕ → Type 0 = λ n. IsToldFor c.args.self.now.name n (IsDrawn c.args.self.now.name.client c.args.self.now.counter after) c.args.request.now c.finish.new.answer start c.finish.new.self.entries in
-    let Q : ℕ → Type 0 = λ n. IsToldFor c.args.self.now.name c.parts-parts.result (IsDrawn c.args.self.now.name.client n after) c.args.request.now c.finish.new.answer start c.finish.new.self.entries in
-    let R : SeatName → Type 0 = λ s. IsToldFor s c.parts-parts.result (IsDrawn s.client c.prepare.new.self.session.counter after) c.args.request.now c.finish.new.answer start c.finish.new.self.entries in
-    let S : ℕ → Type 0 = λ n. IsToldFor c.prepare.new.self.name c.parts-parts.result (IsDrawn c.prepare.new.self.name.client c.prepare.new.self.session.counter n) c.args.request.now c.finish.new.answer start c.finish.new.self.entries in
+    let now = sight c.finish.new.self in
+    let ran = sight_of c.prepare.new.self.name c.perform-told.new.self.seen in
+    let same : now ≡ ran = sights _ _ _ _ (c.finish.ensures.name ∙ c.count-sent.ensures.name ∙ c.perform-told.ensures.name) (c.finish.ensures.seen ∙ c.count-sent.ensures.seen) in
+    let U : SeatSight → Type 0 = λ v. IsToldFor v c.parts-parts.result (IsDrawn c.prepare.new.self.name.client c.prepare.new.self.session.counter c.perform-told.new.self.session.counter) c.args.request.now c.finish.new.answer start c.finish.new.self.entries in
+    let P : ℕ → Type 0 = λ n. IsToldFor now n (IsDrawn c.args.self.now.name.client c.args.self.now.counter after) c.args.request.now c.finish.new.answer start c.finish.new.self.entries in
+    let Q : ℕ → Type 0 = λ n. IsToldFor now c.parts-parts.result (IsDrawn c.args.self.now.name.client n after) c.args.request.now c.finish.new.answer start c.finish.new.self.entries in
+    let R : SeatName → Type 0 = λ s. IsToldFor now c.parts-parts.result (IsDrawn s.client c.prepare.new.self.session.counter after) c.args.request.now c.finish.new.answer start c.finish.new.self.entries in
+    let S : ℕ → Type 0 = λ n. IsToldFor now c.parts-parts.result (IsDrawn c.prepare.new.self.name.client c.prepare.new.self.session.counter n) c.args.request.now c.finish.new.answer start c.finish.new.self.entries in
     subst P parts (subst Q counted (subst R named (subst S (sym (c.finish.ensures.counter ∙ ap (λ (s : ClientSession). s.counter) c.count-sent.ensures.session))
-    (reads-run c.prepare.new.self.name c.parts-parts.result _ c.perform-told.result c.args.request.now start _ c.perform-told.new.self.entries.items c.finish.new.self.entries c.perform-told.new.answer c.finish.new.answer
-    c.perform-told.ensures.read started c.finish.ensures.served c.finish.ensures.refused (c.finish.ensures.entries ∙ ap (λ e. e.items) c.count-sent.ensures.entries)))))
+    (subst U (sym same) (reads-run ran c.parts-parts.result _ c.perform-told.result c.args.request.now start _ c.perform-told.new.self.entries.items c.finish.new.self.entries c.perform-told.new.answer c.finish.new.answer
+    c.perform-told.ensures.read started c.finish.ensures.served c.finish.ensures.refused (c.finish.ensures.entries ∙ ap (λ e. e.items) c.count-sent.ensures.entries))))))
 
 -- a refusal reports no stamp
 pub returns-in-Some-clause-told : goal.returns-in-Some-clause-told
 returns-in-Some-clause-told g c =
-    reads-refused c.args.self.now.name c.args.self.now.parts _ c.args.request.now c.in-Some.refusal _ _ _ c.tell_refusal.ensures
+    reads-refused (sight c.args.self.now) c.args.self.now.parts _ c.args.request.now c.in-Some.refusal _ _ _ c.tell_refusal.ensures
 
 -- that it began is no reply
 pub returns-clause-few : goal.returns-clause-few

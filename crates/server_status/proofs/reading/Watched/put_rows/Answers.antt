@@ -7,7 +7,7 @@ use Rattle.server_status.proofs.Rows.{rows_behind}
 use Rattle.server_status.proofs.reading.Watched.put_rows.Goals as goal
 
 pub loop-tenant-preserved : goal.loop-tenant-preserved
-loop-tenant-preserved c =
+loop-tenant-preserved g c =
     let found = c.in-Some-Some-Some in
     let nth = c.loop-tenant.tenant in
     let row = c.row_of.result in

@@ -10,11 +10,11 @@ told_with (Ok is_there) more told = λ is. more (told is)
 told_with (Err e) more told = tt
 
 pub returns-clause-used : goal.returns-clause-used
-returns-clause-used c =
+returns-clause-used g c =
     let self = c.args.self.now in
-    let P : ℕ → Type 0 = λ n. ∥ AreOf n self.partition self.book ∥₁ in
-    let Q : ℕ → Type 0 = λ n. ∥ AreOf c.args.parts n self.book ∥₁ in
+    let P : ℕ → Type 0 = λ n. ∥ AreOf n self.partition self.book.accounts ∥₁ in
+    let Q : ℕ → Type 0 = λ n. ∥ AreOf c.args.parts n self.book.accounts ∥₁ in
     let journals = subst Q c.if-self-partition.false (subst P c.if-self-parts.false self.journals) in
     told_with c.put_usages.result
-    (λ used. ∥∥₁_map journals (λ of. record { state = self; here = (c.if-self-parts.false, c.if-self-partition.false); journals = of; of_each = used }))
+    (λ used. ∥∥₁_map journals (λ of. record { accounts = self.book.accounts; collections = self.collections; journals = of; of_each = used }))
     c.put_usages.ensures.used

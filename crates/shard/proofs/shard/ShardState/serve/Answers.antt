@@ -1,9 +1,11 @@
-use Rattle.std.proofs.Common.{◌≡◌, refl, subst, sym, ap, ◌∙◌}
+use Rattle.std.proofs.Common.{◌≡◌, refl, subst, sym, ap, ◌∙◌, Ok}
+use Rattle.plain_store.specs.declared.calls.Call.{Call}
 use Rattle.plain_store.specs.declared.message.Message.{Message}
+use Rattle.history.specs.declared.rule.Naming.{Ghosts}
 use Rattle.shard.specs.Asked.{AskedCall, asked_of, without_reply}
 use Rattle.shard.specs.Homes.{HasHome}
 use Rattle.shard.specs.declared.seat_call.SeatCall.{SeatCall}
-use Rattle.shard.proofs.Journals.{came-here, came-or-not}
+use Rattle.shard.proofs.Journals.{called-of, came-so, stays_first}
 use Rattle.shard.proofs.Short.{served-short}
 use Rattle.shard.proofs.shard.ShardState.serve.Goals as goal
 
@@ -23,28 +25,47 @@ invariant_of-self g c =
     let home = subst (λ (m : Message). HasHome m.call call.parts call.partition) (sym c.deref_mut.ensures.value) call.at_home in
     let e = c.serve_message.ensures in
     record {
-      journals = (came-or-not _ _ _ _ call.tenant call.seat call.number c.args.self.now.book c.serve_message.new.book c.deref_mut.result.now c.serve_message.new.message c.serve_message.result
-          e.no_tenant e.late e.entered e.reply e.place e.message e.unchanged home c.requires c.args.self.now.journals).0;
+      journals = called-of _ _ _ _ call.tenant call.seat call.number c.args.self.now.book.accounts c.serve_message.new.book.accounts c.deref_mut.result.now.call
+          c.serve_message.new.message.reply c.serve_message.result e.no_tenant e.late e.entered e.reply (stays_first _ _ c.serve_message.result e.unchanged) home c.requires c.args.self.now.journals;
+      its = e.partition ∙ c.args.self.now.its;
     }
+
+-- the call is for this partition
+pub invariant_of-call : goal.invariant_of-call
+invariant_of-call g c =
+    let call = c.args.call.now in
+    let e = c.serve_message.ensures in
+    let same : c.serve_message.new.message.call ≡ call.message.value.call = e.asks ∙ ap (λ (m : Message). m.call) c.deref_mut.ensures.value in
+    record { at_home = subst (λ (k : Call). HasHome k call.parts call.partition) (sym same) call.at_home }
 
 pub returns-then-is_long-clause-came : goal.returns-then-is_long-clause-came
 returns-then-is_long-clause-came g c =
     let call = c.args.call.now in
     let home = subst (λ (m : Message). HasHome m.call call.parts call.partition) (sym c.deref_mut.ensures.value) call.at_home in
     let e = c.in_ok-place.ensures in
-    (came-here _ _ _ _ call.tenant call.seat call.number c.in_ok-place.place c.args.self.now.book c.serve_message.new.book c.deref_mut.result.now c.serve_message.new.message
-    e.no_tenant e.late e.entered e.reply e.place e.message home c.requires c.args.self.now.journals).1
+    let own = c.args.self.now.book.partition in
+    let old = c.args.self.now.book.accounts in
+    let new = c.serve_message.new.book.accounts in
+    let journals = called-of c.args.self.now.parts c.args.self.now.partition call.parts call.partition call.tenant call.seat call.number old new c.deref_mut.result.now.call
+    c.serve_message.new.message.reply (Ok c.in_ok-place.place) e.no_tenant e.late e.entered e.reply tt home c.requires c.args.self.now.journals in
+    came-so c.serve_message.new.evidence c.args.self.now.parts c.args.self.now.partition own call.parts call.partition call.tenant call.seat call.number c.in_ok-place.place old new
+    c.deref_mut.result.now c.serve_message.new.message e.no_tenant e.entered e.place e.message e.served c.requires c.args.self.now.its journals
 
 pub returns-else-is_long-clause-came : goal.returns-else-is_long-clause-came
 returns-else-is_long-clause-came g c =
     let call = c.args.call.now in
     let home = subst (λ (m : Message). HasHome m.call call.parts call.partition) (sym c.deref_mut.ensures.value) call.at_home in
     let e = c.in_ok-place.ensures in
-    (came-here _ _ _ _ call.tenant call.seat call.number c.in_ok-place.place c.args.self.now.book c.serve_message.new.book c.deref_mut.result.now c.serve_message.new.message
-    e.no_tenant e.late e.entered e.reply e.place e.message home c.requires c.args.self.now.journals).1
+    let own = c.args.self.now.book.partition in
+    let old = c.args.self.now.book.accounts in
+    let new = c.serve_message.new.book.accounts in
+    let journals = called-of c.args.self.now.parts c.args.self.now.partition call.parts call.partition call.tenant call.seat call.number old new c.deref_mut.result.now.call
+    c.serve_message.new.message.reply (Ok c.in_ok-place.place) e.no_tenant e.late e.entered e.reply tt home c.requires c.args.self.now.journals in
+    came-so c.serve_message.new.evidence c.args.self.now.parts c.args.self.now.partition own call.parts call.partition call.tenant call.seat call.number c.in_ok-place.place old new
+    c.deref_mut.result.now c.serve_message.new.message e.no_tenant e.entered e.place e.message e.served c.requires c.args.self.now.its journals
 
 -- only the reply is written into its message
-same-but-reply : (call : SeatCall) (message now : Message) → without_reply now ≡ without_reply message → message ≡ call.message.value
+same-but-reply : {J : Type 0} {naming : Ghosts J} (call : SeatCall J naming) (message now : Message) → without_reply now ≡ without_reply message → message ≡ call.message.value
     → record { partition = call.partition; parts = call.parts; tenant = call.tenant; seat = call.seat; number = call.number; message = without_reply now } ≡ asked_of call
 same-but-reply call message now same is =
     let Q : Message → AskedCall = λ m. record { partition = call.partition; parts = call.parts; tenant = call.tenant; seat = call.seat; number = call.number; message = m } in

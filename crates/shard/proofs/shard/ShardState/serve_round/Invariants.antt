@@ -1,19 +1,19 @@
-use Rattle.std.proofs.Common.{◌≡◌, ◌<◌, ℕ, get_or, map}
+use Rattle.std.proofs.Common.{◌≡◌, map}
 use Rattle.std.specs.VecDeque.{deque_len, deque_capacity}
-use Rattle.shard.specs.Asked.{asked_by, IsOpenAt}
-use Rattle.shard.specs.declared.shard.Staged.{Staged}
+use Rattle.shard.specs.Asked.{asked_by}
 use Rattle.shard.specs.Rounds.{AreShort}
+use Rattle.shard.proofs.Rounds.{ArePassed}
 use Rattle.shard.proofs.shard.ShardState.serve_round.Given as goal
 
 -- So far the journals are short if they were, and the same calls are there, with as much room. Those before this place were served or
 -- left where they are for this partition.
 abbrev pub invariant-loop-at : goal.invariant-loop-at
 invariant-loop-at g l =
-    (AreShort l.config.epoch l.fn.self.book → AreShort l.config.epoch l.self.book)
+    (AreShort l.config.epoch l.fn.self.book.accounts → AreShort l.config.epoch l.self.book.accounts)
     × (deque_len l.calls ≡ deque_len l.fn.calls)
     × (deque_capacity l.calls ≡ deque_capacity l.fn.calls)
     × (map asked_by l.calls.items ≡ map asked_by l.fn.calls.items)
-    × ((k : ℕ) (d : Staged) → k < l.at → IsOpenAt l.fn.self.partition l.fn.self.parts (get_or l.calls.items k d) → ⊥)
+    × ArePassed l.fn.self.partition l.fn.self.parts l.calls.items l.at
     × (l.self.partition ≡ l.fn.self.partition)
     × (l.self.parts ≡ l.fn.self.parts)
     × (l.self.collections ≡ l.fn.self.collections)
