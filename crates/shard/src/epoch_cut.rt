@@ -5,11 +5,10 @@ ghost use Rattle.traced_book.specs.Traced.{IsStretch};
 ghost use Rattle.shard.specs.Journals.{WasCut};
 ghost use Rattle.shard.specs.Rounds.{AreFewer, long_among};
 
-use crate::shard::{Shard, ShardState, is_full};
+use crate::shard::{ShardState, is_full};
 use crate::sink::Sink;
 use history::{Front, Naming};
 use partition::Epoch;
-use std::sync::Wait;
 
 /// An epoch that was cut, with its journal's partition and tenant. It cannot be dropped: `hand_over` alone takes it.
 pub struct CutEpoch<J: Naming> {
@@ -97,7 +96,7 @@ pub fn cut_full<J: Naming>(
 
 impl Search {
     /// One from the first tenant on.
-    fn new() -> Search
+    pub(crate) fn new() -> Search
         ensures { (result.from ≡ 0) × (result.is_over ≡ false) × (result.refused ≡ 0) }
     {
         Search {
@@ -110,7 +109,7 @@ impl Search {
     /// Cuts the first journal, from where the search stands, that has at least so many events and can be cut now, and answers its
     /// epoch. The search goes on behind it, or is over.
     #[tactic(auto, using(crate::proofs::LongAmong::long_short, crate::proofs::LongAmong::long_refused))]
-    fn cut_next<J: Naming>(&mut self, state: &mut ShardState<J>, least: u32) -> Option<CutEpoch<J>>
+    pub(crate) fn cut_next<J: Naming>(&mut self, state: &mut ShardState<J>, least: u32) -> Option<CutEpoch<J>>
         requires { 0 < least }
         ensures cut { IfSome result (λ cut. IsCut state.old.book.accounts state.new.book.accounts cut.tenant cut.epoch) }
         ensures of_partition { IfSome result (λ cut. cut.partition ≡ state.old.partition) }
@@ -155,21 +154,4 @@ pub fn hand_over<J: Naming, S: Sink>(sink: &S, cut: CutEpoch<J>)
         seen,
     } = cut;
     sink.epoch(partition, tenant, epoch, &seen);
-}
-
-/// Cuts each journal that has so many events, and hands its epoch to the sink once the lock is released. What could not be cut
-/// is tried again after the next task.
-pub fn cut_all<J: Naming, S: Sink, R: Wait>(rt: &R, shard: &Shard<J>, sink: &S) -> Search
-    requires { 0 < shard.now.config.epoch }
-    ensures over { result.is_over ≡ true }
-{
-    let mut search = Search::new();
-    for _ in rt.forever() {
-        let found = search.cut_next(&mut *shard.lock(rt), shard.config.epoch);
-        match found {
-            Some(cut) => hand_over(sink, cut),
-            None => return search,
-        }
-    }
-    unreachable!()
 }

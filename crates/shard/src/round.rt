@@ -7,10 +7,9 @@ ghost use Rattle.shard.specs.Rounds.{AreShort, IsCollected, IsLongAt};
 use crate::collector::Collector;
 use crate::jobs::Fault;
 use crate::keep_settings::TenantKeep;
-use crate::shard::{Shard, ShardConfig, ShardState, answer, is_full, is_long};
+use crate::shard::{ShardConfig, ShardState, answer, is_full, is_long};
 use history::Naming;
 use plain_store::Call;
-use std::sync::Wait;
 
 /// The seat of the collector.
 const COLLECTOR: u64 = 0;
@@ -26,7 +25,7 @@ pub struct Round {
 
 /// Why a tenant was not collected in its turn.
 #[derive(Clone, Copy)]
-enum Skipped {
+pub(crate) enum Skipped {
     /// Its journal is full, and is cut first.
     Full,
     /// The numbers of collections are used up.
@@ -37,7 +36,7 @@ enum Skipped {
 
 impl Round {
     /// A round in which no tenant had its turn.
-    fn new() -> Round
+    pub(crate) fn new() -> Round
         ensures { (result.next ≡ 0) × (result.cuts ≡ false) }
     {
         Round {
@@ -55,7 +54,7 @@ impl Round {
 
     /// Collects for the tenant whose turn it is, as seat 0, with its partition's lock held, and keeps as many versions as are set
     /// for it. One whose journal is full is left out until it was cut.
-    fn take_turn<J: Naming>(
+    pub(crate) fn take_turn<J: Naming>(
         &mut self,
         state: &mut ShardState<J>,
         config: &ShardConfig,
@@ -91,18 +90,4 @@ impl Round {
             Err(fault) => Err(Skipped::Refused(fault)),
         }
     }
-}
-
-/// Collects for each tenant in turn, one lock for each: it keeps as many versions as are set when its turn comes.
-pub fn collect_at<J: Naming, R: Wait>(rt: &R, shard: &Shard<J>) -> Round
-    ensures each { result.next ≡ shard.now.config.tenants }
-{
-    let mut round = Round::new();
-    for tenant in 0..shard.config.tenants {
-        let its = shard.collector.keep_of(rt, tenant);
-        let mut guard = shard.lock_soon(rt);
-        let state = &mut *guard;
-        let _ = round.take_turn(state, &shard.config, &shard.collector, &its);
-    }
-    round
 }

@@ -4,10 +4,10 @@ ghost use Rattle.shard.specs.Asked.{IsReplyTo};
 ghost use Rattle.shard.specs.Journals.{CameSo};
 ghost use Rattle.shard.specs.declared.jobs.SeatReply.{SeatReply as Told};
 
-use crate::epoch_cut::{cut_all, cut_full, hand_over};
+use crate::epoch_cut::{cut_full, hand_over};
 use crate::gate::Gate;
 use crate::jobs::{Fault, Job, JobReceiver, QueueOver, SeatReply, Task};
-use crate::round::collect_at;
+use crate::maintenance::{collect_at, cut_all};
 use crate::seat_call::SeatCall;
 use crate::shard::{FollowUp, Shard};
 use crate::sink::Sink;
