@@ -103,7 +103,8 @@ impl<J: Naming> Front<J> {
         requires may { ∥ MayFollow self.old evidence.now (M.ask about.now) ∥₁ }
         ensures later { IsPrefix self.old self.new }
         ensures evidence { IsPrefix evidence.now self.new }
-        ensures added { MatchBool result (IsAdded tally.now.key entries (M.ask about.now) self.old self.new) (IsLegal self.new) }
+        ensures added { MatchBool result
+            (IsAdded tally.now.key entries (M.ask about.now) self.old self.new) (IsLegal self.new) }
     {
         self.seen.learn(&evidence.seen);
         let mut offer: Report = self.seen.plain::<Nothing, X, M>(about);
@@ -130,11 +131,14 @@ impl<J: Naming> Front<J> {
         asked: &CallToServe<'_>,
     ) -> bool
         requires room { entries < 2 ^ 62 }
-        requires partition { (tally.now.key ≡ asked.now.partition + 1) × (asked.now.partition < 64) }
+        requires partition { (tally.now.key ≡ asked.now.partition + 1)
+            × (asked.now.partition < 64) }
         requires counted { count tally.now.key self.old ≡ entries }
         ensures later { IsPrefix self.old self.new }
         ensures evidence { IsPrefix evidence.now self.new }
-        ensures added { MatchBool result (IsAdded tally.now.key entries (served_by asked.now) self.old self.new) (IsLegal self.new) }
+        ensures added { MatchBool result
+            (IsAdded tally.now.key entries (served_by asked.now) self.old self.new)
+            (IsLegal self.new) }
     {
         self.add::<CallToServe<'_>, Add>(tally, entries, evidence, asked)
     }
@@ -147,7 +151,9 @@ impl<J: Naming> Front<J> {
         requires counted { count tally.now.key self.old ≡ entries }
         requires may { ∥ MayFollow self.old self.old (began_by begun.now) ∥₁ }
         ensures later { IsPrefix self.old self.new }
-        ensures added { MatchBool result (IsAdded tally.now.key entries (began_by begun.now) self.old self.new) (IsLegal self.new) }
+        ensures added { MatchBool result
+            (IsAdded tally.now.key entries (began_by begun.now) self.old self.new)
+            (IsLegal self.new) }
     {
         let evidence = self.again();
         self.add::<WriteToBegin<'_>, Add>(tally, entries, &evidence, begun)
@@ -163,12 +169,15 @@ impl<J: Naming> Front<J> {
         decision: &Decision,
     ) -> bool
         requires room { entries < 2 ^ 62 }
-        requires client { (tally.now.key ≡ decision.now.word) × (64 < decision.now.word) × (0 < entries) }
+        requires client { (tally.now.key ≡ decision.now.word) × (64 < decision.now.word)
+            × (0 < entries) }
         requires counted { count tally.now.key self.old ≡ entries }
         requires may { ∥ MayDecide evidence.now decision.now ∥₁ }
         ensures later { IsPrefix self.old self.new }
         ensures evidence { IsPrefix evidence.now self.new }
-        ensures added { MatchBool result (IsAdded tally.now.key entries (Decided decision.now) self.old self.new) (IsLegal self.new) }
+        ensures added { MatchBool result
+            (IsAdded tally.now.key entries (Decided decision.now) self.old self.new)
+            (IsLegal self.new) }
     {
         self.add::<Decision, Add>(tally, entries, evidence, decision)
     }
@@ -185,11 +194,14 @@ impl<J: Naming> Front<J> {
         requires room { joined < 2 ^ 62 }
         requires register { register.now.key ≡ 0 }
         requires counted { count 0 self.old ≡ joined }
-        requires new { (other : WhoJoined) → Joined other ∈ self.old → other.tenant ≡ tenant → other.client ≡ client → ⊥ }
+        requires new { (other : WhoJoined) → Joined other ∈ self.old → other.tenant ≡ tenant
+            → other.client ≡ client → ⊥ }
         ensures later { IsPrefix self.old self.new }
         ensures legal { IsLegal self.new }
         ensures key { IfSome result (λ tally. tally.key ≡ joined + 65) }
-        ensures joined { IfSome result (λ tally. Joined (record { word = tally.key; tenant = tenant; client = client }) ∈ self.new) }
+        ensures joined { IfSome result
+            (λ tally.
+            Joined (record { word = tally.key; tenant = tenant; client = client }) ∈ self.new) }
         ensures alone { IfSome result (λ tally. own tally.key self.new ≡ Arrived tally.key ∷ []) }
         ensures counted { IfSome result (λ _. count 0 self.new ≡ joined + 1) }
     {

@@ -47,8 +47,11 @@ pub fn take_out<G: Naming>(
 
 /// The book of a shard that no thread has any more, where it is there. It sees what the book's partition has seen of the history.
 fn book_of<G: Naming>(shard: Arc<Shard<G>>, seen: &mut Front<G>) -> Option<Book>
-    ensures journals { IfSome result (λ book. ∥ AreOf (arc_value shard).config.parts (arc_value shard).config.partition book ∥₁) }
-    ensures stretches { IfSome result (λ book. AreStretches seen.new (arc_value shard).config.partition book) }
+    ensures journals { IfSome result
+        (λ book.
+        ∥ AreOf (arc_value shard).config.parts (arc_value shard).config.partition book ∥₁) }
+    ensures stretches { IfSome result
+        (λ book. AreStretches seen.new (arc_value shard).config.partition book) }
     ensures later { IsPrefix seen.old seen.new }
     ensures legal { IsLegal seen.old → IsLegal seen.new }
 {
@@ -60,7 +63,8 @@ fn book_of<G: Naming>(shard: Arc<Shard<G>>, seen: &mut Front<G>) -> Option<Book>
 
 /// The book that lies in a shard, if it is that shard's.
 fn book_in<G: Naming>(shard: Shard<G>, seen: &mut Front<G>) -> Option<Book>
-    ensures journals { IfSome result (λ book. ∥ AreOf shard.config.parts shard.config.partition book ∥₁) }
+    ensures journals { IfSome result
+        (λ book. ∥ AreOf shard.config.parts shard.config.partition book ∥₁) }
     ensures stretches { IfSome result (λ book. AreStretches seen.new shard.config.partition book) }
     ensures later { IsPrefix seen.old seen.new }
     ensures legal { IsLegal seen.old → IsLegal seen.new }

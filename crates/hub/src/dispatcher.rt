@@ -87,8 +87,10 @@ impl<'a, G: Naming> Dispatcher<'a, G> {
         jobs: Vec<JobSender<G>>,
     ) -> Result<Dispatcher<'a, G>, AllocError>
         requires { IsParts parts }
-        ensures given { IfOk result (λ queues. (queues.client ≡ client) × (queues.parts ≡ parts) × (queues.jobs ≡ jobs) × (queues.shards.now ≡ shards.now)) }
-        ensures none_staged { IfOk result (λ queues. (queues.calls.items ≡ []) × (queues.served ≡ 0) × (queues.queued ≡ 0) × (queues.sent ≡ 0)) }
+        ensures given { IfOk result (λ queues. (queues.client ≡ client) × (queues.parts ≡ parts)
+            × (queues.jobs ≡ jobs) × (queues.shards.now ≡ shards.now)) }
+        ensures none_staged { IfOk result (λ queues. (queues.calls.items ≡ []) × (queues.served ≡ 0)
+            × (queues.queued ≡ 0) × (queues.sent ≡ 0)) }
         ensures places { IfOk result (λ queues. max_calls ≤ deque_capacity queues.calls) }
     {
         let (reply_to, replies) = crossbeam_channel::unbounded(alloc)?;
@@ -117,7 +119,8 @@ impl<'a, G: Naming> Dispatcher<'a, G> {
         requires { most ≤ max_calls }
         ensures none_sent { self.new.sent ≡ 0 }
         ensures room { OnOk result (HasRoom most self.new) }
-        ensures calls { (self.new.calls.items ≡ self.old.calls.items) × (self.new.served ≡ self.old.served) × (self.new.queued ≡ self.old.queued) }
+        ensures calls { (self.new.calls.items ≡ self.old.calls.items)
+            × (self.new.served ≡ self.old.served) × (self.new.queued ≡ self.old.queued) }
     {
         self.sent = 0;
         self.reserve_boxes(most)?;
@@ -136,7 +139,8 @@ impl<'a, G: Naming> Dispatcher<'a, G> {
         ensures boxes { OnOk result (most ≤ deque_len self.new.boxes) }
         ensures sent { self.new.sent ≡ self.old.sent }
         ensures ends { self.new.spare ≡ self.old.spare }
-        ensures calls { (self.new.calls ≡ self.old.calls) × (self.new.served ≡ self.old.served) × (self.new.queued ≡ self.old.queued) }
+        ensures calls { (self.new.calls ≡ self.old.calls) × (self.new.served ≡ self.old.served)
+            × (self.new.queued ≡ self.old.queued) }
     {
         let missing = most.saturating_sub(self.boxes.len());
         self.boxes.reserve(missing)?;
@@ -166,10 +170,12 @@ impl<'a, G: Naming> Dispatcher<'a, G> {
 
     /// Keeps the box of a reply that was taken, for another call.
     pub fn keep(&mut self, message: Box<Message>)
-        ensures kept { deque_len self.old.boxes < deque_capacity self.old.boxes → deque_len self.new.boxes ≡ deque_len self.old.boxes + 1 }
+        ensures kept { deque_len self.old.boxes < deque_capacity self.old.boxes
+            → deque_len self.new.boxes ≡ deque_len self.old.boxes + 1 }
         ensures room { (calls : ℕ) → HasRoom calls self.old → HasRoom calls self.new }
         ensures sent { self.new.sent ≡ self.old.sent }
-        ensures calls { (self.new.calls ≡ self.old.calls) × (self.new.queued ≡ self.old.queued) × (self.new.served ≡ self.old.served) }
+        ensures calls { (self.new.calls ≡ self.old.calls) × (self.new.queued ≡ self.old.queued)
+            × (self.new.served ≡ self.old.served) }
     {
         if matches!(message.call, Call::Commit(_)) {
             let _ = self.boxes.push_front(message);
@@ -184,7 +190,8 @@ impl<'a, G: Naming> Dispatcher<'a, G> {
         ensures boxes { deque_len self.old.boxes ≡ deque_len self.new.boxes + 1 }
         ensures room { (calls : ℕ) → HasPlaces calls self.old → HasPlaces calls self.new }
         ensures sent { self.new.sent ≡ self.old.sent }
-        ensures calls { (self.new.calls ≡ self.old.calls) × (self.new.served ≡ self.old.served) × (self.new.queued ≡ self.old.queued) × (self.new.parts ≡ self.old.parts) }
+        ensures calls { (self.new.calls ≡ self.old.calls) × (self.new.served ≡ self.old.served)
+            × (self.new.queued ≡ self.old.queued) × (self.new.parts ≡ self.old.parts) }
     {
         if commits {
             self.boxes.pop_front().unwrap()
@@ -195,12 +202,15 @@ impl<'a, G: Naming> Dispatcher<'a, G> {
 
     /// A reply that is there, or else waits for one. It fails where none can come.
     fn receive<R: Wait>(&mut self, rt: &R) -> Result<SeatReply<G>, RecvError>
-        ensures first { 0 < self.old.served → IfFirst self.old.calls.items (λ staged. IsOkAnd result (IsReplyOf staged)) }
+        ensures first { 0 < self.old.served
+            → IfFirst self.old.calls.items (λ staged. IsOkAnd result (IsReplyOf staged)) }
         ensures left { 0 < self.old.served → self.new.calls.items ≡ drop 1 self.old.calls.items }
         ensures others { self.old.served ≡ 0 → self.new.calls ≡ self.old.calls }
         // One call of those that are here, or of those with workers, is answered at most.
-        ensures queued { (self.new.queued ≤ self.old.queued) × (self.old.queued + self.old.served ≤ self.new.queued + self.new.served + 1) }
-        ensures here { 0 < self.old.served → 0 < deque_len self.old.calls → self.new.queued ≡ self.old.queued }
+        ensures queued { (self.new.queued ≤ self.old.queued)
+            × (self.old.queued + self.old.served ≤ self.new.queued + self.new.served + 1) }
+        ensures here { 0 < self.old.served → 0 < deque_len self.old.calls
+            → self.new.queued ≡ self.old.queued }
         ensures sent { self.new.sent ≡ self.old.sent }
         ensures room { (calls : ℕ) → HasRoom calls self.old → HasRoom calls self.new }
     {
@@ -225,12 +235,19 @@ impl<'a, G: Naming> Dispatcher<'a, G> {
         before: u64,
     ) -> Option<SeatReply<G>>
         requires { before ≤ 2 ^ 62 }
-        ensures first { 0 < self.old.served → IfFirst self.old.calls.items (λ staged. staged.call.tenant ≡ name.now.tenant → staged.call.seat ≡ name.now.seat → before < staged.call.number → staged.call.number ≤ before + self.old.sent → IsSomeAnd result (IsReplyOf staged)) }
+        ensures first { 0 < self.old.served
+            → IfFirst self.old.calls.items (λ staged. staged.call.tenant ≡ name.now.tenant
+            → staged.call.seat ≡ name.now.seat → before < staged.call.number
+            → staged.call.number ≤ before + self.old.sent → IsSomeAnd result (IsReplyOf staged)) }
         // One call of those that are here, or of those with workers, is answered at most.
-        ensures queued { (self.new.queued ≤ self.old.queued) × (self.old.queued + self.old.served ≤ self.new.queued + self.new.served + 1) }
-        ensures here { 0 < self.old.served → 0 < deque_len self.old.calls → self.new.queued ≡ self.old.queued }
-        ensures own { IfSome result (λ reply. (reply.tenant ≡ name.now.tenant) × (reply.seat ≡ name.now.seat)) }
-        ensures numbered { IfSome result (λ reply. (before < reply.number) × (reply.number ≤ before + self.old.sent)) }
+        ensures queued { (self.new.queued ≤ self.old.queued)
+            × (self.old.queued + self.old.served ≤ self.new.queued + self.new.served + 1) }
+        ensures here { 0 < self.old.served → 0 < deque_len self.old.calls
+            → self.new.queued ≡ self.old.queued }
+        ensures own { IfSome result (λ reply. (reply.tenant ≡ name.now.tenant)
+            × (reply.seat ≡ name.now.seat)) }
+        ensures numbered { IfSome result (λ reply. (before < reply.number)
+            × (reply.number ≤ before + self.old.sent)) }
         ensures room { (calls : ℕ) → HasRoom calls self.old → HasRoom calls self.new }
         ensures sent { self.new.sent ≡ self.old.sent }
     {
@@ -248,7 +265,8 @@ impl<'a, G: Naming> Dispatcher<'a, G> {
 
     /// The partition of a staged call that nobody has served and that is not left to a worker, if the one at this place is.
     fn open_at(&self, at: usize) -> Option<u32>
-        ensures { (other : Waiting G _) → at < deque_len self.now.calls → result ≡ place_if_open (slice_index_or self.now.calls.items at other) }
+        ensures { (other : Waiting G _) → at < deque_len self.now.calls
+            → result ≡ place_if_open (slice_index_or self.now.calls.items at other) }
     {
         match self.calls.get(at) {
             Some(staged) if matches!(staged.stage, CallState::Pending) => Some(
@@ -260,7 +278,8 @@ impl<'a, G: Naming> Dispatcher<'a, G> {
 
     /// Whether the staged call at this place was not served.
     fn is_left(&self, at: usize) -> bool
-        ensures { (other : Waiting G _) → at < deque_len self.now.calls → result ≡ is_unserved (slice_index_or self.now.calls.items at other) }
+        ensures { (other : Waiting G _) → at < deque_len self.now.calls
+            → result ≡ is_unserved (slice_index_or self.now.calls.items at other) }
     {
         match self.calls.get(at) {
             Some(staged) => !matches!(staged.stage, CallState::Served(_)),
@@ -270,13 +289,16 @@ impl<'a, G: Naming> Dispatcher<'a, G> {
 
     /// Takes out the first staged call that was not served.
     fn take_left(&mut self) -> Option<SeatCall<G>>
-        ensures first { IfSome result (λ call. IsFirstOf self.old.served self.old.calls.items call self.new.calls.items) }
+        ensures first { IfSome result
+            (λ call. IsFirstOf self.old.served self.old.calls.items call self.new.calls.items) }
         ensures none { IfNone result (unserved self.old.served self.old.calls.items ≡ 0) }
         ensures unchanged { IfNone result (self.new.calls ≡ self.old.calls) }
-        ensures left { unserved self.old.served self.old.calls.items ≡ unserved self.new.served self.new.calls.items + cond (is_some result) 1 0 }
+        ensures left { unserved self.old.served self.old.calls.items
+            ≡ unserved self.new.served self.new.calls.items + cond (is_some result) 1 0 }
         ensures served { self.new.served ≡ self.old.served }
         ensures sent { self.new.sent ≡ self.old.sent }
-        ensures calls { deque_len self.old.calls ≡ deque_len self.new.calls + cond (is_some result) 1 0 }
+        ensures calls { deque_len self.old.calls
+            ≡ deque_len self.new.calls + cond (is_some result) 1 0 }
         ensures room { SameRoom self.old self.new }
         ensures queued { self.new.queued ≡ self.old.queued }
     {
@@ -297,7 +319,8 @@ impl<'a, G: Naming> Dispatcher<'a, G> {
         ensures served { self.new.served ≡ self.old.served }
         ensures refused { result ≡ false → self.new.queued ≡ self.old.queued }
         ensures queued { IsTrue result → self.new.queued ≡ min (self.old.queued + 1) (2 ^ 64 - 1) }
-        ensures moved { IsTrue result → HasSentAt call.partition self.old.jobs.items self.new.jobs.items }
+        ensures moved { IsTrue result
+            → HasSentAt call.partition self.old.jobs.items self.new.jobs.items }
         ensures ends { vec_len self.old.spare ≡ vec_len self.new.spare + 1 }
         ensures boxes { self.new.boxes ≡ self.old.boxes }
     {
@@ -320,10 +343,12 @@ impl<'a, G: Naming> Dispatcher<'a, G> {
         ensures none { deque_len self.old.calls ≤ self.old.served → IsTrue result }
         ensures sent { self.new.sent ≡ self.old.sent }
         ensures kept { IsTrue result → deque_len self.old.calls + self.old.queued < 2 ^ 64
-            → deque_len self.new.calls + self.new.queued ≡ deque_len self.old.calls + self.old.queued }
+            → deque_len self.new.calls + self.new.queued
+            ≡ deque_len self.old.calls + self.old.queued }
         ensures handed { IsTrue result → deque_len self.old.calls + self.old.queued < 2 ^ 64
             → self.new.queued ≡ self.old.queued + unserved self.old.served self.old.calls.items }
-        ensures here { unserved self.old.served self.old.calls.items ≡ 0 → self.new.calls ≡ self.old.calls }
+        ensures here { unserved self.old.served self.old.calls.items ≡ 0
+            → self.new.calls ≡ self.old.calls }
         ensures served { self.new.served ≡ deque_len self.new.calls }
     {
         let mut all = true;
@@ -364,7 +389,8 @@ impl<'a, G: Gate + Naming> Dispatcher<'a, G> {
         requires { HasPlaces 1 self.old }
         ensures counted { self.new.sent ≡ self.old.sent + 1 }
         ensures calls { deque_len self.new.calls ≡ deque_len self.old.calls + 1 }
-        ensures staged { IsStagedNext name.now self.old.parts number (Some (without_reply message.value)) self.old.calls.items self.new.calls.items }
+        ensures staged { IsStagedNext name.now self.old.parts number
+            (Some (without_reply message.value)) self.old.calls.items self.new.calls.items }
         ensures parts { self.new.parts ≡ self.old.parts }
         ensures boxes { self.new.boxes ≡ self.old.boxes }
         ensures room { (calls : ℕ) → HasPlaces (1 + calls) self.old → HasPlaces calls self.new }
@@ -384,10 +410,13 @@ impl<'a, G: Gate + Naming> Dispatcher<'a, G> {
         message: Box<Message>,
         seen: &Front<G>,
     ) -> SeatCall<G>
-        ensures owner { (result.tenant ≡ name.now.tenant) × (result.seat ≡ name.now.seat) × (result.number ≡ number) × (result.parts ≡ self.now.parts) }
+        ensures owner { (result.tenant ≡ name.now.tenant) × (result.seat ≡ name.now.seat)
+            × (result.number ≡ number) × (result.parts ≡ self.now.parts) }
         ensures message { result.message ≡ message }
-        ensures place { result.partition ≡ place_for message.value.call self.now.parts message.value.partition }
-        ensures passed { result.partition < length self.now.shards.now → G.has_passed self.now.gate.now result.partition result.arrival }
+        ensures place { result.partition
+            ≡ place_for message.value.call self.now.parts message.value.partition }
+        ensures passed { result.partition < length self.now.shards.now
+            → G.has_passed self.now.gate.now result.partition result.arrival }
     {
         let partition = place_of(&message, self.parts);
         SeatCall {
@@ -427,11 +456,14 @@ impl<'a, G: Gate + Naming> Dispatcher<'a, G> {
         ensures none { deque_len self.old.calls ≤ self.old.served → IsTrue result }
         ensures sent { self.new.sent ≡ self.old.sent }
         ensures kept { IsTrue result → deque_len self.old.calls + self.old.queued < 2 ^ 64
-            → deque_len self.new.calls + self.new.queued ≡ deque_len self.old.calls + self.old.queued }
-        ensures in_order { 0 < self.old.queued → IsTrue result → deque_len self.old.calls + self.old.queued < 2 ^ 64
+            → deque_len self.new.calls + self.new.queued
+            ≡ deque_len self.old.calls + self.old.queued }
+        ensures in_order { 0 < self.old.queued → IsTrue result
+            → deque_len self.old.calls + self.old.queued < 2 ^ 64
             → self.new.queued ≡ self.old.queued + unserved self.old.served self.old.calls.items }
         // Where none went to a worker, each is here, in its place.
-        ensures asked { IsTrue result → deque_len self.old.calls + self.old.queued < 2 ^ 64 → self.new.queued ≡ self.old.queued
+        ensures asked { IsTrue result → deque_len self.old.calls + self.old.queued < 2 ^ 64
+            → self.new.queued ≡ self.old.queued
             → map asked_by self.new.calls.items ≡ map asked_by self.old.calls.items }
         ensures served { self.new.served ≡ deque_len self.new.calls }
     {
@@ -448,7 +480,8 @@ impl<'a, G: Gate + Naming> Dispatcher<'a, G> {
         ensures sent { self.new.sent ≡ self.old.sent }
         ensures room { SameRoom self.old self.new }
         ensures served { self.new.served ≡ self.old.served }
-        ensures calls { (deque_len self.new.calls ≡ deque_len self.old.calls) × (self.new.queued ≡ self.old.queued) }
+        ensures calls { (deque_len self.new.calls ≡ deque_len self.old.calls)
+            × (self.new.queued ≡ self.old.queued) }
         ensures asked { map asked_by self.new.calls.items ≡ map asked_by self.old.calls.items }
     {
         let shards = self.shards;
@@ -476,7 +509,8 @@ impl<'a, G: Gate + Naming> Dispatcher<'a, G> {
         ensures sent { self.new.sent ≡ self.old.sent }
         ensures room { SameRoom self.old self.new }
         ensures served { self.new.served ≡ self.old.served }
-        ensures calls { (deque_len self.new.calls ≡ deque_len self.old.calls) × (self.new.queued ≡ self.old.queued) }
+        ensures calls { (deque_len self.new.calls ≡ deque_len self.old.calls)
+            × (self.new.queued ≡ self.old.queued) }
         ensures asked { map asked_by self.new.calls.items ≡ map asked_by self.old.calls.items }
     {
         let shards = self.shards;
@@ -497,7 +531,8 @@ impl<'a, G: Gate + Naming> Dispatcher<'a, G> {
         ensures sent { self.new.sent ≡ self.old.sent }
         ensures room { SameRoom self.old self.new }
         ensures served { self.new.served ≡ self.old.served }
-        ensures calls { (deque_len self.new.calls ≡ deque_len self.old.calls) × (self.new.queued ≡ self.old.queued) }
+        ensures calls { (deque_len self.new.calls ≡ deque_len self.old.calls)
+            × (self.new.queued ≡ self.old.queued) }
         ensures asked { map asked_by self.new.calls.items ≡ map asked_by self.old.calls.items }
     {
         state.serve_round(&shard.config, self.gate, &mut self.calls)

@@ -210,9 +210,11 @@ impl<G: Gate + Naming> Hub<G> {
         partition: u32,
         usages: &mut Vec<TenantUsage>,
     ) -> Result<bool, AllocError>
-        ensures used { IfOk result (λ is_there. IsTrue is_there → AreUsagesAt self.now.parts partition usages.new.items) }
+        ensures used { IfOk result (λ is_there. IsTrue is_there
+            → AreUsagesAt self.now.parts partition usages.new.items) }
         ensures past { self.now.parts ≤ partition → result ≡ Ok false }
-        ensures elsewhere { partition < self.now.parts → IfOk result (λ is_there. is_there ≡ false → WasElsewhere self.now.parts partition) }
+        ensures elsewhere { partition < self.now.parts
+            → IfOk result (λ is_there. is_there ≡ false → WasElsewhere self.now.parts partition) }
     {
         match self.shards.get(partition as usize) {
             Some(shard) => shard.put_usages(rt, self.config.parts, partition, usages),
@@ -253,11 +255,15 @@ impl<G: Gate + Naming> Hub<G> {
         client: Client,
         base: Counter,
     ) -> Result<Seat<'_, G>, Refusal>
-        ensures fresh { IfOk result (λ s. (s.stopped ≡ false) × (s.sent ≡ 0) × (s.entries ≡ []) × (s.parts ≡ self.now.parts)) }
-        ensures name { IfOk result (λ s. (s.name.tenant ≡ tenant) × (s.name.client ≡ client) × (s.name.base ≡ base)) }
-        ensures counter { IfOk result (λ s. (s.counter ≡ s.name.counter) × (base ≤ s.name.counter)) }
+        ensures fresh { IfOk result (λ s. (s.stopped ≡ false) × (s.sent ≡ 0) × (s.entries ≡ [])
+            × (s.parts ≡ self.now.parts)) }
+        ensures name { IfOk result (λ s. (s.name.tenant ≡ tenant) × (s.name.client ≡ client)
+            × (s.name.base ≡ base)) }
+        ensures counter { IfOk result (λ s. (s.counter ≡ s.name.counter)
+            × (base ≤ s.name.counter)) }
         ensures no_tenant { IsErrOf result Refusal.NoTenant ↔ (length self.now.limits ≤ tenant) }
-        ensures refusals { IfErr result (λ refusal. (refusal ≡ Refusal.NoTenant) ⊎ (is_unopened refusal ≡ true)) }
+        ensures refusals { IfErr result (λ refusal. (refusal ≡ Refusal.NoTenant)
+            ⊎ (is_unopened refusal ≡ true)) }
     {
         let Some(limits) = self.config.limits.get(tenant as usize) else {
             return Err(Refusal::NoTenant);
@@ -302,7 +308,8 @@ impl<G: Gate + Naming> Hub<G> {
         counter: Counter,
     ) -> Result<Ends<'_, G>, AllocError>
         ensures counter { IfOk result (λ ends. ends.session.counter ≡ counter) }
-        ensures queues { IfOk result (λ ends. (ends.queues.client ≡ client) × (ends.queues.parts ≡ self.now.parts)) }
+        ensures queues { IfOk result (λ ends. (ends.queues.client ≡ client)
+            × (ends.queues.parts ≡ self.now.parts)) }
     {
         let parts = self.config.parts;
         let jobs = ends_of(self.alloc, &mut *self.queues.lock(rt))?;

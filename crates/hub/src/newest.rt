@@ -28,12 +28,14 @@ impl<'a, G: Gate + Naming> Seat<'a, G> {
     /// write. Where the read was refused without an entry, that refusal is the answer, and nothing is written; so it is where
     /// room for the keys was refused (30). A read that is answered by a Restart is enough.
     pub fn put_newest<R: Wait>(&mut self, rt: &R, items: &[Item]) -> Answer
-        ensures answered { is_unrecorded result ≡ false → last_answer self.new.entries ≡ Some result }
+        ensures answered { is_unrecorded result ≡ false
+            → last_answer self.new.entries ≡ Some result }
         ensures both { IsReadAndWritten items.now self.old result self.new }
         ensures goes_on { is_unrecorded result ≡ false → self.new.stopped ≡ false }
         ensures stopped { (result ≡ Answer.Refused Refusal.Stopped) ↔ (self.old.stopped ≡ true) }
         ensures past { result ≡ Answer.Refused Refusal.RowsUsed → 2 ^ 62 - 128 < self.new.sent }
-        ensures used_up { (self.old.stopped ≡ false) × (2 ^ 62 - 128 < self.old.sent) → result ≡ Answer.Refused Refusal.RowsUsed }
+        ensures used_up { (self.old.stopped ≡ false) × (2 ^ 62 - 128 < self.old.sent)
+            → result ≡ Answer.Refused Refusal.RowsUsed }
         ensures later { IsLater (2 * max_calls) self.old self.new }
     {
         let mut answer = Answer::Ignored;
@@ -43,12 +45,15 @@ impl<'a, G: Gate + Naming> Seat<'a, G> {
 
     /// As `put_newest`, with the answer written into the caller's buffer.
     pub fn put_newest_into<R: Wait>(&mut self, rt: &R, items: &[Item], answer: &mut Answer)
-        ensures answered { is_unrecorded answer.new ≡ false → last_answer self.new.entries ≡ Some answer.new }
+        ensures answered { is_unrecorded answer.new ≡ false
+            → last_answer self.new.entries ≡ Some answer.new }
         ensures both { IsReadAndWritten items.now self.old answer.new self.new }
         ensures goes_on { is_unrecorded answer.new ≡ false → self.new.stopped ≡ false }
-        ensures stopped { (answer.new ≡ Answer.Refused Refusal.Stopped) ↔ (self.old.stopped ≡ true) }
+        ensures stopped { (answer.new ≡ Answer.Refused Refusal.Stopped)
+            ↔ (self.old.stopped ≡ true) }
         ensures past { answer.new ≡ Answer.Refused Refusal.RowsUsed → 2 ^ 62 - 128 < self.new.sent }
-        ensures used_up { (self.old.stopped ≡ false) × (2 ^ 62 - 128 < self.old.sent) → answer.new ≡ Answer.Refused Refusal.RowsUsed }
+        ensures used_up { (self.old.stopped ≡ false) × (2 ^ 62 - 128 < self.old.sent)
+            → answer.new ≡ Answer.Refused Refusal.RowsUsed }
         ensures later { IsLater (2 * max_calls) self.old self.new }
     {
         self.read_first(rt, items, answer);
@@ -61,8 +66,10 @@ impl<'a, G: Gate + Naming> Seat<'a, G> {
     /// Reads the keys of these items, and writes the answer of that into the caller's buffer.
     fn read_first<R: Wait>(&mut self, rt: &R, items: &[Item], answer: &mut Answer)
         ensures read { IsReadBy (keys_written items.now) self.old answer.new self.new }
-        ensures stopped { (answer.new ≡ Answer.Refused Refusal.Stopped) ↔ (self.old.stopped ≡ true) }
-        ensures past { (answer.new ≡ Answer.Refused Refusal.RowsUsed) ↔ ((self.old.stopped ≡ false) × (2 ^ 62 - 128 < self.old.sent)) }
+        ensures stopped { (answer.new ≡ Answer.Refused Refusal.Stopped)
+            ↔ (self.old.stopped ≡ true) }
+        ensures past { (answer.new ≡ Answer.Refused Refusal.RowsUsed)
+            ↔ ((self.old.stopped ≡ false) × (2 ^ 62 - 128 < self.old.sent)) }
         ensures later { IsLater max_calls self.old self.new }
     {
         if let Some(refusal) = self.refuses() {

@@ -86,7 +86,8 @@ fn tell_ended(refusal: Refusal, answer: &mut Answer)
 /// Writes the answer that a move ends an operation with into the caller's buffer. An end names no rows.
 fn tell_end(taken: &MoveKind, readings: &Readings, answer: &mut Answer)
     requires { is_last (moved taken.now readings.now) ≡ true }
-    ensures exact { (rows : Told) → answer.new ≡ at_seat (answer_of (moved taken.now readings.now) rows) }
+    ensures exact { (rows : Told)
+        → answer.new ≡ at_seat (answer_of (moved taken.now readings.now) rows) }
     ensures ends { is_final answer.new ≡ true }
 {
     match taken {
@@ -137,8 +138,10 @@ impl<'a, G: Gate + Naming> RunningOperation<'a, G> {
         seen: Front<G>,
     ) -> RunningOperation<'a, G>
         requires { session.is_open ≡ true }
-        ensures given { (result.name ≡ name) × (result.queues ≡ queues.entry) × (result.session ≡ session) × (result.readings ≡ readings) × (result.seen ≡ seen) }
-        ensures begun { (result.first ≡ 0) × (result.entries.items ≡ []) × (result.place ≡ None) × (result.fault ≡ None) }
+        ensures given { (result.name ≡ name) × (result.queues ≡ queues.entry)
+            × (result.session ≡ session) × (result.readings ≡ readings) × (result.seen ≡ seen) }
+        ensures begun { (result.first ≡ 0) × (result.entries.items ≡ []) × (result.place ≡ None)
+            × (result.fault ≡ None) }
     {
         RunningOperation {
             name,
@@ -161,7 +164,9 @@ impl<'a, G: Gate + Naming> RunningOperation<'a, G> {
         request: &SeatRequest<'_>,
     ) -> Result<(), AllocError>
         requires { IsParts parts }
-        ensures began { OnOk result (self.new.entries.items ≡ self.old.entries.items ++ Entry.Began (act_of self.old.name.client request.now) ∷ []) }
+        ensures began { OnOk result (self.new.entries.items
+            ≡ self.old.entries.items
+            ++ Entry.Began (act_of self.old.name.client request.now) ∷ []) }
         ensures refused { OnErr result (self.new.entries.items ≡ self.old.entries.items) }
         ensures room { OnOk result (max_calls + 5 ≤ self.new.entries.room) }
         ensures calls { OnOk result (HasRoom (calls_for parts request.now) self.new.queues) }
@@ -199,18 +204,27 @@ impl<'a, G: Gate + Naming> RunningOperation<'a, G> {
         requires fault { IsNone self.old.fault }
         requires room { max_calls + 5 ≤ self.old.entries.room }
         requires calls { HasRoom (calls_for parts request.now) self.old.queues }
-        ensures answered { OnOk result (Follows self.old.entries.items (Some answer.new) self.new.entries.items) }
-        ensures few { replies_in self.new.entries.items ≤ replies_in self.old.entries.items + takes }
+        ensures answered { OnOk result
+            (Follows self.old.entries.items (Some answer.new) self.new.entries.items) }
+        ensures few { replies_in self.new.entries.items
+            ≤ replies_in self.old.entries.items + takes }
         ensures recorded { OnOk result (is_unrecorded answer.new ≡ false) }
-        ensures read { OnOk result (IsToldFor (sight_of self.old.name self.new.seen) parts (IsDrawn self.old.name.client self.old.session.counter self.new.session.counter) request.now answer.new self.old.entries.items self.new.entries.items) }
+        ensures read { OnOk result
+            (IsToldFor (sight_of self.old.name self.new.seen) parts
+            (IsDrawn self.old.name.client self.old.session.counter self.new.session.counter) request.now answer.new self.old.entries.items self.new.entries.items) }
         ensures counter { self.old.session.counter ≤ self.new.session.counter }
-        ensures served { (start : List Entered) → AreServed (sight_of self.old.name self.old.seen) self.old.first (self.old.first + self.old.queues.sent) start self.old.entries.items
-            → AreServed (sight_of self.old.name self.new.seen) self.old.first (self.old.first + self.new.queues.sent) start self.new.entries.items }
-        ensures refused { (refusal : Why) → test_of self.old.session request.now ≡ Err refusal → answer.new ≡ Answer.Refused refusal }
+        ensures served { (start : List Entered)
+            → AreServed (sight_of self.old.name self.old.seen) self.old.first (self.old.first
+            + self.old.queues.sent) start self.old.entries.items
+            → AreServed (sight_of self.old.name self.new.seen) self.old.first (self.old.first
+            + self.new.queues.sent) start self.new.entries.items }
+        ensures refused { (refusal : Why) → test_of self.old.session request.now ≡ Err refusal
+            → answer.new ≡ Answer.Refused refusal }
         // Each of its calls was answered.
         ensures awaited { awaited self.old.queues ≡ 0 → OnOk result (awaited self.new.queues ≡ 0) }
         ensures outcome { result ≡ outcome_of self.new.fault self.new.place }
-        ensures entered { (told : Option Said) × Follows self.old.entries.items told self.new.entries.items }
+        ensures entered { (told : Option Said)
+            × Follows self.old.entries.items told self.new.entries.items }
         ensures seen { IsPrefix self.old.seen self.new.seen }
         ensures name { self.new.name ≡ self.old.name }
         ensures first { self.new.first ≡ self.old.first }
@@ -228,7 +242,8 @@ impl<'a, G: Gate + Naming> RunningOperation<'a, G> {
 
     /// The stamp that the session drew last, that of what has just begun, if it writes.
     fn last_stamp(&self) -> Stamp
-        ensures value { 0 < self.now.session.counter → result ≡ stamp self.now.session.counter self.now.name.client }
+        ensures value { 0 < self.now.session.counter
+            → result ≡ stamp self.now.session.counter self.now.name.client }
         // A client's number is below what a counter is multiplied by.
         ensures client { self.now.name.client < 65536 }
     {
@@ -240,7 +255,10 @@ impl<'a, G: Gate + Naming> RunningOperation<'a, G> {
     pub(crate) fn drain(&mut self) -> EntryList
         ensures handed { result.items ≡ self.old.entries.items }
         ensures empty { self.new.entries.items ≡ [] }
-        ensures rest { (self.new.name ≡ self.old.name) × (self.new.queues ≡ self.old.queues) × (self.new.session ≡ self.old.session) × (self.new.first ≡ self.old.first) × (self.new.place ≡ self.old.place) × (self.new.fault ≡ self.old.fault) × (self.new.readings ≡ self.old.readings) × (self.new.seen ≡ self.old.seen) }
+        ensures rest { (self.new.name ≡ self.old.name) × (self.new.queues ≡ self.old.queues)
+            × (self.new.session ≡ self.old.session) × (self.new.first ≡ self.old.first)
+            × (self.new.place ≡ self.old.place) × (self.new.fault ≡ self.old.fault)
+            × (self.new.readings ≡ self.old.readings) × (self.new.seen ≡ self.old.seen) }
     {
         self.entries.take()
     }
@@ -250,7 +268,8 @@ impl<'a, G: Gate + Naming> RunningOperation<'a, G> {
         requires { self.old.first + max_calls ≤ 2 ^ 62 }
         ensures sent { IsTrue result ↔ (0 < self.old.queues.sent) }
         ensures first { self.new.first ≡ self.old.first + self.old.queues.sent }
-        ensures few { (self.old.first ≤ self.new.first) × (self.new.first ≤ self.old.first + max_calls) }
+        ensures few { (self.old.first ≤ self.new.first)
+            × (self.new.first ≤ self.old.first + max_calls) }
         ensures entries { self.new.entries ≡ self.old.entries }
         ensures session { self.new.session ≡ self.old.session }
         ensures queues { self.new.queues ≡ self.old.queues }
@@ -273,18 +292,27 @@ impl<'a, G: Gate + Naming> RunningOperation<'a, G> {
     ) -> Result<(), Fault>
         requires place { IsSome self.old.place }
         requires room { max_calls + 5 ≤ self.old.entries.room }
-        requires calls { HasRoom (calls_waiting self.old.session.running + calls_left self.old.session.running) self.old.queues }
+        requires calls { HasRoom (calls_waiting self.old.session.running
+            + calls_left self.old.session.running) self.old.queues }
         ensures outcome { result ≡ outcome_of self.new.fault self.new.place }
-        ensures few { replies_in self.new.entries.items ≤ replies_in self.old.entries.items + takes }
+        ensures few { replies_in self.new.entries.items
+            ≤ replies_in self.old.entries.items + takes }
         ensures ends { OnOk result (is_final answer.new ≡ true) }
         ensures awaited { OnOk result (awaited self.new.queues ≡ 0) }
         ensures answered { OnOk result (IsNone self.new.place) }
-        ensures entered { (start : List Entered) → Follows start (told_by self.old.place answer.old) self.old.entries.items
+        ensures entered { (start : List Entered)
+            → Follows start (told_by self.old.place answer.old) self.old.entries.items
             → Follows start (told_by self.new.place answer.new) self.new.entries.items }
-        ensures read { (setup : Setup) (asked : Asked) (start : List Entered) → IsStampOf own asked → Reads (sight_of self.old.name self.old.seen) setup asked start self.old.entries.items self.old.session.running (told_by self.old.place answer.old)
-            → Reads (sight_of self.old.name self.new.seen) setup asked start self.new.entries.items self.new.session.running (told_by self.new.place answer.new) }
-        ensures served { (start : List Entered) → AreServed (sight_of self.old.name self.old.seen) self.old.first (self.old.first + self.old.queues.sent) start self.old.entries.items
-            → AreServed (sight_of self.old.name self.new.seen) self.old.first (self.old.first + self.new.queues.sent) start self.new.entries.items }
+        ensures read { (setup : Setup) (asked : Asked) (start : List Entered) → IsStampOf own asked
+            → Reads
+            (sight_of self.old.name self.old.seen) setup asked start self.old.entries.items self.old.session.running (told_by self.old.place answer.old)
+            → Reads
+            (sight_of self.old.name self.new.seen) setup asked start self.new.entries.items self.new.session.running (told_by self.new.place answer.new) }
+        ensures served { (start : List Entered)
+            → AreServed (sight_of self.old.name self.old.seen) self.old.first (self.old.first
+            + self.old.queues.sent) start self.old.entries.items
+            → AreServed (sight_of self.old.name self.new.seen) self.old.first (self.old.first
+            + self.new.queues.sent) start self.new.entries.items }
         ensures counter { self.old.session.counter ≤ self.new.session.counter }
         ensures seen { IsPrefix self.old.seen self.new.seen }
         ensures name { self.new.name ≡ self.old.name }
@@ -308,16 +336,25 @@ impl<'a, G: Gate + Naming> RunningOperation<'a, G> {
     fn take_replies<R: Wait>(&mut self, rt: &R, own: Stamp, takes: usize, answer: &mut Answer)
         requires room { max_calls + spare self.old.place ≤ self.old.entries.room }
         requires calls { HasRoom (calls_left self.old.session.running) self.old.queues }
-        ensures over { IsSome self.old.fault → (self.new.fault ≡ self.old.fault) × (self.new.entries ≡ self.old.entries) }
+        ensures over { IsSome self.old.fault
+            → (self.new.fault ≡ self.old.fault) × (self.new.entries ≡ self.old.entries) }
         ensures awaited { IsNone self.new.fault → awaited self.new.queues ≡ 0 }
-        ensures few { replies_in self.new.entries.items ≤ replies_in self.old.entries.items + takes }
+        ensures few { replies_in self.new.entries.items
+            ≤ replies_in self.old.entries.items + takes }
         ensures ends { EndsSo self.old.place answer.old → EndsSo self.new.place answer.new }
-        ensures entered { (start : List Entered) → Follows start (told_by self.old.place answer.old) self.old.entries.items
+        ensures entered { (start : List Entered)
+            → Follows start (told_by self.old.place answer.old) self.old.entries.items
             → Follows start (told_by self.new.place answer.new) self.new.entries.items }
-        ensures read { (setup : Setup) (asked : Asked) (start : List Entered) → IsStampOf own asked → Reads (sight_of self.old.name self.old.seen) setup asked start self.old.entries.items self.old.session.running (told_by self.old.place answer.old)
-            → Reads (sight_of self.old.name self.new.seen) setup asked start self.new.entries.items self.new.session.running (told_by self.new.place answer.new) }
-        ensures served { (start : List Entered) → AreServed (sight_of self.old.name self.old.seen) self.old.first (self.old.first + self.old.queues.sent) start self.old.entries.items
-            → AreServed (sight_of self.old.name self.new.seen) self.old.first (self.old.first + self.new.queues.sent) start self.new.entries.items }
+        ensures read { (setup : Setup) (asked : Asked) (start : List Entered) → IsStampOf own asked
+            → Reads
+            (sight_of self.old.name self.old.seen) setup asked start self.old.entries.items self.old.session.running (told_by self.old.place answer.old)
+            → Reads
+            (sight_of self.old.name self.new.seen) setup asked start self.new.entries.items self.new.session.running (told_by self.new.place answer.new) }
+        ensures served { (start : List Entered)
+            → AreServed (sight_of self.old.name self.old.seen) self.old.first (self.old.first
+            + self.old.queues.sent) start self.old.entries.items
+            → AreServed (sight_of self.old.name self.new.seen) self.old.first (self.old.first
+            + self.new.queues.sent) start self.new.entries.items }
         ensures counter { self.old.session.counter ≤ self.new.session.counter }
         ensures seen { IsPrefix self.old.seen self.new.seen }
         ensures name { self.new.name ≡ self.old.name }
@@ -353,20 +390,39 @@ impl<'a, G: Gate + Naming> RunningOperation<'a, G> {
         requires room { 1 + spare self.old.place ≤ self.old.entries.room }
         requires calls { HasRoom (calls_left self.old.session.running) self.old.queues }
         ensures calls { HasRoom (calls_left self.new.session.running) self.new.queues }
-        ensures took { (place : ℕ) (told : Served) → IsNone self.old.fault → reply.now.outcome ≡ Ok place → reply.now.message.value.reply ≡ Some told → IsUnder own reply.now.message.value.call
-            → Extends (self.old.entries.items ++ Entry.Took reply.now.number reply.now.partition place told ∷ []) self.new.entries.items }
-        ensures refused { (fault : Broken) → IsNone self.old.fault → reply.now.outcome ≡ Err fault → (self.new.fault ≡ Some fault) × (self.new.entries ≡ self.old.entries) }
-        ensures over { IsSome self.old.fault → (self.new.fault ≡ self.old.fault) × (self.new.entries ≡ self.old.entries) }
-        ensures room { self.old.entries.room + spare self.new.place ≤ self.new.entries.room + 1 + spare self.old.place }
-        ensures replies { replies_in self.new.entries.items ≤ replies_in self.old.entries.items + 1 }
+        ensures took { (place : ℕ) (told : Served) → IsNone self.old.fault
+            → reply.now.outcome ≡ Ok place → reply.now.message.value.reply ≡ Some told
+            → IsUnder own reply.now.message.value.call
+            → Extends (self.old.entries.items
+            ++ Entry.Took reply.now.number reply.now.partition place told
+            ∷ []) self.new.entries.items }
+        ensures refused { (fault : Broken) → IsNone self.old.fault → reply.now.outcome ≡ Err fault
+            → (self.new.fault ≡ Some fault) × (self.new.entries ≡ self.old.entries) }
+        ensures over { IsSome self.old.fault
+            → (self.new.fault ≡ self.old.fault) × (self.new.entries ≡ self.old.entries) }
+        ensures room { self.old.entries.room + spare self.new.place
+            ≤ self.new.entries.room + 1 + spare self.old.place }
+        ensures replies { replies_in self.new.entries.items
+            ≤ replies_in self.old.entries.items + 1 }
         ensures ends { EndsSo self.old.place answer.old → EndsSo self.new.place answer.new }
-        ensures entered { (start : List Entered) → Follows start (told_by self.old.place answer.old) self.old.entries.items
+        ensures entered { (start : List Entered)
+            → Follows start (told_by self.old.place answer.old) self.old.entries.items
             → Follows start (told_by self.new.place answer.new) self.new.entries.items }
-        ensures read { (sight : SeatSight) (setup : Setup) (asked : Asked) (start : List Entered) → IsStampOf own asked → reply.now.tenant ≡ sight.tenant → reply.now.seat ≡ sight.seat → IsPrefix reply.now.front sight.seen
-            → Reads sight setup asked start self.old.entries.items self.old.session.running (told_by self.old.place answer.old)
-            → Reads sight setup asked start self.new.entries.items self.new.session.running (told_by self.new.place answer.new) }
-        ensures served { (first last : ℕ) (start : List Entered) → reply.now.tenant ≡ self.old.name.tenant → reply.now.seat ≡ self.old.name.seat → IsPrefix reply.now.front self.old.seen → first < reply.now.number → reply.now.number ≤ last
-            → AreServed (sight_of self.old.name self.old.seen) first last start self.old.entries.items → AreServed (sight_of self.old.name self.new.seen) first last start self.new.entries.items }
+        ensures read { (sight : SeatSight) (setup : Setup) (asked : Asked) (start : List Entered)
+            → IsStampOf own asked → reply.now.tenant ≡ sight.tenant → reply.now.seat ≡ sight.seat
+            → IsPrefix reply.now.front sight.seen
+            → Reads sight setup asked start self.old.entries.items self.old.session.running
+            (told_by self.old.place answer.old)
+            → Reads sight setup asked start self.new.entries.items self.new.session.running
+            (told_by self.new.place answer.new) }
+        ensures served { (first last : ℕ) (start : List Entered)
+            → reply.now.tenant ≡ self.old.name.tenant → reply.now.seat ≡ self.old.name.seat
+            → IsPrefix reply.now.front self.old.seen → first < reply.now.number
+            → reply.now.number ≤ last
+            → AreServed
+            (sight_of self.old.name self.old.seen) first last start self.old.entries.items
+            → AreServed
+            (sight_of self.old.name self.new.seen) first last start self.new.entries.items }
         ensures sent { self.old.queues.sent ≤ self.new.queues.sent }
         ensures counter { self.old.session.counter ≤ self.new.session.counter }
         ensures seen { self.new.seen ≡ self.old.seen }
@@ -395,18 +451,34 @@ impl<'a, G: Gate + Naming> RunningOperation<'a, G> {
         requires room { 1 + spare self.old.place ≤ self.old.entries.room }
         requires calls { HasRoom (calls_left self.old.session.running) self.old.queues }
         ensures calls { HasRoom (calls_left self.new.session.running) self.new.queues }
-        ensures took { (told : Served) → reply.now.message.value.reply ≡ Some told → IsUnder own reply.now.message.value.call
-            → Extends (self.old.entries.items ++ Entry.Took reply.now.number reply.now.partition place told ∷ []) self.new.entries.items }
-        ensures room { self.old.entries.room + spare self.new.place ≤ self.new.entries.room + 1 + spare self.old.place }
-        ensures replies { replies_in self.new.entries.items ≤ replies_in self.old.entries.items + 1 }
+        ensures took { (told : Served) → reply.now.message.value.reply ≡ Some told
+            → IsUnder own reply.now.message.value.call
+            → Extends (self.old.entries.items
+            ++ Entry.Took reply.now.number reply.now.partition place told
+            ∷ []) self.new.entries.items }
+        ensures room { self.old.entries.room + spare self.new.place
+            ≤ self.new.entries.room + 1 + spare self.old.place }
+        ensures replies { replies_in self.new.entries.items
+            ≤ replies_in self.old.entries.items + 1 }
         ensures ends { EndsSo self.old.place answer.old → EndsSo self.new.place answer.new }
-        ensures entered { (start : List Entered) → Follows start (told_by self.old.place answer.old) self.old.entries.items
+        ensures entered { (start : List Entered)
+            → Follows start (told_by self.old.place answer.old) self.old.entries.items
             → Follows start (told_by self.new.place answer.new) self.new.entries.items }
-        ensures read { (sight : SeatSight) (setup : Setup) (asked : Asked) (start : List Entered) → IsStampOf own asked → reply.now.outcome ≡ Ok place → reply.now.tenant ≡ sight.tenant → reply.now.seat ≡ sight.seat → IsPrefix reply.now.front sight.seen
-            → Reads sight setup asked start self.old.entries.items self.old.session.running (told_by self.old.place answer.old)
-            → Reads sight setup asked start self.new.entries.items self.new.session.running (told_by self.new.place answer.new) }
-        ensures served { (first last : ℕ) (start : List Entered) → reply.now.outcome ≡ Ok place → reply.now.tenant ≡ self.old.name.tenant → reply.now.seat ≡ self.old.name.seat → IsPrefix reply.now.front self.old.seen → first < reply.now.number → reply.now.number ≤ last
-            → AreServed (sight_of self.old.name self.old.seen) first last start self.old.entries.items → AreServed (sight_of self.old.name self.new.seen) first last start self.new.entries.items }
+        ensures read { (sight : SeatSight) (setup : Setup) (asked : Asked) (start : List Entered)
+            → IsStampOf own asked → reply.now.outcome ≡ Ok place → reply.now.tenant ≡ sight.tenant
+            → reply.now.seat ≡ sight.seat → IsPrefix reply.now.front sight.seen
+            → Reads sight setup asked start self.old.entries.items self.old.session.running
+            (told_by self.old.place answer.old)
+            → Reads sight setup asked start self.new.entries.items self.new.session.running
+            (told_by self.new.place answer.new) }
+        ensures served { (first last : ℕ) (start : List Entered) → reply.now.outcome ≡ Ok place
+            → reply.now.tenant ≡ self.old.name.tenant → reply.now.seat ≡ self.old.name.seat
+            → IsPrefix reply.now.front self.old.seen → first < reply.now.number
+            → reply.now.number ≤ last
+            → AreServed
+            (sight_of self.old.name self.old.seen) first last start self.old.entries.items
+            → AreServed
+            (sight_of self.old.name self.new.seen) first last start self.new.entries.items }
         ensures sent { self.old.queues.sent ≤ self.new.queues.sent }
         ensures counter { self.old.session.counter ≤ self.new.session.counter }
         ensures seen { self.new.seen ≡ self.old.seen }
@@ -433,23 +505,42 @@ impl<'a, G: Gate + Naming> RunningOperation<'a, G> {
     /// sends the calls of that end. Their replies are taken like any others.
     fn follow<R: Wait>(&mut self, rt: &R, taken: &MoveKind, ticket: u64, answer: &mut Answer)
         requires room { spare self.old.place ≤ self.old.entries.room }
-        requires calls { HasRoom (calls_sent (moved taken.now self.old.readings.value) (calls_waiting self.old.session.running) + calls_left self.old.session.running) self.old.queues }
+        requires calls { HasRoom
+            (calls_sent (moved taken.now self.old.readings.value)
+            (calls_waiting self.old.session.running)
+            + calls_left self.old.session.running) self.old.queues }
         ensures calls { HasRoom (calls_left self.old.session.running) self.new.queues }
-        ensures answered { is_last (moved taken.now self.old.readings.value) ≡ true → IsNone self.new.place }
-        ensures told { (rows : Told) → IsSome self.old.place → is_last (moved taken.now self.old.readings.value) ≡ true
+        ensures answered { is_last (moved taken.now self.old.readings.value) ≡ true
+            → IsNone self.new.place }
+        ensures told { (rows : Told) → IsSome self.old.place
+            → is_last (moved taken.now self.old.readings.value) ≡ true
             → answer.new ≡ at_seat (answer_of (moved taken.now self.old.readings.value) rows) }
-        ensures goes_on { is_last (moved taken.now self.old.readings.value) ≡ false → self.new.entries ≡ self.old.entries }
+        ensures goes_on { is_last (moved taken.now self.old.readings.value) ≡ false
+            → self.new.entries ≡ self.old.entries }
         ensures replies { replies_in self.new.entries.items ≡ replies_in self.old.entries.items }
-        ensures sent { self.new.queues.sent ≡ self.old.queues.sent + calls_sent (moved taken.now self.old.readings.value) (calls_waiting self.old.session.running) }
-        ensures room { self.old.entries.room + spare self.new.place ≤ self.new.entries.room + spare self.old.place }
+        ensures sent { self.new.queues.sent
+            ≡ self.old.queues.sent
+            + calls_sent (moved taken.now self.old.readings.value)
+            (calls_waiting self.old.session.running) }
+        ensures room { self.old.entries.room + spare self.new.place
+            ≤ self.new.entries.room + spare self.old.place }
         ensures ends { EndsSo self.old.place answer.old → EndsSo self.new.place answer.new }
-        ensures entered { (start : List Entered) → Follows start (told_by self.old.place answer.old) self.old.entries.items
+        ensures entered { (start : List Entered)
+            → Follows start (told_by self.old.place answer.old) self.old.entries.items
             → Follows start (told_by self.new.place answer.new) self.new.entries.items }
-        ensures read { (sight : SeatSight) (setup : Setup) (asked : Asked) (start : List Entered) → Reads sight setup asked start self.old.entries.items self.old.session.running (told_by self.old.place answer.old)
-            → IfTells asked (moved taken.now self.old.readings.value) (IsToldOf sight setup asked start self.old.entries.items)
-            → Reads sight setup asked start self.new.entries.items self.new.session.running (told_by self.new.place answer.new) }
+        ensures read { (sight : SeatSight) (setup : Setup) (asked : Asked) (start : List Entered)
+            → Reads sight setup asked start self.old.entries.items self.old.session.running
+            (told_by self.old.place answer.old)
+            → IfTells asked (moved taken.now self.old.readings.value)
+            (IsToldOf sight setup asked start self.old.entries.items)
+            → Reads sight setup asked start self.new.entries.items self.new.session.running
+            (told_by self.new.place answer.new) }
         ensures kept { Extends self.old.entries.items self.new.entries.items }
-        ensures served { (first last : ℕ) (start : List Entered) → AreServed (sight_of self.old.name self.old.seen) first last start self.old.entries.items → AreServed (sight_of self.old.name self.new.seen) first last start self.new.entries.items }
+        ensures served { (first last : ℕ) (start : List Entered)
+            → AreServed
+            (sight_of self.old.name self.old.seen) first last start self.old.entries.items
+            → AreServed
+            (sight_of self.old.name self.new.seen) first last start self.new.entries.items }
         ensures session { self.new.session ≡ self.old.session }
         ensures seen { self.new.seen ≡ self.old.seen }
         ensures name { self.new.name ≡ self.old.name }
@@ -472,19 +563,30 @@ impl<'a, G: Gate + Naming> RunningOperation<'a, G> {
         ensures readings { self.new.readings ≡ self.old.readings }
         ensures queues { self.new.queues ≡ self.old.queues }
         ensures answered { IsNone self.new.place }
-        ensures told { (rows : Told) → IsSome self.old.place → answer.new ≡ at_seat (answer_of (moved taken.now self.old.readings.value) rows) }
+        ensures told { (rows : Told) → IsSome self.old.place
+            → answer.new ≡ at_seat (answer_of (moved taken.now self.old.readings.value) rows) }
         ensures replies { replies_in self.new.entries.items ≡ replies_in self.old.entries.items }
         ensures session { self.new.session ≡ self.old.session }
         ensures fault { self.new.fault ≡ self.old.fault }
-        ensures room { self.old.entries.room + spare self.new.place ≤ self.new.entries.room + spare self.old.place }
+        ensures room { self.old.entries.room + spare self.new.place
+            ≤ self.new.entries.room + spare self.old.place }
         ensures ends { EndsSo self.old.place answer.old → EndsSo self.new.place answer.new }
-        ensures entered { (start : List Entered) → Follows start (told_by self.old.place answer.old) self.old.entries.items
+        ensures entered { (start : List Entered)
+            → Follows start (told_by self.old.place answer.old) self.old.entries.items
             → Follows start (told_by self.new.place answer.new) self.new.entries.items }
-        ensures read { (sight : SeatSight) (setup : Setup) (asked : Asked) (start : List Entered) → Reads sight setup asked start self.old.entries.items self.old.session.running (told_by self.old.place answer.old)
-            → IfTells asked (moved taken.now self.old.readings.value) (IsToldOf sight setup asked start self.old.entries.items)
-            → Reads sight setup asked start self.new.entries.items self.new.session.running (told_by self.new.place answer.new) }
+        ensures read { (sight : SeatSight) (setup : Setup) (asked : Asked) (start : List Entered)
+            → Reads sight setup asked start self.old.entries.items self.old.session.running
+            (told_by self.old.place answer.old)
+            → IfTells asked (moved taken.now self.old.readings.value)
+            (IsToldOf sight setup asked start self.old.entries.items)
+            → Reads sight setup asked start self.new.entries.items self.new.session.running
+            (told_by self.new.place answer.new) }
         ensures kept { Extends self.old.entries.items self.new.entries.items }
-        ensures served { (first last : ℕ) (start : List Entered) → AreServed (sight_of self.old.name self.old.seen) first last start self.old.entries.items → AreServed (sight_of self.old.name self.new.seen) first last start self.new.entries.items }
+        ensures served { (first last : ℕ) (start : List Entered)
+            → AreServed
+            (sight_of self.old.name self.old.seen) first last start self.old.entries.items
+            → AreServed
+            (sight_of self.old.name self.new.seen) first last start self.new.entries.items }
         ensures seen { self.new.seen ≡ self.old.seen }
         ensures name { self.new.name ≡ self.old.name }
         ensures first { self.new.first ≡ self.old.first }
@@ -503,12 +605,15 @@ impl<'a, G: Gate + Naming> RunningOperation<'a, G> {
         ensures queues { self.new.queues ≡ self.old.queues }
         ensures readings { self.new.readings ≡ self.old.readings }
         ensures answered { IsNone self.new.place }
-        ensures answer { self.new.entries.items ≡ self.old.entries.items ++ Entry.Answered answer.now ∷ [] }
+        ensures answer { self.new.entries.items
+            ≡ self.old.entries.items ++ Entry.Answered answer.now ∷ [] }
         ensures replies { replies_in self.new.entries.items ≡ replies_in self.old.entries.items }
         ensures session { self.new.session ≡ self.old.session }
         ensures fault { self.new.fault ≡ self.old.fault }
-        ensures room { self.old.entries.room + spare self.new.place ≤ self.new.entries.room + spare self.old.place }
-        ensures entered { (start : List Entered) → Follows start None self.old.entries.items → Follows start (Some answer.now) self.new.entries.items }
+        ensures room { self.old.entries.room + spare self.new.place
+            ≤ self.new.entries.room + spare self.old.place }
+        ensures entered { (start : List Entered) → Follows start None self.old.entries.items
+            → Follows start (Some answer.now) self.new.entries.items }
         ensures kept { Extends self.old.entries.items self.new.entries.items }
         ensures seen { self.new.seen ≡ self.old.seen }
         ensures name { self.new.name ≡ self.old.name }
@@ -524,7 +629,8 @@ impl<'a, G: Gate + Naming> RunningOperation<'a, G> {
         requires { 0 < self.old.entries.room }
         ensures room { self.new.entries.room + 1 ≡ self.old.entries.room }
         ensures queues { self.new.queues ≡ self.old.queues }
-        ensures took { self.new.entries.items ≡ self.old.entries.items ++ Entry.Took number partition place reply.now ∷ [] }
+        ensures took { self.new.entries.items
+            ≡ self.old.entries.items ++ Entry.Took number partition place reply.now ∷ [] }
         ensures session { self.new.session ≡ self.old.session }
         ensures place { self.new.place ≡ self.old.place }
         ensures fault { self.new.fault ≡ self.old.fault }
@@ -538,9 +644,15 @@ impl<'a, G: Gate + Naming> RunningOperation<'a, G> {
     /// Sends the calls that the session waits for, COMMITs or others, and says whether all went out.
     fn send_calls<R: Wait>(&mut self, rt: &R, commits: bool) -> bool
         requires { HasRoom (calls_waiting self.old.session.running) self.old.queues }
-        ensures room { (calls : ℕ) → HasRoom (calls_waiting self.old.session.running + calls) self.old.queues → HasRoom calls self.new.queues }
-        ensures sent { self.new.queues.sent ≡ self.old.queues.sent + calls_waiting self.old.session.running }
-        ensures rest { (self.new.name ≡ self.old.name) × (self.new.session ≡ self.old.session) × (self.new.entries ≡ self.old.entries) × (self.new.first ≡ self.old.first) × (self.new.place ≡ self.old.place) × (self.new.fault ≡ self.old.fault) × (self.new.readings ≡ self.old.readings) × (self.new.seen ≡ self.old.seen) }
+        ensures room { (calls : ℕ)
+            → HasRoom (calls_waiting self.old.session.running + calls) self.old.queues
+            → HasRoom calls self.new.queues }
+        ensures sent { self.new.queues.sent
+            ≡ self.old.queues.sent + calls_waiting self.old.session.running }
+        ensures rest { (self.new.name ≡ self.old.name) × (self.new.session ≡ self.old.session)
+            × (self.new.entries ≡ self.old.entries) × (self.new.first ≡ self.old.first)
+            × (self.new.place ≡ self.old.place) × (self.new.fault ≡ self.old.fault)
+            × (self.new.readings ≡ self.old.readings) × (self.new.seen ≡ self.old.seen) }
     {
         self.stage_calls(commits);
         self.queues.dispatch(rt)
@@ -549,11 +661,21 @@ impl<'a, G: Gate + Naming> RunningOperation<'a, G> {
     /// Stages the calls that the session waits for, in boxes for COMMITs or for others.
     fn stage_calls(&mut self, commits: bool)
         requires { HasRoom (calls_waiting self.old.session.running) self.old.queues }
-        ensures room { (calls : ℕ) → HasRoom (calls_waiting self.old.session.running + calls) self.old.queues → HasRoom calls self.new.queues }
-        ensures all { self.new.queues.sent ≡ self.old.queues.sent + calls_waiting self.old.session.running }
-        ensures staged { (setup : Setup) (asked : Asked) (taken : List Sent) (running : Running) → self.old.session.running ≡ Some running → RunningStands setup asked taken running
-            → AreStagedBehind self.old.name self.old.queues.parts (self.old.first + 1 + self.old.queues.sent) (map (call_message self.old.name.client self.old.session.ticket) (waiting_calls setup asked taken)) self.old.queues.calls.items self.new.queues.calls.items }
-        ensures rest { (self.new.name ≡ self.old.name) × (self.new.session ≡ self.old.session) × (self.new.entries ≡ self.old.entries) × (self.new.first ≡ self.old.first) × (self.new.place ≡ self.old.place) × (self.new.fault ≡ self.old.fault) × (self.new.readings ≡ self.old.readings) × (self.new.seen ≡ self.old.seen) }
+        ensures room { (calls : ℕ)
+            → HasRoom (calls_waiting self.old.session.running + calls) self.old.queues
+            → HasRoom calls self.new.queues }
+        ensures all { self.new.queues.sent
+            ≡ self.old.queues.sent + calls_waiting self.old.session.running }
+        ensures staged { (setup : Setup) (asked : Asked) (taken : List Sent) (running : Running)
+            → self.old.session.running ≡ Some running → RunningStands setup asked taken running
+            → AreStagedBehind self.old.name self.old.queues.parts (self.old.first + 1
+            + self.old.queues.sent)
+            (map (call_message self.old.name.client self.old.session.ticket)
+            (waiting_calls setup asked taken)) self.old.queues.calls.items self.new.queues.calls.items }
+        ensures rest { (self.new.name ≡ self.old.name) × (self.new.session ≡ self.old.session)
+            × (self.new.entries ≡ self.old.entries) × (self.new.first ≡ self.old.first)
+            × (self.new.place ≡ self.old.place) × (self.new.fault ≡ self.old.fault)
+            × (self.new.readings ≡ self.old.readings) × (self.new.seen ≡ self.old.seen) }
     {
         let count = self.session.pending_calls().unwrap();
         for nth in 0..count {
@@ -566,12 +688,21 @@ impl<'a, G: Gate + Naming> RunningOperation<'a, G> {
     fn stage_call(&mut self, nth: u32, commits: bool)
         requires there { nth < calls_waiting self.old.session.running }
         requires room { HasRoom 1 self.old.queues }
-        ensures room { (calls : ℕ) → HasRoom (1 + calls) self.old.queues → HasRoom calls self.new.queues }
+        ensures room { (calls : ℕ) → HasRoom (1 + calls) self.old.queues
+            → HasRoom calls self.new.queues }
         ensures counted { self.new.queues.sent ≡ self.old.queues.sent + 1 }
         ensures parts { self.new.queues.parts ≡ self.old.queues.parts }
-        ensures staged { (setup : Setup) (asked : Asked) (taken : List Sent) (running : Running) → self.old.session.running ≡ Some running → RunningStands setup asked taken running
-            → IsStagedNext self.old.name self.old.queues.parts (self.old.first + 1 + self.old.queues.sent) (slice_get (map (call_message self.old.name.client self.old.session.ticket) (waiting_calls setup asked taken)) nth) self.old.queues.calls.items self.new.queues.calls.items }
-        ensures rest { (self.new.name ≡ self.old.name) × (self.new.session ≡ self.old.session) × (self.new.entries ≡ self.old.entries) × (self.new.first ≡ self.old.first) × (self.new.place ≡ self.old.place) × (self.new.fault ≡ self.old.fault) × (self.new.readings ≡ self.old.readings) × (self.new.seen ≡ self.old.seen) }
+        ensures staged { (setup : Setup) (asked : Asked) (taken : List Sent) (running : Running)
+            → self.old.session.running ≡ Some running → RunningStands setup asked taken running
+            → IsStagedNext self.old.name self.old.queues.parts (self.old.first + 1
+            + self.old.queues.sent)
+            (slice_get
+            (map (call_message self.old.name.client self.old.session.ticket)
+            (waiting_calls setup asked taken)) nth) self.old.queues.calls.items self.new.queues.calls.items }
+        ensures rest { (self.new.name ≡ self.old.name) × (self.new.session ≡ self.old.session)
+            × (self.new.entries ≡ self.old.entries) × (self.new.first ≡ self.old.first)
+            × (self.new.place ≡ self.old.place) × (self.new.fault ≡ self.old.fault)
+            × (self.new.readings ≡ self.old.readings) × (self.new.seen ≡ self.old.seen) }
     {
         let mut message = self.queues.take_box(commits);
         let is_made = self.session.call_over(self.name.client, nth, &mut message);
@@ -581,10 +712,17 @@ impl<'a, G: Gate + Naming> RunningOperation<'a, G> {
 
     /// Sends the calls that a move sends at its operation's end, if there are any, and says whether all went out.
     fn send_ending<R: Wait>(&mut self, rt: &R, taken: &MoveKind, ticket: u64) -> bool
-        requires { HasRoom (length (ending (moved taken.now self.old.readings.value))) self.old.queues }
-        ensures room { (calls : ℕ) → HasRoom (length (ending (moved taken.now self.old.readings.value)) + calls) self.old.queues → HasRoom calls self.new.queues }
-        ensures sent { (told : List Shown) → self.new.queues.sent ≡ self.old.queues.sent + length (ending (moved taken.now told)) }
-        ensures rest { (self.new.name ≡ self.old.name) × (self.new.session ≡ self.old.session) × (self.new.entries ≡ self.old.entries) × (self.new.first ≡ self.old.first) × (self.new.place ≡ self.old.place) × (self.new.fault ≡ self.old.fault) × (self.new.readings ≡ self.old.readings) × (self.new.seen ≡ self.old.seen) }
+        requires { HasRoom
+            (length (ending (moved taken.now self.old.readings.value))) self.old.queues }
+        ensures room { (calls : ℕ)
+            → HasRoom (length (ending (moved taken.now self.old.readings.value))
+            + calls) self.old.queues → HasRoom calls self.new.queues }
+        ensures sent { (told : List Shown)
+            → self.new.queues.sent ≡ self.old.queues.sent + length (ending (moved taken.now told)) }
+        ensures rest { (self.new.name ≡ self.old.name) × (self.new.session ≡ self.old.session)
+            × (self.new.entries ≡ self.old.entries) × (self.new.first ≡ self.old.first)
+            × (self.new.place ≡ self.old.place) × (self.new.fault ≡ self.old.fault)
+            × (self.new.readings ≡ self.old.readings) × (self.new.seen ≡ self.old.seen) }
     {
         if !taken.has_ending(0) {
             return true;
@@ -595,11 +733,23 @@ impl<'a, G: Gate + Naming> RunningOperation<'a, G> {
 
     /// Stages the calls that a move sends at its operation's end.
     fn stage_ending(&mut self, taken: &MoveKind, ticket: u64)
-        requires { HasRoom (length (ending (moved taken.now self.old.readings.value))) self.old.queues }
-        ensures room { (calls : ℕ) → HasRoom (length (ending (moved taken.now self.old.readings.value)) + calls) self.old.queues → HasRoom calls self.new.queues }
-        ensures all { (told : List Shown) → self.new.queues.sent ≡ self.old.queues.sent + length (ending (moved taken.now told)) }
-        ensures staged { (told : List Shown) → AreStagedBehind self.old.name self.old.queues.parts (self.old.first + 1 + self.old.queues.sent) (map (call_message self.old.name.client ticket) (ending (moved taken.now told))) self.old.queues.calls.items self.new.queues.calls.items }
-        ensures rest { (self.new.name ≡ self.old.name) × (self.new.session ≡ self.old.session) × (self.new.entries ≡ self.old.entries) × (self.new.first ≡ self.old.first) × (self.new.place ≡ self.old.place) × (self.new.fault ≡ self.old.fault) × (self.new.readings ≡ self.old.readings) × (self.new.seen ≡ self.old.seen) }
+        requires { HasRoom
+            (length (ending (moved taken.now self.old.readings.value))) self.old.queues }
+        ensures room { (calls : ℕ)
+            → HasRoom (length (ending (moved taken.now self.old.readings.value))
+            + calls) self.old.queues → HasRoom calls self.new.queues }
+        ensures all { (told : List Shown)
+            → self.new.queues.sent ≡ self.old.queues.sent + length (ending (moved taken.now told)) }
+        ensures staged { (told : List Shown)
+            → AreStagedBehind self.old.name self.old.queues.parts (self.old.first + 1
+            + self.old.queues.sent)
+            (map (call_message self.old.name.client ticket)
+            (ending
+            (moved taken.now told))) self.old.queues.calls.items self.new.queues.calls.items }
+        ensures rest { (self.new.name ≡ self.old.name) × (self.new.session ≡ self.old.session)
+            × (self.new.entries ≡ self.old.entries) × (self.new.first ≡ self.old.first)
+            × (self.new.place ≡ self.old.place) × (self.new.fault ≡ self.old.fault)
+            × (self.new.readings ≡ self.old.readings) × (self.new.seen ≡ self.old.seen) }
     {
         for nth in 0..MOST_CALLS as u32 {
             if !taken.has_ending(nth) {
@@ -614,11 +764,21 @@ impl<'a, G: Gate + Naming> RunningOperation<'a, G> {
     fn stage_ending_call(&mut self, taken: &MoveKind, ticket: u64, nth: u32)
         requires there { nth < length (ending (moved taken.now self.old.readings.value)) }
         requires room { HasRoom 1 self.old.queues }
-        ensures room { (calls : ℕ) → HasRoom (1 + calls) self.old.queues → HasRoom calls self.new.queues }
+        ensures room { (calls : ℕ) → HasRoom (1 + calls) self.old.queues
+            → HasRoom calls self.new.queues }
         ensures counted { self.new.queues.sent ≡ self.old.queues.sent + 1 }
         ensures parts { self.new.queues.parts ≡ self.old.queues.parts }
-        ensures staged { (told : List Shown) → IsStagedNext self.old.name self.old.queues.parts (self.old.first + 1 + self.old.queues.sent) (slice_get (map (call_message self.old.name.client ticket) (ending (moved taken.now told))) nth) self.old.queues.calls.items self.new.queues.calls.items }
-        ensures rest { (self.new.name ≡ self.old.name) × (self.new.session ≡ self.old.session) × (self.new.entries ≡ self.old.entries) × (self.new.first ≡ self.old.first) × (self.new.place ≡ self.old.place) × (self.new.fault ≡ self.old.fault) × (self.new.readings ≡ self.old.readings) × (self.new.seen ≡ self.old.seen) }
+        ensures staged { (told : List Shown)
+            → IsStagedNext self.old.name self.old.queues.parts (self.old.first + 1
+            + self.old.queues.sent)
+            (slice_get
+            (map (call_message self.old.name.client ticket)
+            (ending
+            (moved taken.now told))) nth) self.old.queues.calls.items self.new.queues.calls.items }
+        ensures rest { (self.new.name ≡ self.old.name) × (self.new.session ≡ self.old.session)
+            × (self.new.entries ≡ self.old.entries) × (self.new.first ≡ self.old.first)
+            × (self.new.place ≡ self.old.place) × (self.new.fault ≡ self.old.fault)
+            × (self.new.readings ≡ self.old.readings) × (self.new.seen ≡ self.old.seen) }
     {
         let mut message = self.queues.take_box(false);
         let is_made = taken.ending_into(self.name.client, ticket, nth, &mut message);
@@ -629,12 +789,19 @@ impl<'a, G: Gate + Naming> RunningOperation<'a, G> {
     /// Stages what was made in a box as the next call of the operation's.
     fn stage(&mut self, message: Box<Message>)
         requires { HasPlaces 1 self.old.queues }
-        ensures room { (calls : ℕ) → HasPlaces (1 + calls) self.old.queues → HasPlaces calls self.new.queues }
+        ensures room { (calls : ℕ) → HasPlaces (1 + calls) self.old.queues
+            → HasPlaces calls self.new.queues }
         ensures boxes { self.new.queues.boxes ≡ self.old.queues.boxes }
         ensures counted { self.new.queues.sent ≡ self.old.queues.sent + 1 }
         ensures parts { self.new.queues.parts ≡ self.old.queues.parts }
-        ensures staged { IsStagedNext self.old.name self.old.queues.parts (self.old.first + 1 + self.old.queues.sent) (Some (without_reply message.value)) self.old.queues.calls.items self.new.queues.calls.items }
-        ensures rest { (self.new.name ≡ self.old.name) × (self.new.session ≡ self.old.session) × (self.new.entries ≡ self.old.entries) × (self.new.first ≡ self.old.first) × (self.new.place ≡ self.old.place) × (self.new.fault ≡ self.old.fault) × (self.new.readings ≡ self.old.readings) × (self.new.seen ≡ self.old.seen) }
+        ensures staged { IsStagedNext self.old.name self.old.queues.parts (self.old.first + 1
+            + self.old.queues.sent)
+            (Some
+            (without_reply message.value)) self.old.queues.calls.items self.new.queues.calls.items }
+        ensures rest { (self.new.name ≡ self.old.name) × (self.new.session ≡ self.old.session)
+            × (self.new.entries ≡ self.old.entries) × (self.new.first ≡ self.old.first)
+            × (self.new.place ≡ self.old.place) × (self.new.fault ≡ self.old.fault)
+            × (self.new.readings ≡ self.old.readings) × (self.new.seen ≡ self.old.seen) }
     {
         let number = self.first + 1 + self.queues.sent() as u64;
         self.queues.stage(&self.name, number, message, &self.seen);

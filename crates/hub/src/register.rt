@@ -77,7 +77,8 @@ fn tickets(known: &Option<KnownClient>) -> u64
 impl Register {
     /// A register of no client, for so many tenants.
     pub fn new(alloc: Global, tenants: usize) -> Result<Register, AllocError>
-        ensures clients { IfOk result (λ register. All (λ rows. IsEmpty rows) register.tenants.items) }
+        ensures clients { IfOk result
+            (λ register. All (λ rows. IsEmpty rows) register.tenants.items) }
         ensures tenants { IfOk result (λ register. length register.tenants.items ≡ tenants) }
         ensures seats { IfOk result (λ register. register.seats ≡ 0) }
     {
@@ -103,13 +104,19 @@ impl Register {
         limits: &Limits,
     ) -> Result<Admission, Refusal>
         // What is kept of each client stays, and so do the numbers of the seats.
-        ensures kept { (of_tenant : ℕ) (other : ℕ) → known_of self.new of_tenant other ≡ known_of self.old of_tenant other }
+        ensures kept { (of_tenant : ℕ) (other : ℕ)
+            → known_of self.new of_tenant other ≡ known_of self.old of_tenant other }
         ensures seats { self.new.seats ≡ self.old.seats }
-        ensures next { IfOk result (λ admission. admission ≡ next_session self.old.seats (known_of self.old tenant client) base) }
+        ensures next { IfOk result (λ admission. admission
+            ≡ next_session self.old.seats (known_of self.old tenant client) base) }
         ensures room { OnOk result (HasRoomFor self.new tenant client) }
         // It is refused exactly by the first of the tests that it does not pass, or else for an allocation failure.
-        ensures refused { (refusal : Why) → admission_test self.old tenant (known_of self.old tenant client) limits.now.clients ≡ Some refusal → result ≡ Err refusal }
-        ensures passed { admission_test self.old tenant (known_of self.old tenant client) limits.now.clients ≡ None → IfErr result (λ e. e ≡ Refusal.OutOfMemory) }
+        ensures refused { (refusal : Why)
+            → admission_test self.old tenant (known_of self.old tenant client) limits.now.clients
+            ≡ Some refusal → result ≡ Err refusal }
+        ensures passed { admission_test self.old tenant
+            (known_of self.old tenant client) limits.now.clients ≡ None
+            → IfErr result (λ e. e ≡ Refusal.OutOfMemory) }
         ensures refusals { IfErr result (λ e. is_unopened e ≡ true) }
     {
         let known = self.known(tenant, client);
@@ -184,9 +191,11 @@ impl Register {
 
     /// Makes room for one client more of a tenant.
     fn make_room(&mut self, tenant: u32) -> Result<(), AllocError>
-        ensures kept { (of_tenant : ℕ) (other : ℕ) → known_of self.new of_tenant other ≡ known_of self.old of_tenant other }
+        ensures kept { (of_tenant : ℕ) (other : ℕ)
+            → known_of self.new of_tenant other ≡ known_of self.old of_tenant other }
         ensures seats { self.new.seats ≡ self.old.seats }
-        ensures room { OnOk result (IsSomeAnd (slice_get self.new.tenants.items tenant) (λ rows. 0 < spare rows)) }
+        ensures room { OnOk result
+            (IsSomeAnd (slice_get self.new.tenants.items tenant) (λ rows. 0 < spare rows)) }
     {
         let Some(rows) = self.tenants.get_mut(tenant as usize) else {
             return Err(AllocError);
@@ -200,8 +209,11 @@ impl Register {
     /// Begins the session that was offered, for which there is room.
     pub fn admit(&mut self, tenant: u32, client: Client, admission: &Admission)
         requires room { HasRoomFor self.old tenant client }
-        ensures known { known_of self.new tenant client ≡ Some (record { is_open = true; counter = admission.now.counter; ticket = admission.now.ticket; turn = admission.now.turn }) }
-        ensures others { (of_tenant : ℕ) (other : ℕ) → IsAnother tenant client of_tenant other → known_of self.new of_tenant other ≡ known_of self.old of_tenant other }
+        ensures known { known_of self.new tenant client
+            ≡ Some
+            (record { is_open = true; counter = admission.now.counter; ticket = admission.now.ticket; turn = admission.now.turn }) }
+        ensures others { (of_tenant : ℕ) (other : ℕ) → IsAnother tenant client of_tenant other
+            → known_of self.new of_tenant other ≡ known_of self.old of_tenant other }
         ensures seats { self.new.seats ≡ admission.now.seat }
     {
         if let Some(rows) = self.tenants.get_mut(tenant as usize) {
@@ -225,9 +237,12 @@ impl Register {
         counter: Counter,
         ticket: u64,
     ) -> Departure
-        ensures told { (result.tenant ≡ tenant) × (result.client ≡ client) × (result.turn ≡ turn) × (result.counter ≡ counter) × (result.ticket ≡ ticket) }
-        ensures known { known_of self.new tenant client ≡ option_map (after_session turn counter ticket) (known_of self.old tenant client) }
-        ensures others { (of_tenant : ℕ) (other : ℕ) → IsAnother tenant client of_tenant other → known_of self.new of_tenant other ≡ known_of self.old of_tenant other }
+        ensures told { (result.tenant ≡ tenant) × (result.client ≡ client) × (result.turn ≡ turn)
+            × (result.counter ≡ counter) × (result.ticket ≡ ticket) }
+        ensures known { known_of self.new tenant client
+            ≡ option_map (after_session turn counter ticket) (known_of self.old tenant client) }
+        ensures others { (of_tenant : ℕ) (other : ℕ) → IsAnother tenant client of_tenant other
+            → known_of self.new of_tenant other ≡ known_of self.old of_tenant other }
         ensures seats { self.new.seats ≡ self.old.seats }
     {
         if let Some(rows) = self.tenants.get_mut(tenant as usize)

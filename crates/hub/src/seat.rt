@@ -68,7 +68,9 @@ impl<'a, G: Gate + Naming> Seat<'a, G> {
         seen: Front<G>,
     ) -> Seat<'a, G>
         ensures seen { result.seen ≡ seen }
-        ensures rest { (result.name ≡ name) × (result.stopped ≡ false) × (result.sent ≡ 0) × (result.counter ≡ ends.entry.session.counter) × (result.parts ≡ hub.now.parts) × (result.entries ≡ []) }
+        ensures rest { (result.name ≡ name) × (result.stopped ≡ false) × (result.sent ≡ 0)
+            × (result.counter ≡ ends.entry.session.counter) × (result.parts ≡ hub.now.parts)
+            × (result.entries ≡ []) }
     {
         let Ends {
             queues,
@@ -115,8 +117,10 @@ impl<'a, G: Gate + Naming> Seat<'a, G> {
     /// That it is done is the writer's answer to replies that this operation entered, whatever they are, each given to just the
     /// call that was answered by it, but for its stamp: each item's PREPARE was accepted, and then the COMMIT done at each home.
     pub fn put_all<R: Wait>(&mut self, rt: &R, items: &[Item]) -> Answer
-        ensures operated { IsOperation (Put self.old.name.client items.now) self.old result self.new }
-        ensures stamp { IfDone result (IsDrawn self.old.name.client self.old.counter self.new.counter) }
+        ensures operated { IsOperation
+            (Put self.old.name.client items.now) self.old result self.new }
+        ensures stamp { IfDone result
+            (IsDrawn self.old.name.client self.old.counter self.new.counter) }
         ensures written { ReportsWrite items.now self.old result self.new }
     {
         let mut answer = Answer::Ignored;
@@ -126,8 +130,10 @@ impl<'a, G: Gate + Naming> Seat<'a, G> {
 
     /// As `put_all`, with the answer written into the caller's buffer.
     pub fn put_all_into<R: Wait>(&mut self, rt: &R, items: &[Item], answer: &mut Answer)
-        ensures operated { IsOperation (Put self.old.name.client items.now) self.old answer.new self.new }
-        ensures stamp { IfDone answer.new (IsDrawn self.old.name.client self.old.counter self.new.counter) }
+        ensures operated { IsOperation
+            (Put self.old.name.client items.now) self.old answer.new self.new }
+        ensures stamp { IfDone answer.new
+            (IsDrawn self.old.name.client self.old.counter self.new.counter) }
         ensures written { ReportsWrite items.now self.old answer.new self.new }
     {
         self.run(rt, &SeatRequest::Put(items), usize::MAX, answer);
@@ -139,7 +145,8 @@ impl<'a, G: Gate + Naming> Seat<'a, G> {
     /// call that was answered by it: each version that it reports was in one of them, and it shows no write in part among those
     /// whose write sets they told.
     pub fn get_all<R: Wait>(&mut self, rt: &R, keys: &[Key]) -> Answer
-        ensures operated { IsOperation (GetAll self.old.name.client keys.now) self.old result self.new }
+        ensures operated { IsOperation
+            (GetAll self.old.name.client keys.now) self.old result self.new }
         ensures read { ReportsRead keys.now self.old result self.new }
     {
         let mut answer = Answer::Ignored;
@@ -149,7 +156,8 @@ impl<'a, G: Gate + Naming> Seat<'a, G> {
 
     /// As `get_all`, with the answer written into the caller's buffer.
     pub fn get_all_into<R: Wait>(&mut self, rt: &R, keys: &[Key], answer: &mut Answer)
-        ensures operated { IsOperation (GetAll self.old.name.client keys.now) self.old answer.new self.new }
+        ensures operated { IsOperation
+            (GetAll self.old.name.client keys.now) self.old answer.new self.new }
         ensures read { ReportsRead keys.now self.old answer.new self.new }
     {
         self.run(rt, &SeatRequest::Get(keys), usize::MAX, answer);
@@ -171,7 +179,8 @@ impl<'a, G: Gate + Naming> Seat<'a, G> {
 
     /// As `find`, with the answer written into the caller's buffer.
     pub fn find_into<R: Wait>(&mut self, rt: &R, tag: Tag, answer: &mut Answer)
-        ensures operated { IsOperation (Find self.old.name.client tag) self.old answer.new self.new }
+        ensures operated { IsOperation
+            (Find self.old.name.client tag) self.old answer.new self.new }
         ensures listed { ReportsList tag self.old answer.new self.new }
     {
         self.run(rt, &SeatRequest::Find(tag), usize::MAX, answer);
@@ -181,7 +190,9 @@ impl<'a, G: Gate + Naming> Seat<'a, G> {
     /// it ends. Where `put_all` would be refused without an entry, it only ends the session.
     pub fn abandon<R: Wait>(self, rt: &R, items: &[Item], takes: u32) -> Transcript
         ensures entries { Extends self.entry.entries result.entries.items }
-        ensures began { (result.entries.items ≡ self.entry.entries) ⊎ Extends (begun_entries self.entry (Put self.entry.name.client items.now)) result.entries.items }
+        ensures began { (result.entries.items ≡ self.entry.entries)
+            ⊎ Extends
+            (begun_entries self.entry (Put self.entry.name.client items.now)) result.entries.items }
         ensures few { replies_in result.entries.items ≤ replies_in self.entry.entries + takes }
         ensures name { IsNamed result self.entry.name }
     {
@@ -215,11 +226,16 @@ impl<'a, G: Gate + Naming> Seat<'a, G> {
 
     /// Runs an operation, takes at most so many replies, and writes its answer into the caller's buffer.
     fn run<R: Wait>(&mut self, rt: &R, request: &SeatRequest<'_>, takes: usize, answer: &mut Answer)
-        ensures entered { IsEntered (act_of self.old.name.client request.now) self.old answer.new self.new }
-        ensures stopped { (answer.new ≡ Answer.Refused Refusal.Stopped) ↔ (self.old.stopped ≡ true) }
-        ensures past { (answer.new ≡ Answer.Refused Refusal.RowsUsed) ↔ ((self.old.stopped ≡ false) × (2 ^ 62 - 128 < self.old.sent)) }
+        ensures entered { IsEntered
+            (act_of self.old.name.client request.now) self.old answer.new self.new }
+        ensures stopped { (answer.new ≡ Answer.Refused Refusal.Stopped)
+            ↔ (self.old.stopped ≡ true) }
+        ensures past { (answer.new ≡ Answer.Refused Refusal.RowsUsed)
+            ↔ ((self.old.stopped ≡ false) × (2 ^ 62 - 128 < self.old.sent)) }
         ensures later { IsLater max_calls self.old self.new }
-        ensures told { IsToldFor (sight self.new) self.old.parts (IsDrawn self.old.name.client self.old.counter self.new.counter) request.now answer.new (begun_entries self.old (act_of self.old.name.client request.now)) self.new.entries }
+        ensures told { IsToldFor (sight self.new) self.old.parts
+            (IsDrawn self.old.name.client self.old.counter self.new.counter) request.now answer.new
+            (begun_entries self.old (act_of self.old.name.client request.now)) self.new.entries }
         ensures few { replies_in self.new.entries ≤ replies_in self.old.entries + takes }
     {
         if let Some(refusal) = self.refuses() {
@@ -241,7 +257,8 @@ impl<'a, G: Gate + Naming> Seat<'a, G> {
     /// Why it begins no operation, if it does not.
     pub(crate) fn refuses(&self) -> Option<Refusal>
         ensures stopped { (result ≡ Some Refusal.Stopped) ↔ (self.now.stopped ≡ true) }
-        ensures past { (result ≡ Some Refusal.RowsUsed) ↔ ((self.now.stopped ≡ false) × (2 ^ 62 - 128 < self.now.sent)) }
+        ensures past { (result ≡ Some Refusal.RowsUsed)
+            ↔ ((self.now.stopped ≡ false) × (2 ^ 62 - 128 < self.now.sent)) }
         ensures open { IfNone result ((self.now.stopped ≡ false) × (self.now.sent ≤ 2 ^ 62 - 128)) }
         ensures unbegun { IfSome result (λ refusal. is_unbegun refusal ≡ true) }
     {
@@ -277,7 +294,8 @@ impl<'a, G: Gate + Naming> Seat<'a, G> {
 
     /// Ends the client's session, with the counter that it has come to.
     fn leave<R: Wait>(&self, rt: &R) -> Departure
-        ensures session { (result.tenant ≡ self.now.name.tenant) × (result.client ≡ self.now.name.client) × (result.turn ≡ self.now.name.turn) }
+        ensures session { (result.tenant ≡ self.now.name.tenant)
+            × (result.client ≡ self.now.name.client) × (result.turn ≡ self.now.name.turn) }
         ensures counter { result.counter ≡ self.now.counter }
     {
         let name = self.operation.name;

@@ -63,7 +63,9 @@ impl<'a> SeatRequest<'a> {
         ensures refused { IfErr result (λ refusal. test_of session.old self.now ≡ Err refusal) }
         ensures unchanged { OnErr result (session.new ≡ session.old) }
         ensures passed { OnOk result (test_of session.old self.now ≡ Ok tt) }
-        ensures begun { OnOk result (HasBegun parts (intent_of (stamp (session.old.counter + 1) client) self.now) session.old session.new) }
+        ensures begun { OnOk result
+            (HasBegun parts
+            (intent_of (stamp (session.old.counter + 1) client) self.now) session.old session.new) }
         ensures still_open { session.new.is_open ≡ session.old.is_open }
     {
         match self {

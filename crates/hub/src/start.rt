@@ -101,11 +101,16 @@ pub struct PartitionLists<G: Naming> {
 impl<G: Naming> PartitionLists<G> {
     /// Empty lists with room for so many partitions. The one error is that an allocation failed.
     pub fn of(alloc: Global, parts: usize) -> Result<PartitionLists<G>, AllocError>
-        ensures shards { IfOk result (λ lists. (lists.shards.items ≡ []) × (vec_len lists.shards ≡ 0) × (parts ≤ vec_capacity lists.shards)) }
-        ensures queues { IfOk result (λ lists. (lists.queues.items ≡ []) × (vec_len lists.queues ≡ 0) × (parts ≤ vec_capacity lists.queues)) }
-        ensures threads { IfOk result (λ lists. (vec_len lists.threads ≡ 0) × (parts ≤ vec_capacity lists.threads)) }
-        ensures journals { IfOk result (λ lists. (vec_len lists.journals ≡ 0) × (parts ≤ vec_capacity lists.journals)) }
-        ensures counts { IfOk result (λ lists. (vec_len lists.counts ≡ 0) × (parts ≤ vec_capacity lists.counts)) }
+        ensures shards { IfOk result (λ lists. (lists.shards.items ≡ [])
+            × (vec_len lists.shards ≡ 0) × (parts ≤ vec_capacity lists.shards)) }
+        ensures queues { IfOk result (λ lists. (lists.queues.items ≡ [])
+            × (vec_len lists.queues ≡ 0) × (parts ≤ vec_capacity lists.queues)) }
+        ensures threads { IfOk result (λ lists. (vec_len lists.threads ≡ 0)
+            × (parts ≤ vec_capacity lists.threads)) }
+        ensures journals { IfOk result (λ lists. (vec_len lists.journals ≡ 0)
+            × (parts ≤ vec_capacity lists.journals)) }
+        ensures counts { IfOk result (λ lists. (vec_len lists.counts ≡ 0)
+            × (parts ≤ vec_capacity lists.counts)) }
     {
         Ok(PartitionLists {
             shards: Vec::with_capacity(alloc, parts)?,
@@ -147,16 +152,24 @@ pub fn start_all<
 ) -> Result<(), HubFault>
     requires shards { vec_len lists.old.shards + config.now.parts ≤ vec_capacity lists.old.shards }
     requires queues { vec_len lists.old.queues + config.now.parts ≤ vec_capacity lists.old.queues }
-    requires threads { vec_len lists.old.threads + config.now.parts ≤ vec_capacity lists.old.threads }
+    requires threads { vec_len lists.old.threads + config.now.parts
+        ≤ vec_capacity lists.old.threads }
     requires words { words.old.next ≡ 0 }
     requires opened { IsOpeningOf config.now seen.now }
-    ensures started { OnOk result (length lists.new.shards.items ≡ length lists.old.shards.items + config.now.parts) }
-    ensures shards { OnOk result (lists.old.shards.items ≡ [] → AreShardsFrom config.now 0 lists.new.shards.items) }
-    ensures queues { OnOk result (lists.old.queues.items ≡ [] → All (λ queue. (queue.capacity ≡ config.now.queue) × (queue.count ≡ 0)) lists.new.queues.items) }
+    ensures started { OnOk result (length lists.new.shards.items
+        ≡ length lists.old.shards.items + config.now.parts) }
+    ensures shards { OnOk result (lists.old.shards.items ≡ []
+        → AreShardsFrom config.now 0 lists.new.shards.items) }
+    ensures queues { OnOk result (lists.old.queues.items ≡ []
+        → All (λ queue. (queue.capacity ≡ config.now.queue)
+        × (queue.count ≡ 0)) lists.new.queues.items) }
     // Each worker is that of the shard in its place.
-    ensures workers { OnOk result (map (λ thread. thread.promise.partition) lists.old.threads.items ≡ map partition_of lists.old.shards.items
-        → map (λ thread. thread.promise.partition) lists.new.threads.items ≡ map partition_of lists.new.shards.items) }
-    ensures rest { (lists.new.journals ≡ lists.old.journals) × (lists.new.counts ≡ lists.old.counts) }
+    ensures workers { OnOk result (map (λ thread. thread.promise.partition) lists.old.threads.items
+        ≡ map partition_of lists.old.shards.items
+        → map (λ thread. thread.promise.partition) lists.new.threads.items
+        ≡ map partition_of lists.new.shards.items) }
+    ensures rest { (lists.new.journals ≡ lists.old.journals)
+        × (lists.new.counts ≡ lists.old.counts) }
 {
     for partition in 0..config.parts {
         let tally = words.take().unwrap();
@@ -182,7 +195,8 @@ fn shard_of<G: Naming>(
 ) -> Result<Arc<Shard<G>>, HubFault>
     requires tally { (tally.key ≡ partition + 1) × (partition < 64) }
     requires opened { IsOpeningOf config.now seen.now }
-    ensures config { IfOk result (λ shard. IsConfigOf config.now partition (arc_value shard).config) }
+    ensures config { IfOk result
+        (λ shard. IsConfigOf config.now partition (arc_value shard).config) }
     ensures refused { IfErr result (λ fault. fault ≡ HubFault.OutOfMemory) }
 {
     let collector = Arc::try_clone(collector)?;

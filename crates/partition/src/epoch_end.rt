@@ -36,7 +36,9 @@ pub(crate) fn end_epoch(
     ensures events { IfOk result (λ e. e.events.items ≡ journal.old.events.items) }
     ensures sound { IfOk result (λ e. IsSoundFrom e.base e.events.items) }
     ensures blank { IfOk result (λ _. journal.new.events.items ≡ []) }
-    ensures begun { IfOk result (λ _. (base : Frozen) × IsEnd journal.old.base journal.old.events.items base × (account_of journal.new ≡ next_account (account_of journal.old) base)) }
+    ensures begun { IfOk result (λ _. (base : Frozen)
+        × IsEnd journal.old.base journal.old.events.items base
+        × (account_of journal.new ≡ next_account (account_of journal.old) base)) }
 
     ensures past { IsErrOf result Refusal.RowsUsed ↔ IsPast (account_of journal.old) }
     ensures refusals { IfErr result (λ e. (e ≡ Refusal.RowsUsed) ⊎ (e ≡ Refusal.OutOfMemory)) }

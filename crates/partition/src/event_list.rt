@@ -171,7 +171,8 @@ impl EventList {
     pub fn push_reserved(&mut self, seat: u64, number: u64, call: &Call, reply: &Reply)
         requires room { IsTrue self.old.has_room }
         requires fits { IsTrue (is_reply_to call.now reply.now) }
-        ensures items { self.new.items ≡ self.old.items ++ event seat number call.now reply.now ∷ [] }
+        ensures items { self.new.items
+            ≡ self.old.items ++ event seat number call.now reply.now ∷ [] }
         ensures few { length self.new.items < 2 ^ 63 }
     {
         self.scratch.clear();
@@ -218,7 +219,8 @@ impl EventList {
 fn put_event(out: &mut Buffer, seat: u64, number: u64, call: &Call, reply: &Reply)
     requires room { length out.old.items + max_event_bytes ≤ out.old.capacity }
     requires fits { IsTrue (is_reply_to call.now reply.now) }
-    ensures packed { out.new.items ≡ out.old.items ++ packed_event (event seat number call.now reply.now) }
+    ensures packed { out.new.items
+        ≡ out.old.items ++ packed_event (event seat number call.now reply.now) }
     ensures stored { IsStoreEvent (event seat number call.now reply.now) }
     ensures few { length out.new.items ≤ length out.old.items + max_event_bytes }
     ensures room { out.old.capacity ≤ out.new.capacity }

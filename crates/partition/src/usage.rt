@@ -21,7 +21,8 @@ impl Book {
     /// How much a tenant uses now. It visits none of what the tenant's cell holds.
     pub fn usage(&self, tenant: u32) -> Usage
         requires { tenant < length self.now }
-        ensures { (account : Account) → slice_get self.now tenant ≡ Some account → IsUsageOf account result }
+        ensures { (account : Account) → slice_get self.now tenant ≡ Some account
+            → IsUsageOf account result }
     {
         let (served, epoch) = self.places(tenant);
         Usage {

@@ -145,7 +145,8 @@ fn set_keep<G: Gate + Naming, H: Wait>(
     keep: Keep,
     answer: &mut Given,
 )
-    ensures { answer.new ≡ cond (nat_lt tenant (length hub.now.limits)) (KeepsSoMany keep) (Refused NoTenant) }
+    ensures { answer.new
+        ≡ cond (nat_lt tenant (length hub.now.limits)) (KeepsSoMany keep) (Refused NoTenant) }
 {
     match hub.set_keep(rt, tenant, keep) {
         Ok(()) => answer.answer = Answer::Keeps(keep),

@@ -137,8 +137,10 @@ pub fn run_session_as<'s, G: Gate + Naming, H: Wait, R: Read, W: Write>(
 
 // Ends the seat, if one was opened.
 fn end_seat<G: Gate + Naming, H: Wait>(rt: &H, seat: Option<Seat<'_, G>>) -> Option<Transcript>
-    ensures counter { option_map (λ t. t.counter) result ≡ option_map (λ s. s.name.counter) seat.entry }
-    ensures entries { option_map (λ t. t.entries.items) result ≡ option_map (λ s. s.entries) seat.entry }
+    ensures counter { option_map (λ t. t.counter) result
+        ≡ option_map (λ s. s.name.counter) seat.entry }
+    ensures entries { option_map (λ t. t.entries.items) result
+        ≡ option_map (λ s. s.entries) seat.entry }
     ensures tenant { option_map (λ t. t.tenant) result ≡ seat_tenant seat.entry }
     ensures whole { IsOfSeat 0 seat.entry result }
 {

@@ -49,11 +49,15 @@ fn cut_long<J: Naming>(
     least: u32,
 ) -> Result<CutEpoch<J>, Uncut>
     requires { tenant < length state.old.book.accounts }
-    ensures cut { IfOk result (λ cut. IsCut state.old.book.accounts state.new.book.accounts tenant cut.epoch) }
-    ensures of_journal { IfOk result (λ cut. (cut.partition ≡ state.old.partition) × (cut.tenant ≡ tenant)) }
+    ensures cut { IfOk result
+        (λ cut. IsCut state.old.book.accounts state.new.book.accounts tenant cut.epoch) }
+    ensures of_journal { IfOk result (λ cut. (cut.partition ≡ state.old.partition)
+        × (cut.tenant ≡ tenant)) }
     ensures long { IfOk result (λ cut. least ≤ length cut.epoch.events.items) }
-    ensures short { IsErrOf result Uncut.Short → length (events_at state.old.book.accounts tenant) < least }
-    ensures refused { IsErrOf result Uncut.Refused → least ≤ length (events_at state.old.book.accounts tenant) }
+    ensures short { IsErrOf result Uncut.Short
+        → length (events_at state.old.book.accounts tenant) < least }
+    ensures refused { IsErrOf result Uncut.Refused
+        → least ≤ length (events_at state.old.book.accounts tenant) }
     ensures unchanged { OnErr result (state.new.book.accounts ≡ state.old.book.accounts) }
     ensures partition { state.new.partition ≡ state.old.partition }
     ensures collections { state.new.collections ≡ state.old.collections }
@@ -78,11 +82,15 @@ pub fn cut_full<J: Naming>(
     tenant: u32,
     epoch: u32,
 ) -> Result<CutEpoch<J>, Uncut>
-    ensures cut { IfOk result (λ cut. IsCut state.old.book.accounts state.new.book.accounts tenant cut.epoch) }
+    ensures cut { IfOk result
+        (λ cut. IsCut state.old.book.accounts state.new.book.accounts tenant cut.epoch) }
     ensures full { IfOk result (λ cut. (0 < epoch) × (2 * epoch ≤ length cut.epoch.events.items)) }
-    ensures short { IsErrOf result Uncut.Short → 0 < epoch → length (events_at state.old.book.accounts tenant) < 2 * epoch }
-    ensures refused { IsErrOf result Uncut.Refused → (0 < epoch) × (2 * epoch ≤ length (events_at state.old.book.accounts tenant)) }
-    ensures of_journal { IfOk result (λ cut. (cut.partition ≡ state.old.partition) × (cut.tenant ≡ tenant)) }
+    ensures short { IsErrOf result Uncut.Short → 0 < epoch
+        → length (events_at state.old.book.accounts tenant) < 2 * epoch }
+    ensures refused { IsErrOf result Uncut.Refused
+        → (0 < epoch) × (2 * epoch ≤ length (events_at state.old.book.accounts tenant)) }
+    ensures of_journal { IfOk result (λ cut. (cut.partition ≡ state.old.partition)
+        × (cut.tenant ≡ tenant)) }
     ensures unchanged { OnErr result (state.new.book.accounts ≡ state.old.book.accounts) }
     ensures partition { state.new.partition ≡ state.old.partition }
     ensures collections { state.new.collections ≡ state.old.collections }
@@ -109,17 +117,29 @@ impl Search {
     /// Cuts the first journal, from where the search stands, that has at least so many events and can be cut now, and answers its
     /// epoch. The search goes on behind it, or is over.
     #[tactic(auto, using(crate::proofs::LongAmong::long_short, crate::proofs::LongAmong::long_refused))]
-    pub(crate) fn cut_next<J: Naming>(&mut self, state: &mut ShardState<J>, least: u32) -> Option<CutEpoch<J>>
+    pub(crate) fn cut_next<J: Naming>(
+        &mut self,
+        state: &mut ShardState<J>,
+        least: u32,
+    ) -> Option<CutEpoch<J>>
         requires { 0 < least }
-        ensures cut { IfSome result (λ cut. IsCut state.old.book.accounts state.new.book.accounts cut.tenant cut.epoch) }
+        ensures cut { IfSome result
+            (λ cut. IsCut state.old.book.accounts state.new.book.accounts cut.tenant cut.epoch) }
         ensures of_partition { IfSome result (λ cut. cut.partition ≡ state.old.partition) }
         ensures long { IfSome result (λ cut. least ≤ length cut.epoch.events.items) }
-        ensures later { IfSome result (λ cut. (self.old.from ≤ cut.tenant) × (self.new.from ≡ cut.tenant + 1)) }
+        ensures later { IfSome result (λ cut. (self.old.from ≤ cut.tenant)
+            × (self.new.from ≡ cut.tenant + 1)) }
         // A journal that it passed over is short, where all could be cut; and it counts each that could not.
-        ensures passed { IfSome result (λ cut. self.new.refused ≡ 0 → AreFewer least state.old.book.accounts self.old.from cut.tenant) }
-        ensures none { IfNone result (self.new.refused ≡ 0 → AreFewer least state.old.book.accounts self.old.from (length state.old.book.accounts)) }
-        ensures counted { IfSome result (λ cut. self.new.refused ≡ long_among least state.old.book.accounts self.old.from (cut.tenant - self.old.from)) }
-        ensures all { IfNone result (self.new.refused ≡ long_among least state.old.book.accounts self.old.from (length state.old.book.accounts - self.old.from)) }
+        ensures passed { IfSome result (λ cut. self.new.refused ≡ 0
+            → AreFewer least state.old.book.accounts self.old.from cut.tenant) }
+        ensures none { IfNone result (self.new.refused ≡ 0
+            → AreFewer least state.old.book.accounts self.old.from
+            (length state.old.book.accounts)) }
+        ensures counted { IfSome result (λ cut. self.new.refused
+            ≡ long_among least state.old.book.accounts self.old.from (cut.tenant - self.old.from)) }
+        ensures all { IfNone result (self.new.refused
+            ≡ long_among least state.old.book.accounts self.old.from
+            (length state.old.book.accounts - self.old.from)) }
         ensures unchanged { IfNone result (state.new.book.accounts ≡ state.old.book.accounts) }
         ensures over { IfNone result (self.new.is_over ≡ true) }
         ensures going { IfSome result (λ _. self.new.is_over ≡ self.old.is_over) }

@@ -164,7 +164,8 @@ pub fn job_queue<J: Naming>(
     capacity: usize,
 ) -> Result<(JobSender<J>, JobReceiver<J>), AllocError>
     requires { 0 < capacity }
-    ensures room { IfOk result (λ ends. (ends.0.capacity ≡ capacity) × (ends.1.capacity ≡ capacity)) }
+    ensures room { IfOk result (λ ends. (ends.0.capacity ≡ capacity)
+        × (ends.1.capacity ≡ capacity)) }
     ensures none { IfOk result (λ ends. (ends.0.count ≡ 0) × (ends.1.count ≡ 0)) }
 {
     let (sending, receiving, mut pass) = bounded_with::<Task<J>, u64, Homed, Global>(

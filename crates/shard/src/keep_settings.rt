@@ -55,7 +55,8 @@ impl KeepSettings {
     /// Those that the limits begin with.
     pub fn of(alloc: Global, limits: &[Limits]) -> Result<KeepSettings, AllocError>
         requires { length limits.now ≤ max_tenants }
-        ensures { IfOk result (λ keeps. take (length limits.now) keeps ≡ map (λ its. its.keep) limits.now) }
+        ensures { IfOk result (λ keeps. take (length limits.now) keeps
+            ≡ map (λ its. its.keep) limits.now) }
     {
         let mut tenants = Vec::with_capacity(alloc, MAX_TENANTS as usize)?;
         for its in limits {

@@ -63,14 +63,23 @@ impl Round {
     ) -> Result<(), Skipped>
         requires { its.now.tenant ≡ self.old.next }
         ensures next { self.new.next ≡ self.old.next + 1 }
-        ensures collected { OnOk result (IsCollected state.old.book.accounts state.new.book.accounts self.old.next its.now.keep) }
-        ensures full { IsErrOf result Skipped.Full → (0 < config.now.epoch) × (2 * config.now.epoch ≤ length (events_at state.old.book.accounts self.old.next)) }
-        ensures no_tenant { IsErrOf result (Skipped.Refused Fault.NoTenant) → length state.old.book.accounts ≤ self.old.next }
-        ensures unchanged { OnErr result ((state.new.book.accounts ≡ state.old.book.accounts) × (self.new.cuts ≡ self.old.cuts)) }
-        ensures counted { OnOk result (state.new.collections ≡ one_more state.old.collections self.old.next) }
+        ensures collected { OnOk result
+            (IsCollected state.old.book.accounts state.new.book.accounts self.old.next its.now.keep) }
+        ensures full { IsErrOf result Skipped.Full
+            → (0 < config.now.epoch)
+            × (2 * config.now.epoch ≤ length (events_at state.old.book.accounts self.old.next)) }
+        ensures no_tenant { IsErrOf result (Skipped.Refused Fault.NoTenant)
+            → length state.old.book.accounts ≤ self.old.next }
+        ensures unchanged { OnErr result ((state.new.book.accounts ≡ state.old.book.accounts)
+            × (self.new.cuts ≡ self.old.cuts)) }
+        ensures counted { OnOk result (state.new.collections
+            ≡ one_more state.old.collections self.old.next) }
         ensures uncounted { OnErr result (state.new.collections ≡ state.old.collections) }
-        ensures cuts { OnOk result (IsTrue self.new.cuts ↔ (IsTrue self.old.cuts ⊎ IsLongAt config.now.epoch state.new.book.accounts self.old.next)) }
-        ensures short { AreShort config.now.epoch state.old.book.accounts → AreShort config.now.epoch state.new.book.accounts }
+        ensures cuts { OnOk result (IsTrue self.new.cuts
+            ↔ (IsTrue self.old.cuts
+            ⊎ IsLongAt config.now.epoch state.new.book.accounts self.old.next)) }
+        ensures short { AreShort config.now.epoch state.old.book.accounts
+            → AreShort config.now.epoch state.new.book.accounts }
     {
         self.next += 1;
         let tenant = its.tenant();

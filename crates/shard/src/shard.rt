@@ -208,7 +208,8 @@ impl<J: Naming> Shard<J> {
     /// The book, which no thread has any more. None where it is not this partition's, or has not so many tenants: what lies
     /// behind a lock is known only by its type.
     pub fn into_book(self) -> Option<(Book, Front<J>)>
-        ensures journals { IfSome result (λ parts. ∥ AreOf self.config.parts self.config.partition parts.0 ∥₁) }
+        ensures journals { IfSome result
+            (λ parts. ∥ AreOf self.config.parts self.config.partition parts.0 ∥₁) }
         ensures tenants { IfSome result (λ parts. length parts.0 ≡ self.config.tenants) }
         // The book has what the history has of each tenant there.
         ensures traced { IfSome result (λ parts. AreTraced parts.1 self.config.partition parts.0) }
@@ -245,7 +246,8 @@ impl<J: Naming> ShardState<J> {
         requires journals { ∥ AreOf config.now.parts config.now.partition book.accounts ∥₁ }
         requires its { book.partition ≡ config.now.partition }
         ensures book { result.book ≡ book }
-        ensures partition { (result.partition ≡ config.now.partition) × (result.parts ≡ config.now.parts) }
+        ensures partition { (result.partition ≡ config.now.partition)
+            × (result.parts ≡ config.now.parts) }
         ensures events { result.events ≡ 0 }
         ensures collections { result.collections ≡ replicate max_tenants 0 }
     {
@@ -267,14 +269,17 @@ impl<J: Naming> ShardState<J> {
         gate: &G,
         calls: &mut VecDeque<Staged<J>>,
     ) -> FollowUp
-        ensures short { AreShort config.now.epoch self.old.book.accounts → AreShort config.now.epoch self.new.book.accounts }
+        ensures short { AreShort config.now.epoch self.old.book.accounts
+            → AreShort config.now.epoch self.new.book.accounts }
         ensures calls { deque_len calls.new ≡ deque_len calls.old }
         ensures room { deque_capacity calls.new ≡ deque_capacity calls.old }
         // Each asks what it asked.
         ensures asked { map asked_by calls.new.items ≡ map asked_by calls.old.items }
         // None that is for this partition is as it was staged.
-        ensures all { All (λ staged. IsOpenAt self.old.partition self.old.parts staged → ⊥) calls.new.items }
-        ensures partition { (self.new.partition ≡ self.old.partition) × (self.new.parts ≡ self.old.parts) }
+        ensures all { All (λ staged. IsOpenAt self.old.partition self.old.parts staged
+            → ⊥) calls.new.items }
+        ensures partition { (self.new.partition ≡ self.old.partition)
+            × (self.new.parts ≡ self.old.parts) }
         ensures collections { self.new.collections ≡ self.old.collections }
     {
         let mut follow_up = FollowUp::nothing();
@@ -291,7 +296,8 @@ impl<J: Naming> ShardState<J> {
 
     /// Whether this is the partition that the call is for.
     fn is_home_of(&self, call: &SeatCall<J>) -> bool
-        ensures { IsTrue result ↔ ((call.now.partition ≡ self.now.partition) × (call.now.parts ≡ self.now.parts)) }
+        ensures { IsTrue result
+            ↔ ((call.now.partition ≡ self.now.partition) × (call.now.parts ≡ self.now.parts)) }
     {
         call.partition == self.partition && call.parts == self.parts
     }
@@ -304,12 +310,19 @@ impl<J: Naming> ShardState<J> {
         staged: &mut Staged<J>,
         follow_up: &mut FollowUp,
     )
-        requires { (staged.old.call.partition ≡ self.old.partition) × (staged.old.call.parts ≡ self.old.parts) }
-        ensures short { AreShort config.now.epoch self.old.book.accounts → AreShort config.now.epoch self.new.book.accounts }
+        requires { (staged.old.call.partition ≡ self.old.partition)
+            × (staged.old.call.parts ≡ self.old.parts) }
+        ensures short { AreShort config.now.epoch self.old.book.accounts
+            → AreShort config.now.epoch self.new.book.accounts }
         ensures asked { asked_by staged.new ≡ asked_by staged.old }
-        ensures left { staged.new.stage ≡ CallState.Deferred → (0 < config.now.epoch) × (2 * config.now.epoch ≤ length (events_at self.old.book.accounts staged.old.call.tenant)) × (self.new.book.accounts ≡ self.old.book.accounts) }
+        ensures left { staged.new.stage ≡ CallState.Deferred
+            → (0 < config.now.epoch)
+            × (2 * config.now.epoch
+            ≤ length (events_at self.old.book.accounts staged.old.call.tenant))
+            × (self.new.book.accounts ≡ self.old.book.accounts) }
         ensures served { staged.new.stage ≡ CallState.Pending → ⊥ }
-        ensures partition { (self.new.partition ≡ self.old.partition) × (self.new.parts ≡ self.old.parts) }
+        ensures partition { (self.new.partition ≡ self.old.partition)
+            × (self.new.parts ≡ self.old.parts) }
         ensures collections { self.new.collections ≡ self.old.collections }
     {
         if is_full(self.book.book(), config.epoch, staged.call.tenant) {
@@ -329,15 +342,33 @@ impl<J: Naming> ShardState<J> {
         follow_up: &mut FollowUp,
     ) -> Result<u64, Fault>
         ensures came { CameSo call.new.front call.new.partition call.new.tenant call.new.seat call.new.number call.new.message.value result }
-        ensures call { (call.new.partition ≡ call.old.partition) × (call.new.tenant ≡ call.old.tenant) × (call.new.seat ≡ call.old.seat) × (call.new.number ≡ call.old.number) }
+        ensures call { (call.new.partition ≡ call.old.partition)
+            × (call.new.tenant ≡ call.old.tenant) × (call.new.seat ≡ call.old.seat)
+            × (call.new.number ≡ call.old.number) }
         ensures asked { asked_of call.new ≡ asked_of call.old }
-        ensures entered { IfOk result (λ _. IsSomeAnd call.new.message.value.reply (λ r. IsEntered self.old.book.accounts self.new.book.accounts call.old.tenant (event call.old.seat call.old.number call.old.message.value.call r))) }
-        ensures no_tenant { call.old.partition ≡ self.old.partition → call.old.parts ≡ self.old.parts → (IsErrOf result Fault.NoTenant ↔ (length self.old.book.accounts ≤ call.old.tenant)) }
-        ensures place { IfOk result (λ place. place ≡ before_at self.old.book.accounts call.old.tenant + length (events_at self.old.book.accounts call.old.tenant) + 1) }
-        ensures late { call.old.partition ≡ self.old.partition → call.old.parts ≡ self.old.parts → call.old.tenant < length self.old.book.accounts → (IsErrOf result Fault.Late ↔ IsLate (events_at self.old.book.accounts call.old.tenant) call.old.seat call.old.number) }
-        ensures cuts { IfOk result (λ _. 0 < config.now.epoch → length (events_at self.new.book.accounts call.old.tenant) ≡ config.now.epoch → follow_up.new.cuts ≡ true) }
+        ensures entered { IfOk result
+            (λ _.
+            IsSomeAnd call.new.message.value.reply
+            (λ r.
+            IsEntered self.old.book.accounts self.new.book.accounts call.old.tenant
+            (event call.old.seat call.old.number call.old.message.value.call r))) }
+        ensures no_tenant { call.old.partition ≡ self.old.partition
+            → call.old.parts ≡ self.old.parts
+            → (IsErrOf result Fault.NoTenant ↔ (length self.old.book.accounts ≤ call.old.tenant)) }
+        ensures place { IfOk result (λ place. place
+            ≡ before_at self.old.book.accounts call.old.tenant
+            + length (events_at self.old.book.accounts call.old.tenant) + 1) }
+        ensures late { call.old.partition ≡ self.old.partition → call.old.parts ≡ self.old.parts
+            → call.old.tenant < length self.old.book.accounts
+            → (IsErrOf result Fault.Late
+            ↔ IsLate
+            (events_at self.old.book.accounts call.old.tenant) call.old.seat call.old.number) }
+        ensures cuts { IfOk result (λ _. 0 < config.now.epoch
+            → length (events_at self.new.book.accounts call.old.tenant) ≡ config.now.epoch
+            → follow_up.new.cuts ≡ true) }
         ensures unchanged { OnErr result (self.new.book.accounts ≡ self.old.book.accounts) }
-        ensures partition { (self.new.partition ≡ self.old.partition) × (self.new.parts ≡ self.old.parts) }
+        ensures partition { (self.new.partition ≡ self.old.partition)
+            × (self.new.parts ≡ self.old.parts) }
         ensures collections { self.new.collections ≡ self.old.collections }
     {
         if !self.is_home_of(call) {
@@ -357,18 +388,37 @@ impl<J: Naming> ShardState<J> {
     ) -> Result<u64, Fault>
         requires { (call.old.partition ≡ self.old.partition) × (call.old.parts ≡ self.old.parts) }
         ensures came { CameSo call.new.front call.new.partition call.new.tenant call.new.seat call.new.number call.new.message.value result }
-        ensures no_tenant { IsErrOf result Fault.NoTenant ↔ (length self.old.book.accounts ≤ call.old.tenant) }
-        ensures entered { IfOk result (λ _. IsSomeAnd call.new.message.value.reply (λ r. IsEntered self.old.book.accounts self.new.book.accounts call.old.tenant (event call.old.seat call.old.number call.old.message.value.call r))) }
-        ensures place { IfOk result (λ place. place ≡ before_at self.old.book.accounts call.old.tenant + length (events_at self.old.book.accounts call.old.tenant) + 1) }
-        ensures late { call.old.tenant < length self.old.book.accounts → (IsErrOf result Fault.Late ↔ IsLate (events_at self.old.book.accounts call.old.tenant) call.old.seat call.old.number) }
+        ensures no_tenant { IsErrOf result Fault.NoTenant
+            ↔ (length self.old.book.accounts ≤ call.old.tenant) }
+        ensures entered { IfOk result
+            (λ _.
+            IsSomeAnd call.new.message.value.reply
+            (λ r.
+            IsEntered self.old.book.accounts self.new.book.accounts call.old.tenant
+            (event call.old.seat call.old.number call.old.message.value.call r))) }
+        ensures place { IfOk result (λ place. place
+            ≡ before_at self.old.book.accounts call.old.tenant
+            + length (events_at self.old.book.accounts call.old.tenant) + 1) }
+        ensures late { call.old.tenant < length self.old.book.accounts
+            → (IsErrOf result Fault.Late
+            ↔ IsLate
+            (events_at self.old.book.accounts call.old.tenant) call.old.seat call.old.number) }
         ensures unchanged { OnErr result (self.new.book.accounts ≡ self.old.book.accounts) }
-        ensures partition { (self.new.partition ≡ self.old.partition) × (self.new.parts ≡ self.old.parts) }
+        ensures partition { (self.new.partition ≡ self.old.partition)
+            × (self.new.parts ≡ self.old.parts) }
         ensures collections { self.new.collections ≡ self.old.collections }
-        ensures call { (call.new.partition ≡ call.old.partition) × (call.new.tenant ≡ call.old.tenant) × (call.new.seat ≡ call.old.seat) × (call.new.number ≡ call.old.number) }
+        ensures call { (call.new.partition ≡ call.old.partition)
+            × (call.new.tenant ≡ call.old.tenant) × (call.new.seat ≡ call.old.seat)
+            × (call.new.number ≡ call.old.number) }
         ensures asked { asked_of call.new ≡ asked_of call.old }
-        ensures cuts { IfOk result (λ _. 0 < config.now.epoch → length (events_at self.new.book.accounts call.old.tenant) ≡ config.now.epoch → follow_up.new.cuts ≡ true) }
+        ensures cuts { IfOk result (λ _. 0 < config.now.epoch
+            → length (events_at self.new.book.accounts call.old.tenant) ≡ config.now.epoch
+            → follow_up.new.cuts ≡ true) }
         // where its journal was not full
-        ensures short { (0 < config.now.epoch → length (events_at self.old.book.accounts call.old.tenant) < 2 * config.now.epoch) → AreShort config.now.epoch self.old.book.accounts → AreShort config.now.epoch self.new.book.accounts }
+        ensures short { (0 < config.now.epoch
+            → length (events_at self.old.book.accounts call.old.tenant) < 2 * config.now.epoch)
+            → AreShort config.now.epoch self.old.book.accounts
+            → AreShort config.now.epoch self.new.book.accounts }
     {
         gate.inside(self.partition, call.arrival);
         let place = serve_message(
@@ -394,11 +444,16 @@ impl<J: Naming> ShardState<J> {
     /// Counts an event of a seat.
     fn count(&mut self, config: &ShardConfig, follow_up: &mut FollowUp)
         ensures book { self.new.book.accounts ≡ self.old.book.accounts }
-        ensures partition { (self.new.partition ≡ self.old.partition) × (self.new.parts ≡ self.old.parts) }
+        ensures partition { (self.new.partition ≡ self.old.partition)
+            × (self.new.parts ≡ self.old.parts) }
         ensures collections { self.new.collections ≡ self.old.collections }
         ensures cuts { follow_up.new.cuts ≡ follow_up.old.cuts }
-        ensures collects { follow_up.new.collects ≡ (follow_up.old.collects || nat_le config.now.every (min (self.old.events + 1) (2 ^ 32 - 1))) }
-        ensures events { self.new.events ≡ cond (nat_le config.now.every (min (self.old.events + 1) (2 ^ 32 - 1))) 0 (min (self.old.events + 1) (2 ^ 32 - 1)) }
+        ensures collects { follow_up.new.collects
+            ≡ (follow_up.old.collects
+            || nat_le config.now.every (min (self.old.events + 1) (2 ^ 32 - 1))) }
+        ensures events { self.new.events
+            ≡ cond (nat_le config.now.every (min (self.old.events + 1) (2 ^ 32 - 1))) 0
+            (min (self.old.events + 1) (2 ^ 32 - 1)) }
     {
         self.events = self.events.saturating_add(1);
         if self.events >= config.every {
@@ -410,7 +465,9 @@ impl<J: Naming> ShardState<J> {
 
 /// Whether a tenant's journal has twice as many events as an epoch, so that a seat waits until it was cut.
 pub fn is_full(book: &Book, epoch: u32, tenant: u32) -> bool
-    ensures full { IsTrue result → (0 < epoch) × (tenant < length book.now) × (2 * epoch ≤ length (events_at book.now tenant)) }
+    ensures full { IsTrue result
+        → (0 < epoch) × (tenant < length book.now)
+        × (2 * epoch ≤ length (events_at book.now tenant)) }
     ensures short { result ≡ false → 0 < epoch → length (events_at book.now tenant) < 2 * epoch }
 {
     if tenant >= book.tenants() {
@@ -435,10 +492,14 @@ pub fn answer<J: Naming>(
     call: &Call,
 ) -> Result<PlacedReply, Fault>
     ensures no_tenant { IsErrOf result Fault.NoTenant ↔ (length book.old.accounts ≤ tenant) }
-    ensures entered { IfOk result (λ r. IsEntered book.old.accounts book.new.accounts tenant (event seat number call.now r.reply)) }
-    ensures place { IfOk result (λ r. r.place ≡ before_at book.old.accounts tenant + length (events_at book.old.accounts tenant) + 1) }
+    ensures entered { IfOk result
+        (λ r.
+        IsEntered book.old.accounts book.new.accounts tenant (event seat number call.now r.reply)) }
+    ensures place { IfOk result (λ r. r.place
+        ≡ before_at book.old.accounts tenant + length (events_at book.old.accounts tenant) + 1) }
     ensures reply { IfOk result (λ r. IsReplyInEpoch book.old.accounts tenant call.now r.reply) }
-    ensures late { tenant < length book.old.accounts → (IsErrOf result Fault.Late ↔ IsLate (events_at book.old.accounts tenant) seat number) }
+    ensures late { tenant < length book.old.accounts
+        → (IsErrOf result Fault.Late ↔ IsLate (events_at book.old.accounts tenant) seat number) }
     ensures partition { book.new.partition ≡ book.old.partition }
     ensures unchanged { OnErr result (book.new.accounts ≡ book.old.accounts) }
 {
@@ -472,16 +533,34 @@ fn serve_message<G: Gate, J: Naming>(
 ) -> Result<u64, Fault>
     requires inside { G.is_inside _gate.now _partition _nth }
     ensures no_tenant { IsErrOf result Fault.NoTenant ↔ (length book.old.accounts ≤ tenant) }
-    ensures entered { IfOk result (λ _. IsSomeAnd message.new.reply (λ r. IsEntered book.old.accounts book.new.accounts tenant (event caller.seat caller.number message.old.call r))) }
-    ensures place { IfOk result (λ place. place ≡ before_at book.old.accounts tenant + length (events_at book.old.accounts tenant) + 1) }
-    ensures reply { IfOk result (λ _. IsSomeAnd message.new.reply (λ r. IsReplyInEpoch book.old.accounts tenant message.old.call r)) }
-    ensures served { IfOk result (λ place. IsSomeAnd message.new.reply (λ r. StandsInHistory evidence.new (record { partition = book.old.partition; tenant = tenant; seat = caller.seat; number = caller.number; call = message.old.call }) place r)) }
-    ensures message { IfOk result (λ _. message.new ≡ record message.old { reply = message.new.reply }) }
+    ensures entered { IfOk result
+        (λ _.
+        IsSomeAnd message.new.reply
+        (λ r.
+        IsEntered book.old.accounts book.new.accounts tenant
+        (event caller.seat caller.number message.old.call r))) }
+    ensures place { IfOk result (λ place. place
+        ≡ before_at book.old.accounts tenant + length (events_at book.old.accounts tenant) + 1) }
+    ensures reply { IfOk result
+        (λ _.
+        IsSomeAnd message.new.reply
+        (λ r. IsReplyInEpoch book.old.accounts tenant message.old.call r)) }
+    ensures served { IfOk result
+        (λ place.
+        IsSomeAnd message.new.reply
+        (λ r.
+        StandsInHistory evidence.new
+        (record { partition = book.old.partition; tenant = tenant; seat = caller.seat; number = caller.number; call = message.old.call }) place r)) }
+    ensures message { IfOk result (λ _. message.new
+        ≡ record message.old { reply = message.new.reply }) }
     ensures asks { message.new.call ≡ message.old.call }
     ensures evidence { IsPrefix evidence.old evidence.new }
     ensures partition { book.new.partition ≡ book.old.partition }
-    ensures late { tenant < length book.old.accounts → (IsErrOf result Fault.Late ↔ IsLate (events_at book.old.accounts tenant) caller.seat caller.number) }
-    ensures unchanged { OnErr result ((book.new.accounts ≡ book.old.accounts) × (message.new ≡ message.old)) }
+    ensures late { tenant < length book.old.accounts
+        → (IsErrOf result Fault.Late
+        ↔ IsLate (events_at book.old.accounts tenant) caller.seat caller.number) }
+    ensures unchanged { OnErr result ((book.new.accounts ≡ book.old.accounts)
+        × (message.new ≡ message.old)) }
 {
     if tenant >= book.book().tenants() {
         return Err(Fault::NoTenant);

@@ -22,8 +22,10 @@ impl<J: Naming> ShardState<J> {
     /// Puts how much each tenant uses, in their order, in place of what the list has. Answers true unless there are more tenants
     /// than a store can have. The one error is that an allocation failed.
     fn put_usages(&self, usages: &mut Vec<TenantUsage>) -> Result<bool, AllocError>
-        ensures used { IfOk result (λ is_there. IsTrue is_there → AreUsagesOf self.now.book.accounts self.now.collections usages.new.items) }
-        ensures there { IfOk result (λ is_there. IsTrue is_there ↔ (length self.now.book.accounts ≤ max_tenants)) }
+        ensures used { IfOk result (λ is_there. IsTrue is_there
+            → AreUsagesOf self.now.book.accounts self.now.collections usages.new.items) }
+        ensures there { IfOk result (λ is_there. IsTrue is_there
+            ↔ (length self.now.book.accounts ≤ max_tenants)) }
     {
         usages.clear();
         for tenant in 0..self.book.book().tenants() {
@@ -43,8 +45,10 @@ impl<J: Naming> ShardState<J> {
         partition: u32,
         usages: &mut Vec<TenantUsage>,
     ) -> Result<bool, AllocError>
-        ensures used { IfOk result (λ is_there. IsTrue is_there → AreUsagesAt parts partition usages.new.items) }
-        ensures there { IfOk result (λ is_there. IsTrue is_there ↔ IsAt parts partition self.now.parts self.now.partition self.now.book.accounts) }
+        ensures used { IfOk result (λ is_there. IsTrue is_there
+            → AreUsagesAt parts partition usages.new.items) }
+        ensures there { IfOk result (λ is_there. IsTrue is_there
+            ↔ IsAt parts partition self.now.parts self.now.partition self.now.book.accounts) }
     {
         if self.parts != parts || self.partition != partition {
             return Ok(false);
@@ -64,8 +68,10 @@ impl<J: Naming> Shard<J> {
         partition: u32,
         usages: &mut Vec<TenantUsage>,
     ) -> Result<bool, AllocError>
-        ensures used { IfOk result (λ is_there. IsTrue is_there → AreUsagesAt parts partition usages.new.items) }
-        ensures elsewhere { IfOk result (λ is_there. is_there ≡ false → WasElsewhere parts partition) }
+        ensures used { IfOk result (λ is_there. IsTrue is_there
+            → AreUsagesAt parts partition usages.new.items) }
+        ensures elsewhere { IfOk result (λ is_there. is_there ≡ false
+            → WasElsewhere parts partition) }
     {
         // Memory is asked for before the lock.
         usages.clear();

@@ -124,7 +124,8 @@ pub fn replied<J: Naming>(call: SeatCall<J>, outcome: Result<u64, Fault>) -> Sea
     requires { CameSo call.front call.partition call.tenant call.seat call.number call.message.value outcome }
     ensures call { (result.number ≡ call.number) × (result.partition ≡ call.partition) }
     ensures seat { (result.tenant ≡ call.tenant) × (result.seat ≡ call.seat) }
-    ensures outcome { (result.outcome ≡ outcome) × (result.message ≡ call.message) × (result.front ≡ call.front) }
+    ensures outcome { (result.outcome ≡ outcome) × (result.message ≡ call.message)
+        × (result.front ≡ call.front) }
 {
     let SeatCall {
         partition,

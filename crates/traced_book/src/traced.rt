@@ -103,18 +103,35 @@ impl<J: Naming> TracedBook<J> {
     ) -> Result<u64, Refusal>
         requires tenant { tenant < length self.old.accounts }
 
-        ensures entered { IfOk result (λ _. IsSomeAnd reply.new (λ told. IsEntered self.old.accounts self.new.accounts tenant (event caller.seat caller.number call.now told))) }
-        ensures place { IfOk result (λ place. place ≡ before_at self.old.accounts tenant + length (events_at self.old.accounts tenant) + 1) }
-        ensures reply { IfOk result (λ _. IsSomeAnd reply.new (λ told. IsReplyInEpoch self.old.accounts tenant call.now told)) }
+        ensures entered { IfOk result
+            (λ _.
+            IsSomeAnd reply.new
+            (λ told.
+            IsEntered self.old.accounts self.new.accounts tenant
+            (event caller.seat caller.number call.now told))) }
+        ensures place { IfOk result (λ place. place
+            ≡ before_at self.old.accounts tenant + length (events_at self.old.accounts tenant)
+            + 1) }
+        ensures reply { IfOk result
+            (λ _.
+            IsSomeAnd reply.new (λ told. IsReplyInEpoch self.old.accounts tenant call.now told)) }
         // The history that was seen has the call at that place, with this reply.
-        ensures served { IfOk result (λ place. IsSomeAnd reply.new (λ told. StandsInHistory evidence.new (record { partition = self.old.partition; tenant = tenant; seat = caller.seat; number = caller.number; call = call.now }) place told)) }
+        ensures served { IfOk result
+            (λ place.
+            IsSomeAnd reply.new
+            (λ told.
+            StandsInHistory evidence.new
+            (record { partition = self.old.partition; tenant = tenant; seat = caller.seat; number = caller.number; call = call.now }) place told)) }
         ensures partition { self.new.partition ≡ self.old.partition }
         ensures later { IsPrefix self.old.seen self.new.seen }
         ensures evidence { IsPrefix evidence.old evidence.new }
 
-        ensures late { IsErrOf result Refusal.Late ↔ IsLate (events_at self.old.accounts tenant) caller.seat caller.number }
-        ensures refusals { IfErr result (λ e. (e ≡ Refusal.Late) ⊎ ((e ≡ Refusal.OutOfMemory) ⊎ (e ≡ Refusal.NoTenant))) }
-        ensures unchanged { OnErr result ((self.new ≡ self.old) × (reply.new ≡ reply.old) × (evidence.new ≡ evidence.old)) }
+        ensures late { IsErrOf result Refusal.Late
+            ↔ IsLate (events_at self.old.accounts tenant) caller.seat caller.number }
+        ensures refusals { IfErr result (λ e. (e ≡ Refusal.Late)
+            ⊎ ((e ≡ Refusal.OutOfMemory) ⊎ (e ≡ Refusal.NoTenant))) }
+        ensures unchanged { OnErr result ((self.new ≡ self.old) × (reply.new ≡ reply.old)
+            × (evidence.new ≡ evidence.old)) }
     {
         let asked = CallToServe {
             partition: self.partition,
@@ -146,8 +163,11 @@ impl<J: Naming> TracedBook<J> {
     pub fn cut(&mut self, tenant: u32) -> Result<Epoch, Refusal>
         requires { tenant < length self.old.accounts }
 
-        ensures cut { IfOk result (λ epoch. IsCut self.old.accounts self.new.accounts tenant epoch) }
-        ensures stretch { IfOk result (λ epoch. IsStretch self.old.seen self.old.partition tenant epoch.base epoch.events.items) }
+        ensures cut { IfOk result
+            (λ epoch. IsCut self.old.accounts self.new.accounts tenant epoch) }
+        ensures stretch { IfOk result
+            (λ epoch.
+            IsStretch self.old.seen self.old.partition tenant epoch.base epoch.events.items) }
         ensures seen { (self.new.partition ≡ self.old.partition) × (self.new.seen ≡ self.old.seen) }
 
         ensures past { IsErrOf result Refusal.RowsUsed ↔ IsPastAt self.old.accounts tenant }

@@ -43,9 +43,11 @@ impl<J: Naming> TracedClient<J> {
     /// A client that has just come for the first time: its word, and what was seen of the history then.
     pub fn new(tenant: u32, client: Client, tally: Tally<J>, front: Front<J>) -> TracedClient<J>
         requires word { 64 < tally.key }
-        requires joined { Joined (record { word = tally.key; tenant = tenant; client = client }) ∈ front }
+        requires joined { Joined
+            (record { word = tally.key; tenant = tenant; client = client }) ∈ front }
         requires alone { own tally.key front ≡ Arrived tally.key ∷ [] }
-        ensures { result ≡ record { word = tally.key; tenant = tenant; client = client; last = 0; seen = front } }
+        ensures { result
+            ≡ record { word = tally.key; tenant = tenant; client = client; last = 0; seen = front } }
     {
         TracedClient {
             tenant,
@@ -69,7 +71,9 @@ impl<J: Naming> TracedClient<J> {
     pub fn begin(&mut self, stamp: Stamp, items: &[Item]) -> bool
         requires client { client_of stamp ≡ self.old.client }
         requires above { self.old.last < stamp }
-        ensures began { IsTrue result → Began (record { word = self.old.word; tenant = self.old.tenant; stamp = stamp; items = items.now }) ∈ self.new.seen }
+        ensures began { IsTrue result
+            → Began
+            (record { word = self.old.word; tenant = self.old.tenant; stamp = stamp; items = items.now }) ∈ self.new.seen }
         ensures last { self.new.last ≡ cond result stamp self.old.last }
         ensures later { IsPrefix self.old.seen self.new.seen }
         ensures whose { IsSameClient self.old self.new }
@@ -96,8 +100,11 @@ impl<J: Naming> TracedClient<J> {
     /// Enters that the write of this stamp is decided, and says whether it did. It did not where the client has other entries than
     /// were seen here, or 2^62. Then nothing has changed. The evidence shows that all items of the write are prepared.
     pub fn decide(&mut self, stamp: Stamp, evidence: &Front<J>) -> bool
-        requires { ∥ MayDecide evidence.now (record { word = self.old.word; tenant = self.old.tenant; stamp = stamp }) ∥₁ }
-        ensures decided { IsTrue result → Decided (record { word = self.old.word; tenant = self.old.tenant; stamp = stamp }) ∈ self.new.seen }
+        requires { ∥ MayDecide evidence.now
+            (record { word = self.old.word; tenant = self.old.tenant; stamp = stamp }) ∥₁ }
+        ensures decided { IsTrue result
+            → Decided
+            (record { word = self.old.word; tenant = self.old.tenant; stamp = stamp }) ∈ self.new.seen }
         ensures evidence { IsTrue result → IsPrefix evidence.now self.new.seen }
         ensures last { self.new.last ≡ self.old.last }
         ensures later { IsPrefix self.old.seen self.new.seen }

@@ -152,8 +152,10 @@ fn serve_and_settle<
 ) -> Result<(), ProgramFault>
     requires kept { store.config.epoch ≡ 0 }
     requires name { store.history.seen.book ≡ J.book }
-    ensures served { HasServed (config_view store.config) names.now (W.contents writer.old) (W.contents writer.new) result }
-    ensures port { TellsPortFirst (port_of (listener_of server)) (W.contents writer.old) (W.contents writer.new) result }
+    ensures served { HasServed (config_view store.config) names.now (W.contents writer.old)
+        (W.contents writer.new) result }
+    ensures port { TellsPortFirst (port_of (listener_of server)) (W.contents writer.old)
+        (W.contents writer.new) result }
 {
     let hub = open_hub::<J, (), H>(rt, alloc, store, ())?;
     let reporting = Reporting {
@@ -190,8 +192,10 @@ fn serve_and_check<
 ) -> Result<(), ProgramFault>
     requires cut { 0 < store.config.epoch }
     requires name { store.history.seen.book ≡ J.book }
-    ensures served { HasServed (config_view store.config) names.now (W.contents writer.old) (W.contents writer.new) result }
-    ensures port { TellsPortFirst (port_of (listener_of server)) (W.contents writer.old) (W.contents writer.new) result }
+    ensures served { HasServed (config_view store.config) names.now (W.contents writer.old)
+        (W.contents writer.new) result }
+    ensures port { TellsPortFirst (port_of (listener_of server)) (W.contents writer.old)
+        (W.contents writer.new) result }
 {
     let (hub, checking) = open_checked::<J, H>(rt, alloc, store)?;
     let reporting = Reporting {

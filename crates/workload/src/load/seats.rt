@@ -148,7 +148,8 @@ fn join_seat<H: Threads>(
 /// Does the rounds of one client. It answers its seat's transcript, or nothing where the seat found no memory, or the tenant
 /// may not have so many clients.
 fn run_seat<J: Naming, H: Wait>(rt: &H, hub: &OpenHub<J>, of: LoadSeat) -> Option<Transcript>
-    ensures { IfSome result (IsOfSeat of.orders.seed of.orders.rounds of.orders.keys of.tenant of.number) }
+    ensures { IfSome result
+        (IsOfSeat of.orders.seed of.orders.rounds of.orders.keys of.tenant of.number) }
 {
     let client = Client::new(of.number)?;
     let base = Counter::new(0)?;
