@@ -6,9 +6,9 @@ use Rattle.std.specs.List.{list_all, list_any}
 use Rattle.std.specs.Char.{is_ascii_digit, to_ascii_lowercase}
 use Rattle.httparse.specs.Grammar.{ReadsRequest, RequestHead}
 use Rattle.httparse.specs.Spans.{RequestOverflows, name_and_value}
-use Rattle.server_metrics.specs.declared.request.Asked.{Asked}
+use Rattle.server_metrics.specs.declared.request.PageRequest.{PageRequest}
 use Rattle.server_metrics.specs.declared.answer.Status.TheVariants.{BadRequest, Forbidden, NotFound, OtherMethod}
-use Rattle.server_metrics.specs.declared.request.Asked.TheVariants.{Metrics, Health, Refused}
+use Rattle.server_metrics.specs.declared.request.PageRequest.TheVariants.{Metrics, Health, Refused}
 
 -- two texts are the same
 abbrev pub same : List ℕ → List ℕ → Bool
@@ -37,7 +37,7 @@ abbrev pub is_foreign : List ℕ × List ℕ → Bool
 is_foreign header = is_host header && not (is_here header.1)
 
 -- what a request that names this machine asks for
-abbrev pub page_by : List ℕ → List ℕ → Asked
+abbrev pub page_by : List ℕ → List ℕ → PageRequest
 page_by method target =
     if not (same method (codes "GET")) then Refused OtherMethod
     else (if same target (codes "/metrics") then Metrics
@@ -45,14 +45,14 @@ page_by method target =
 
 -- What a request with this method, this target, this minor version and these header lines asks for. A host that is not
 -- this machine comes before all; then a request of HTTP/1.1 without one.
-abbrev pub asked_by : List ℕ → List ℕ → ℕ → List (List ℕ × List ℕ) → Asked
+abbrev pub asked_by : List ℕ → List ℕ → ℕ → List (List ℕ × List ℕ) → PageRequest
 asked_by method target minor headers =
     if list_any is_foreign headers then Refused Forbidden
     else (if minor == 1 && not (list_any is_host headers) then Refused BadRequest else page_by method target)
 
 -- What the bytes ask for: what their first request does; or they are refused 400, since no request that they can become
 -- has 64 header lines or fewer.
-abbrev pub IsAskedBy : List ℕ → Asked → Type 0
+abbrev pub IsAskedBy : List ℕ → PageRequest → Type 0
 IsAskedBy bytes asked =
     ((head : RequestHead) × (rest : List ℕ) × ReadsRequest bytes head rest
     × (asked ≡ asked_by head.method head.target head.minor (map name_and_value head.fields)))

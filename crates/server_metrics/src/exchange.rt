@@ -4,7 +4,7 @@ ghost use Rattle.std.specs.Io.KnownBytes.{Appends, Consumes, IsAtEnd};
 ghost use Rattle.server_metrics.specs.Exchanges.{IsHeardOf};
 
 use crate::answer::Status;
-use crate::request::{Asked, read_request};
+use crate::request::{PageRequest, read_request};
 use std::io::{Read, Write};
 use std::sync::atomic::{AtomicBool, Ordering};
 
@@ -19,7 +19,7 @@ const MOST_WRITES: u32 = 64;
 
 /// Reads the head of a request, in 8 reads at most, and says what it asks for: one that the input cuts is refused 400, and one of
 /// 8 KiB or more 431. `None` where nothing came, a read failed, the reads did not do, or it is over.
-pub fn hear<R: Read>(reader: &mut R, is_over: &AtomicBool) -> Option<Asked>
+pub fn hear<R: Read>(reader: &mut R, is_over: &AtomicBool) -> Option<PageRequest>
     ensures { IfSome result (IsHeardOf (R.remaining reader.old) (R.remaining reader.new)) }
 {
     let mut bytes = [0; MOST_BYTES];
@@ -33,7 +33,7 @@ pub fn hear<R: Read>(reader: &mut R, is_over: &AtomicBool) -> Option<Asked>
             return if len == 0 {
                 None
             } else {
-                Some(Asked::Refused(Status::BadRequest))
+                Some(PageRequest::Refused(Status::BadRequest))
             };
         }
         len += taken;
@@ -41,7 +41,7 @@ pub fn hear<R: Read>(reader: &mut R, is_over: &AtomicBool) -> Option<Asked>
             return Some(asked);
         }
         if len == MOST_BYTES {
-            return Some(Asked::Refused(Status::TooLarge));
+            return Some(PageRequest::Refused(Status::TooLarge));
         }
     }
     None

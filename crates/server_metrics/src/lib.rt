@@ -16,4 +16,4 @@ pub use answer::{Status, response};
 pub use exchange::{hear, pass_over, write_page};
 pub use metrics::{ClientRow, Readings, RefusalRow, Row, put_metrics};
 pub use page::{health_page, metrics_page, status_page};
-pub use request::{Asked, MOST_FIELDS, read_request};
+pub use request::{MOST_FIELDS, PageRequest, read_request};

@@ -14,7 +14,7 @@ pub const MOST_FIELDS: usize = 64;
 
 /// What a request asks for.
 #[derive(Clone, Copy, Debug, PartialEq, Eq)]
-pub enum Asked {
+pub enum PageRequest {
     /// How the server stands, in figures: `GET /metrics`.
     Metrics,
     /// Whether it is well: `GET /health`.
@@ -24,7 +24,7 @@ pub enum Asked {
 }
 
 /// What the request asks for that these bytes begin with; `None` where its head is not there yet. A body is not looked at.
-pub fn read_request(bytes: &[u8]) -> Option<Asked>
+pub fn read_request(bytes: &[u8]) -> Option<PageRequest>
     ensures asked { IfSome result (IsAskedBy bytes.now) }
     ensures waits { IfNone result (HasNoRequest bytes.now) }
 {
@@ -44,38 +44,38 @@ pub fn read_request(bytes: &[u8]) -> Option<Asked>
             Some(asked_of(method, path, minor, request.headers))
         }
         Ok(Parsed::Partial) => None,
-        Err(_) => Some(Asked::Refused(Status::BadRequest)),
+        Err(_) => Some(PageRequest::Refused(Status::BadRequest)),
     }
 }
 
 // What a request of these parts asks for.
 #[tactic(auto, using(crate::proofs::Headers::foreign_parts, crate::proofs::Headers::host_parts))]
-fn asked_of(method: &str, path: &str, minor: u8, headers: &[Header<'_>]) -> Asked
+fn asked_of(method: &str, path: &str, minor: u8, headers: &[Header<'_>]) -> PageRequest
     ensures { result ≡ asked_by method.now path.now minor (map header_parts headers.now) }
 {
     if has_foreign(headers) {
-        return Asked::Refused(Status::Forbidden);
+        return PageRequest::Refused(Status::Forbidden);
     }
     if minor == 1 && !has_host(headers) {
-        return Asked::Refused(Status::BadRequest);
+        return PageRequest::Refused(Status::BadRequest);
     }
     page_of(method, path)
 }
 
 // What a request that names this machine asks for.
-fn page_of(method: &str, path: &str) -> Asked
+fn page_of(method: &str, path: &str) -> PageRequest
     ensures { result ≡ page_by method.now path.now }
 {
     if method != "GET" {
-        return Asked::Refused(Status::OtherMethod);
+        return PageRequest::Refused(Status::OtherMethod);
     }
     if path == "/metrics" {
-        return Asked::Metrics;
+        return PageRequest::Metrics;
     }
     if path == "/health" {
-        return Asked::Health;
+        return PageRequest::Health;
     }
-    Asked::Refused(Status::NotFound)
+    PageRequest::Refused(Status::NotFound)
 }
 
 // Whether one of the header lines names a host that is not this machine.

@@ -1,79 +1,79 @@
 //! Requests as tools and browsers send them, and the text that answers them.
 use crate::{
-    Asked, ClientRow, Readings, RefusalRow, Row, Status, put_metrics, read_request, response,
+    ClientRow, PageRequest, Readings, RefusalRow, Row, Status, put_metrics, read_request, response,
 };
 use std::alloc::{AllocError, Global};
 use std::test::Fail;
 
 #[test]
 fn requests_are_answered_for_what_they_ask(rt: HostRuntime) {
-    let rows: [(&str, Option<Asked>); 20] = [
+    let rows: [(&str, Option<PageRequest>); 20] = [
         // As curl, Prometheus and `nc` ask.
         (
             "GET /metrics HTTP/1.1\r\nHost: 127.0.0.1:9100\r\nUser-Agent: curl/8.5.0\r\nAccept: */*\r\n\r\n",
-            Some(Asked::Metrics),
+            Some(PageRequest::Metrics),
         ),
         (
             "GET /metrics HTTP/1.1\r\nHost: localhost:9100\r\nUser-Agent: Prometheus/2.45\r\nAccept-Encoding: gzip\r\n\r\n",
-            Some(Asked::Metrics),
+            Some(PageRequest::Metrics),
         ),
         (
             "GET /health HTTP/1.1\r\nhost: [::1]:9100\r\n\r\n",
-            Some(Asked::Health),
+            Some(PageRequest::Health),
         ),
-        ("GET /health HTTP/1.0\n\n", Some(Asked::Health)),
+        ("GET /health HTTP/1.0\n\n", Some(PageRequest::Health)),
         (
             "GET /health HTTP/1.1\r\nHOST: localhost\r\n\r\nbehind it",
-            Some(Asked::Health),
+            Some(PageRequest::Health),
         ),
         (
             "GET / HTTP/1.1\r\nHost: localhost\r\n\r\n",
-            Some(Asked::Refused(Status::NotFound)),
+            Some(PageRequest::Refused(Status::NotFound)),
         ),
         (
             "GET /metrics?x=1 HTTP/1.1\r\nHost: localhost\r\n\r\n",
-            Some(Asked::Refused(Status::NotFound)),
+            Some(PageRequest::Refused(Status::NotFound)),
         ),
         (
             "POST /metrics HTTP/1.1\r\nHost: localhost\r\nContent-Length: 0\r\n\r\n",
-            Some(Asked::Refused(Status::OtherMethod)),
+            Some(PageRequest::Refused(Status::OtherMethod)),
         ),
         (
             "HEAD /health HTTP/1.1\r\nHost: localhost\r\n\r\n",
-            Some(Asked::Refused(Status::OtherMethod)),
+            Some(PageRequest::Refused(Status::OtherMethod)),
         ),
         // As a page of another site has a browser ask, whose name was made to mean this machine.
         (
             "GET /metrics HTTP/1.1\r\nHost: evil.example:9100\r\n\r\n",
-            Some(Asked::Refused(Status::Forbidden)),
+            Some(PageRequest::Refused(Status::Forbidden)),
         ),
         (
             "GET /metrics HTTP/1.1\r\nHost: localhost.evil.example\r\n\r\n",
-            Some(Asked::Refused(Status::Forbidden)),
+            Some(PageRequest::Refused(Status::Forbidden)),
         ),
         (
             "GET /metrics HTTP/1.1\r\nHost: localhost\r\nHost: evil.example\r\n\r\n",
-            Some(Asked::Refused(Status::Forbidden)),
+            Some(PageRequest::Refused(Status::Forbidden)),
         ),
         (
             "GET /metrics HTTP/1.1\r\nHost: localhost:80x\r\n\r\n",
-            Some(Asked::Refused(Status::Forbidden)),
+            Some(PageRequest::Refused(Status::Forbidden)),
         ),
         (
             "GET /metrics HTTP/1.0\r\nHost: 10.0.0.1\r\n\r\n",
-            Some(Asked::Refused(Status::Forbidden)),
+            Some(PageRequest::Refused(Status::Forbidden)),
         ),
         (
             "GET /metrics HTTP/1.1\r\nAccept: */*\r\n\r\n",
-            Some(Asked::Refused(Status::BadRequest)),
+            Some(PageRequest::Refused(Status::BadRequest)),
         ),
         (
             "hello t 1\r\n\r\n",
-            Some(Asked::Refused(Status::BadRequest)),
+            Some(PageRequest::Refused(Status::BadRequest)),
         ),
         (
             "GET /metrics HTTP/2.0\r\n\r\n",
-            Some(Asked::Refused(Status::BadRequest)),
+            Some(PageRequest::Refused(Status::BadRequest)),
         ),
         // More has to come.
         ("GET /metrics HTTP/1.1\r\nHost: localhost\r\n", None),

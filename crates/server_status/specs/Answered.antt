@@ -6,8 +6,8 @@ use Rattle.server_metrics.specs.Exchanges.{IsHeardOf}
 use Rattle.server_metrics.specs.MetricsText.{is_well}
 use Rattle.server_metrics.specs.Pages.{health_status, metrics_text_page, text_page}
 use Rattle.server_metrics.specs.declared.metrics.Readings.{Readings}
-use Rattle.server_metrics.specs.declared.request.Asked.{Asked}
-use Rattle.server_metrics.specs.declared.request.Asked.TheVariants.{Metrics, Health, Refused}
+use Rattle.server_metrics.specs.declared.request.PageRequest.{PageRequest}
+use Rattle.server_metrics.specs.declared.request.PageRequest.TheVariants.{Metrics, Health, Refused}
 use Rattle.server_status.specs.Reported.{IsReadOf}
 use Rattle.server_status.specs.declared.reading.Watched.{Watched}
 use Rattle.server_status.specs.declared.serving.StatusPort.{StatusPort}
@@ -17,7 +17,7 @@ abbrev pub port_listener : {L : Type 0} → StatusPort L → L
 port_listener port = port.listener
 
 -- the page that answers what was asked of a server: how it stands as it was read, or the words of a refusal
-abbrev pub IsAnswerTo : {J : Type 0} {naming : Ghosts J} → Watched J naming → Asked → List ℕ → Type 0
+abbrev pub IsAnswerTo : {J : Type 0} {naming : Ghosts J} → Watched J naming → PageRequest → List ℕ → Type 0
 IsAnswerTo watched Metrics page = (readings : Readings) × IsReadOf watched readings × (page ≡ metrics_text_page readings)
 IsAnswerTo watched Health page =
     (readings : Readings) × IsReadOf watched readings × (page ≡ text_page (health_status (is_well readings)))
@@ -29,7 +29,7 @@ IsWritten page old new whole = ((n : ℕ) × Appends old new (take n page)) × (
 
 -- a request was read from an input, and a page that answers it was written, whole or not
 pub record Answers {J : Type 0} {naming : Ghosts J} (watched : Watched J naming) (input left old new : Option (List ℕ)) (whole : Bool) : Type 0 where
-  pub asked : Asked
+  pub asked : PageRequest
   pub page : List ℕ
   pub heard : IsHeardOf input left asked
   pub answer : IsAnswerTo watched asked page

@@ -5,7 +5,9 @@ ghost use Rattle.server_status.specs.Answered.{HasAnswered, IsAnswerTo, port_lis
 
 use crate::reading::Watched;
 use hub::Naming;
-use server_metrics::{Asked, health_page, hear, metrics_page, pass_over, status_page, write_page};
+use server_metrics::{
+    PageRequest, health_page, hear, metrics_page, pass_over, status_page, write_page,
+};
 use server_sessions::{Accept, Listener, serve_connections};
 use std::alloc::{AllocError, Global};
 use std::io::{Read, Write};
@@ -151,13 +153,13 @@ fn answer_to<J: Naming, H: Wait>(
     rt: &H,
     alloc: Global,
     watched: &Watched<'_, J>,
-    asked: Asked,
+    asked: PageRequest,
 ) -> Result<String, AllocError>
     ensures { IfOk result (λ page. IsAnswerTo watched.now asked (string_bytes page)) }
 {
     match asked {
-        Asked::Metrics => metrics_page(alloc, &watched.read(rt, alloc)?),
-        Asked::Health => health_page(alloc, &watched.read(rt, alloc)?),
-        Asked::Refused(status) => status_page(alloc, status),
+        PageRequest::Metrics => metrics_page(alloc, &watched.read(rt, alloc)?),
+        PageRequest::Health => health_page(alloc, &watched.read(rt, alloc)?),
+        PageRequest::Refused(status) => status_page(alloc, status),
     }
 }

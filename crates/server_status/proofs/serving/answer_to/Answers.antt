@@ -1,6 +1,6 @@
 use Rattle.std.proofs.Common.{◌≡◌, Result, Ok, Err, IfOk, subst, sym}
 use Rattle.std.specs.Prelude.{string_bytes}
-use Rattle.server_metrics.specs.declared.request.Asked.{Asked}
+use Rattle.server_metrics.specs.declared.request.PageRequest.{PageRequest}
 use Rattle.server_status.specs.Answered.{IsAnswerTo}
 use Rattle.server_status.proofs.serving.answer_to.Goals as goal
 
@@ -12,11 +12,11 @@ made_with (Err e) more is = tt
 pub returns-in_ok-read-in-Metrics : goal.returns-in_ok-read-in-Metrics
 returns-in_ok-read-in-Metrics g c =
     let read = c.in_ok-read-in-Metrics in
-    subst (λ (asked : Asked). IfOk c.metrics_page.result (λ page. IsAnswerTo c.args.watched.now asked (string_bytes page))) (sym c.in-Metrics.is)
+    subst (λ (asked : PageRequest). IfOk c.metrics_page.result (λ page. IsAnswerTo c.args.watched.now asked (string_bytes page))) (sym c.in-Metrics.is)
     (made_with c.metrics_page.result (λ page is. (read.field-0, read.ensures, is)) c.metrics_page.ensures)
 
 pub returns-in_ok-read-in-Health : goal.returns-in_ok-read-in-Health
 returns-in_ok-read-in-Health g c =
     let read = c.in_ok-read-in-Health in
-    subst (λ (asked : Asked). IfOk c.health_page.result (λ page. IsAnswerTo c.args.watched.now asked (string_bytes page))) (sym c.in-Health.is)
+    subst (λ (asked : PageRequest). IfOk c.health_page.result (λ page. IsAnswerTo c.args.watched.now asked (string_bytes page))) (sym c.in-Health.is)
     (made_with c.health_page.result (λ page is. (read.field-0, read.ensures, is)) c.health_page.ensures)
