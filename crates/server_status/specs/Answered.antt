@@ -1,7 +1,6 @@
 -- What a client of a status port is answered.
 use Rattle.std.specs.Prelude.{◌≡◌, ◌⊎◌, ℕ, List, Option, Bool, false, IsTrue, take}
 use Rattle.std.specs.Io.KnownBytes.{Appends, Keeps}
-use Rattle.history.specs.declared.rule.Naming.{Ghosts}
 use Rattle.server_metrics.specs.Exchanges.{IsHeardOf}
 use Rattle.server_metrics.specs.MetricsText.{is_well}
 use Rattle.server_metrics.specs.Pages.{health_status, metrics_text_page, text_page}
@@ -17,7 +16,7 @@ abbrev pub port_listener : {L : Type 0} → StatusPort L → L
 port_listener port = port.listener
 
 -- the page that answers what was asked of a server: how it stands as it was read, or the words of a refusal
-abbrev pub IsAnswerTo : {J : Type 0} {naming : Ghosts J} → Watched J naming → PageRequest → List ℕ → Type 0
+abbrev pub IsAnswerTo : {J : Type 0} → Watched J → PageRequest → List ℕ → Type 0
 IsAnswerTo watched Metrics page = (readings : Readings) × IsReadOf watched readings × (page ≡ metrics_text_page readings)
 IsAnswerTo watched Health page =
     (readings : Readings) × IsReadOf watched readings × (page ≡ text_page (health_status (is_well readings)))
@@ -28,7 +27,7 @@ abbrev pub IsWritten : List ℕ → Option (List ℕ) → Option (List ℕ) → 
 IsWritten page old new whole = ((n : ℕ) × Appends old new (take n page)) × (IsTrue whole → Appends old new page)
 
 -- a request was read from an input, and a page that answers it was written, whole or not
-pub record Answers {J : Type 0} {naming : Ghosts J} (watched : Watched J naming) (input left old new : Option (List ℕ)) (whole : Bool) : Type 0 where
+pub record Answers {J : Type 0} (watched : Watched J) (input left old new : Option (List ℕ)) (whole : Bool) : Type 0 where
   pub asked : PageRequest
   pub page : List ℕ
   pub heard : IsHeardOf input left asked
@@ -36,6 +35,6 @@ pub record Answers {J : Type 0} {naming : Ghosts J} (watched : Watched J naming)
   pub written : IsWritten page old new whole
 
 -- so, or nothing was written
-abbrev pub HasAnswered : {J : Type 0} {naming : Ghosts J} → Watched J naming → Option (List ℕ) → Option (List ℕ) → Option (List ℕ) → Option (List ℕ) → Bool → Type 0
+abbrev pub HasAnswered : {J : Type 0} → Watched J → Option (List ℕ) → Option (List ℕ) → Option (List ℕ) → Option (List ℕ) → Bool → Type 0
 HasAnswered watched input left old new whole =
     Answers watched input left old new whole ⊎ ((whole ≡ false) × Keeps old new)

@@ -3,7 +3,6 @@ use Rattle.std.specs.Prelude.{◌≡◌, ◌≢◌, ◌+◌, ◌-◌, ◌^◌, �
 use Rattle.std.specs.Prelude.{List, [], ◌∷◌, length, All, Option, Some, None, IsSomeAnd, IsTrue}
 use Rattle.std.specs.Option.{option_map}
 use Rattle.stamps.specs.declared.bounds.Limits.{Limits}
-use Rattle.history.specs.declared.rule.Naming.{Ghosts}
 use Rattle.shard.specs.UsedAt.{AreUsagesAt}
 use Rattle.shard.specs.declared.usages.TenantUsage.{TenantUsage}
 use Rattle.server_metrics.specs.declared.metrics.ClientRow.{ClientRow}
@@ -50,20 +49,20 @@ AreRowsBehind partition names limits checks usages old new =
     (rows : List Row) × (new ≡ old ++ rows) × AreRowsOf partition names limits checks usages rows
 
 -- checks of so many tenants; none where no epochs are checked
-abbrev pub AreChecksOf : {J : Type 0} {naming : Ghosts J} → Watched J naming → List (Option Progress) → Type 0
+abbrev pub AreChecksOf : {J : Type 0} → Watched J → List (Option Progress) → Type 0
 AreChecksOf watched checks =
     (length checks ≡ min (length watched.names.now) (2 ^ 32 - 1))
     × (watched.known ≡ None → All (λ (progress : Option Progress). progress ≡ None) checks)
 
 -- Rows were put behind those that were there. Their numbers are those that the cells of the partition had at one moment.
-abbrev pub AreRowsAt : {J : Type 0} {naming : Ghosts J} → Watched J naming → ℕ → List Row → List Row → Type 0
+abbrev pub AreRowsAt : {J : Type 0} → Watched J → ℕ → List Row → List Row → Type 0
 AreRowsAt watched partition old new =
     (usages : List TenantUsage) × (checks : List (Option Progress)) × AreUsagesAt watched.hub.now.parts partition usages
     × AreChecksOf watched checks
     × AreRowsBehind partition watched.names.now watched.hub.now.limits checks usages old new
 
 -- so for each partition before this one, one after another
-abbrev pub AreRowsBefore : {J : Type 0} {naming : Ghosts J} → Watched J naming → ℕ → List Row → Type 0
+abbrev pub AreRowsBefore : {J : Type 0} → Watched J → ℕ → List Row → Type 0
 AreRowsBefore watched zero rows = rows ≡ []
 AreRowsBefore watched (suc partition) rows =
     (before : List Row) × AreRowsBefore watched partition before × AreRowsAt watched partition before rows
@@ -91,7 +90,7 @@ AreRefusalRows from below (row ∷ rows) = (from ≤ row.number) × (0 < row.lin
 
 -- What was read of this server: where it is whole, a row of each tenant at each partition; and rows of the clients and of
 -- the refusals.
-pub record IsReadOf {J : Type 0} {naming : Ghosts J} (watched : Watched J naming) (readings : Readings) : Type 0 where
+pub record IsReadOf {J : Type 0} (watched : Watched J) (readings : Readings) : Type 0 where
   pub rows : IsTrue readings.is_whole → AreRowsBefore watched watched.hub.now.parts readings.rows.items
   pub clients : AreClientRows watched.names.now watched.hub.now.limits readings.clients.items
   pub all_clients : length readings.clients.items ≡ min (min (length watched.names.now) (2 ^ 32 - 1)) (length watched.hub.now.limits)
