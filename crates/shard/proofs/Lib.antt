@@ -5,3 +5,4 @@ pub mod Rounds
 pub mod Short
 pub mod UsedMore
 pub mod LongAmong
+pub mod EventCounts

@@ -12,7 +12,7 @@ use Rattle.shard.specs.declared.jobs.Fault.TheVariants.{NoTenant}
 use Rattle.shard.specs.Rounds.{AreShort}
 
 -- the events of the tenant whose event was entered, and of each other
-events_own : (old new : List Account) (tenant : ℕ) (e : Event) → tenant < length old → IsEntered old new tenant e
+pub events_own : (old new : List Account) (tenant : ℕ) (e : Event) → tenant < length old → IsEntered old new tenant e
     → length (events_at new tenant) ≡ length (events_at old tenant) + 1
 unfolding events_at
 events_own old new tenant e there entered =
@@ -21,7 +21,7 @@ events_own old new tenant e there entered =
     (λ h. absurd (omega (arith, h.0, there)))
     (slice_get_cases old tenant).1
 
-events_other : (old new : List Account) (tenant other : ℕ) (e : Event) → IsEntered old new tenant e → (other ≡ tenant → ⊥)
+pub events_other : (old new : List Account) (tenant other : ℕ) (e : Event) → IsEntered old new tenant e → (other ≡ tenant → ⊥)
     → length (events_at new other) ≡ length (events_at old other)
 unfolding events_at
 events_other old new tenant other e entered apart = ap (λ a. length (events_in a)) (entered.others other apart)

@@ -5,5 +5,6 @@ pub mod Journals
 pub mod Rounds
 pub mod Asked
 pub mod Collected
+pub mod Counted
 pub mod UsedAt
 pub mod Held

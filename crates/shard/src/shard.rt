@@ -1,5 +1,5 @@
 //! One partition, as all that serve there reach it: its book behind a lock, and the numbers of its calls.
-ghost use Rattle.std.specs.Prelude.{◌≡◌, ◌⊎◌, ◌<◌, ◌≤◌, ◌+◌, ◌-◌, ◌*◌, ◌^◌, ◌↔◌, ◌||◌, false, true, All, List, cond, map, min, nat_le, length, replicate, IfOk, IfSome, OnErr, IsErrOf, IsSomeAnd, IsTrue};
+ghost use Rattle.std.specs.Prelude.{◌≡◌, ◌⊎◌, ◌<◌, ◌≤◌, ◌+◌, ◌*◌, ◌^◌, ◌↔◌, false, true, All, map, length, replicate, IfOk, IfSome, OnErr, OnOk, IsErrOf, IsSomeAnd, IsTrue};
 ghost use Rattle.std.specs.Sync.Mutex.{mutex_guard_value};
 ghost use Rattle.std.specs.VecDeque.{deque_capacity, deque_len};
 ghost use Rattle.partition.specs.Events.{event};
@@ -9,6 +9,7 @@ ghost use mathlib.Core.List.{IsPrefix};
 ghost use Rattle.history.specs.Entries.{StandsInHistory};
 ghost use Rattle.history.specs.Legal.{IsLegal};
 ghost use Rattle.traced_book.specs.Traced.{AreTraced};
+ghost use Rattle.shard.specs.Counted.{AreCounted, IsCounted, NotesLong};
 ghost use Rattle.shard.specs.Journals.{AreOf, CameSo, came_to};
 ghost use Rattle.shard.specs.Rounds.{AreShort, IsLongAt};
 ghost use Rattle.stamps.specs.Limits.{max_tenants};
@@ -262,7 +263,7 @@ impl<J: Naming> ShardState<J> {
     }
 
     /// Serves those of the staged calls that are for this partition, in their order, under this one lock. A call whose journal
-    /// is full is left to the worker.
+    /// is full is left to the worker. Answers what is due then: to collect, and to cut a journal that has just an epoch's events.
     pub fn serve_round<G: Gate>(
         &mut self,
         config: &ShardConfig,
@@ -278,6 +279,11 @@ impl<J: Naming> ShardState<J> {
         // None that is for this partition is as it was staged.
         ensures all { All (λ staged. IsOpenAt self.old.partition self.old.parts staged
             → ⊥) calls.new.items }
+        // Each event that came into the journals is counted.
+        ensures counted { AreCounted config.now.every self.old.book.accounts
+            self.new.book.accounts self.old.events self.new.events false result.collects }
+        ensures cuts { NotesLong config.now.epoch self.old.book.accounts
+            self.new.book.accounts false result.cuts }
         ensures partition { (self.new.partition ≡ self.old.partition)
             × (self.new.parts ≡ self.old.parts) }
         ensures collections { self.new.collections ≡ self.old.collections }
@@ -321,6 +327,11 @@ impl<J: Naming> ShardState<J> {
             ≤ length (events_at self.old.book.accounts staged.old.call.tenant))
             × (self.new.book.accounts ≡ self.old.book.accounts) }
         ensures served { staged.new.stage ≡ CallState.Pending → ⊥ }
+        ensures counted { AreCounted config.now.every self.old.book.accounts
+            self.new.book.accounts self.old.events self.new.events
+            follow_up.old.collects follow_up.new.collects }
+        ensures cuts { NotesLong config.now.epoch self.old.book.accounts
+            self.new.book.accounts follow_up.old.cuts follow_up.new.cuts }
         ensures partition { (self.new.partition ≡ self.old.partition)
             × (self.new.parts ≡ self.old.parts) }
         ensures collections { self.new.collections ≡ self.old.collections }
@@ -366,6 +377,11 @@ impl<J: Naming> ShardState<J> {
         ensures cuts { IfOk result (λ _. 0 < config.now.epoch
             → length (events_at self.new.book.accounts call.old.tenant) ≡ config.now.epoch
             → follow_up.new.cuts ≡ true) }
+        ensures still_cuts { follow_up.old.cuts ≡ true → follow_up.new.cuts ≡ true }
+        ensures counted { OnOk result (IsCounted config.now.every self.old.events self.new.events
+            follow_up.old.collects follow_up.new.collects) }
+        ensures uncounted { OnErr result ((self.new.events ≡ self.old.events)
+            × (follow_up.new ≡ follow_up.old)) }
         ensures unchanged { OnErr result (self.new.book.accounts ≡ self.old.book.accounts) }
         ensures partition { (self.new.partition ≡ self.old.partition)
             × (self.new.parts ≡ self.old.parts) }
@@ -414,6 +430,11 @@ impl<J: Naming> ShardState<J> {
         ensures cuts { IfOk result (λ _. 0 < config.now.epoch
             → length (events_at self.new.book.accounts call.old.tenant) ≡ config.now.epoch
             → follow_up.new.cuts ≡ true) }
+        ensures still_cuts { follow_up.old.cuts ≡ true → follow_up.new.cuts ≡ true }
+        ensures counted { OnOk result (IsCounted config.now.every self.old.events self.new.events
+            follow_up.old.collects follow_up.new.collects) }
+        ensures uncounted { OnErr result ((self.new.events ≡ self.old.events)
+            × (follow_up.new ≡ follow_up.old)) }
         // where its journal was not full
         ensures short { (0 < config.now.epoch
             → length (events_at self.old.book.accounts call.old.tenant) < 2 * config.now.epoch)
@@ -448,12 +469,8 @@ impl<J: Naming> ShardState<J> {
             × (self.new.parts ≡ self.old.parts) }
         ensures collections { self.new.collections ≡ self.old.collections }
         ensures cuts { follow_up.new.cuts ≡ follow_up.old.cuts }
-        ensures collects { follow_up.new.collects
-            ≡ (follow_up.old.collects
-            || nat_le config.now.every (min (self.old.events + 1) (2 ^ 32 - 1))) }
-        ensures events { self.new.events
-            ≡ cond (nat_le config.now.every (min (self.old.events + 1) (2 ^ 32 - 1))) 0
-            (min (self.old.events + 1) (2 ^ 32 - 1)) }
+        ensures counted { IsCounted config.now.every self.old.events self.new.events
+            follow_up.old.collects follow_up.new.collects }
     {
         self.events = self.events.saturating_add(1);
         if self.events >= config.every {

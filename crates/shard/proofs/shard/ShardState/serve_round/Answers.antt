@@ -2,6 +2,7 @@ use Rattle.std.proofs.Common.{◌≡◌, ◌<◌, true, false, arith, length, ma
 use Rattle.std.proofs.Math.Seq.{map-set_same}
 use Rattle.std.specs.VecDeque.{deque_len, deque_capacity}
 use Rattle.shard.specs.Asked.{asked_by}
+use Rattle.shard.proofs.EventCounts.{counted_on, long_on}
 use Rattle.shard.proofs.Rounds.{passed_next}
 use Rattle.shard.proofs.shard.ShardState.serve_round.Goals as goal
 use Rattle.shard.proofs.shard.ShardState.serve_round.Goals.{then-is_home_of+then-matches, in-Pending, in_default-matches, else-is_home_of, else-is_home_of-via-then-is_home_of+else-matches, else-is_home_of-via-else-is_home_of}
@@ -24,6 +25,8 @@ loop-at-preserved g c =
         rw w.self-is (w.serve_staged.ensures.partition.0 ∙ so_far.5),
         rw w.self-is (w.serve_staged.ensures.partition.1 ∙ so_far.6),
         rw w.self-is (w.serve_staged.ensures.collections ∙ so_far.7),
+        rw (w.self-is, w.follow_up-is) (counted_on _ _ _ _ _ _ _ _ _ _ so_far.8 w.serve_staged.ensures.counted),
+        rw (w.self-is, w.follow_up-is) (long_on _ _ _ _ _ _ _ so_far.9 w.serve_staged.ensures.cuts),
       )
       | else-is_home_of w ↦
           elim w.else-is_home_of.branch [
@@ -37,6 +40,8 @@ loop-at-preserved g c =
               rw w.self-is so_far.5,
               rw w.self-is so_far.6,
               rw w.self-is so_far.7,
+              rw (w.self-is, w.follow_up-is) so_far.8,
+              rw (w.self-is, w.follow_up-is) so_far.9,
             )
             | else-is_home_of-via-else-is_home_of w' ↦ (
               rw w.self-is so_far.0,
@@ -50,6 +55,8 @@ loop-at-preserved g c =
               rw w.self-is so_far.5,
               rw w.self-is so_far.6,
               rw w.self-is so_far.7,
+              rw (w.self-is, w.follow_up-is) so_far.8,
+              rw (w.self-is, w.follow_up-is) so_far.9,
             )
           ]
     ]

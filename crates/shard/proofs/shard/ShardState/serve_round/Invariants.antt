@@ -1,12 +1,13 @@
-use Rattle.std.proofs.Common.{◌≡◌, map}
+use Rattle.std.proofs.Common.{◌≡◌, false, map}
 use Rattle.std.specs.VecDeque.{deque_len, deque_capacity}
 use Rattle.shard.specs.Asked.{asked_by}
+use Rattle.shard.specs.Counted.{AreCounted, NotesLong}
 use Rattle.shard.specs.Rounds.{AreShort}
 use Rattle.shard.proofs.Rounds.{ArePassed}
 use Rattle.shard.proofs.shard.ShardState.serve_round.Given as goal
 
 -- So far the journals are short if they were, and the same calls are there, with as much room. Those before this place were served or
--- left where they are for this partition.
+-- left where they are for this partition. The events that came are counted, and what is due is noted.
 abbrev pub invariant-loop-at : goal.invariant-loop-at
 invariant-loop-at g l =
     (AreShort l.config.epoch l.fn.self.book.accounts → AreShort l.config.epoch l.self.book.accounts)
@@ -17,3 +18,5 @@ invariant-loop-at g l =
     × (l.self.partition ≡ l.fn.self.partition)
     × (l.self.parts ≡ l.fn.self.parts)
     × (l.self.collections ≡ l.fn.self.collections)
+    × AreCounted l.config.every l.fn.self.book.accounts l.self.book.accounts l.fn.self.events l.self.events false l.follow_up.collects
+    × NotesLong l.config.epoch l.fn.self.book.accounts l.self.book.accounts false l.follow_up.cuts

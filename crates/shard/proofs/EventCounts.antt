@@ -1,0 +1,139 @@
+-- Events of seats that are counted, one after the other.
+use Rattle.std.proofs.Common.{◌≡◌, ℕ, zero, suc, ◌+◌, ◌<◌, ◌≤◌, ◌↔◌, Bool, true, false, List, [], ◌∷◌, length, Option, Some, None, Result, Ok, Err, refl, ap, sym, ◌∙◌, ⊎_elim, add-zero, add-suc, arith, length-append, subst}
+use Rattle.std.specs.Prelude.{◌||◌, slice_get, sum_by, IfOk, OnOk, OnErr, IsErrOf, IsSomeAnd}
+use Rattle.std.proofs.Math.Bool.{or-false, or_assoc}
+use Rattle.std.proofs.lemmas.Bool.{cases_lt}
+use Rattle.std.proofs.lemmas.Bool.Decides.{eqb_tells}
+use Rattle.std.proofs.lemmas.List.Sums.{sum_by-cons}
+use Rattle.plain_store.specs.declared.calls.Reply.{Reply}
+use Rattle.partition.specs.Events.{Event}
+use Rattle.partition.specs.Accounts.{Account, IsEntered, events_at, places, with_event}
+use Rattle.shard.specs.declared.jobs.Fault.{Fault}
+use Rattle.shard.specs.declared.jobs.Fault.TheVariants.{NoTenant}
+use Rattle.shard.specs.declared.shard.FollowUp.{FollowUp}
+use Rattle.shard.specs.Counted.{AreCounted, IsCounted, NotesLong, events_after, is_due, is_due_among, one_event, places_given}
+use Rattle.shard.proofs.Short.{events_other, events_own}
+
+-- ---- places that were given
+
+same_list : {X : Type 0} (xs ys : List X) → ((k : ℕ) → slice_get ys k ≡ slice_get xs k) → ys ≡ xs
+same_list [] [] same = refl
+same_list [] (y ∷ ys) same = let both : Some y ≡ None = same 0 in cc
+same_list (x ∷ xs) [] same = let both : None ≡ Some x = same 0 in cc
+same_list (x ∷ xs) (y ∷ ys) same =
+    let first : Some y ≡ Some x = same 0 in
+    let rest : ys ≡ xs = same_list xs ys (λ k. same (suc k)) in
+    cc
+
+place_more : (account : Account) (e : Event) → places (with_event account e) ≡ places account + 1
+place_more account e = omega (arith, length-append account.events (e ∷ []))
+
+-- one more
+places_more : (old new : List Account) (tenant : ℕ) (e : Event) → tenant < length old → IsEntered old new tenant e → places_given new ≡ places_given old + 1
+places_more [] new tenant e there entered = absurd (omega (arith, there))
+places_more (a ∷ old) [] tenant e there entered = let none : 0 ≡ length (a ∷ old) = entered.tenants in absurd (omega (arith, none))
+places_more (a ∷ old) (b ∷ new) zero e there entered =
+    let own : Some b ≡ Some (with_event a e) = entered.own a refl in
+    let first : places b ≡ places (with_event a e) = cc in
+    let rest : new ≡ old = same_list old new (λ k. entered.others (suc k) (λ is. absurd cc)) in
+    let rests : places_given new ≡ places_given old = ap places_given rest in
+    omega (arith, first, place_more a e, rests, sum_by-cons places a old, sum_by-cons places b new)
+places_more (a ∷ old) (b ∷ new) (suc tenant) e there entered =
+    let own : Some b ≡ Some a = entered.others zero (λ is. absurd cc) in
+    let first : places b ≡ places a = cc in
+    let rest = places_more old new tenant e (omega (arith, there))
+    (record {
+      own = entered.own;
+      others = λ other apart. entered.others (suc other) (λ is. apart (omega (arith, is)));
+      tenants = let long : length (b ∷ new) ≡ length (a ∷ old) = entered.tenants in omega (arith, long);
+    }) in
+    omega (arith, first, rest, sum_by-cons places a old, sum_by-cons places b new)
+
+-- ---- events that were counted
+
+-- none came
+pub none_counted : (every : ℕ) (accounts : List Account) (events : ℕ) (was : Bool) → AreCounted every accounts accounts events events was was
+none_counted every accounts events was = record { n = 0; came = sym (add-zero (places_given accounts)); events = refl; due = sym (or-false was) }
+
+-- one came where the call was served, and none where it was not
+pub one_counted : (every : ℕ) (old new : List Account) (tenant : ℕ) (result : Result ℕ Fault) (reply : Option Reply) (e : Reply → Event) (before after : ℕ) (was now : FollowUp)
+    → (IsErrOf result NoTenant ↔ (length old ≤ tenant)) → IfOk result (λ _. IsSomeAnd reply (λ r. IsEntered old new tenant (e r))) → OnErr result (new ≡ old)
+    → OnOk result (IsCounted every before after was.collects now.collects) → OnErr result ((after ≡ before) × (now ≡ was))
+    → AreCounted every old new before after was.collects now.collects
+one_counted every old new tenant (Ok place) None e before after was now there entered same counted uncounted = absurd entered
+one_counted every old new tenant (Ok place) (Some r) e before after was now there entered same counted uncounted =
+    let within : tenant < length old = omega (arith, λ (past : length old ≤ tenant). absent (there.1 past)) in
+    record { n = 1; came = places_more old new tenant (e r) within entered; events = counted.events; due = counted.due }
+  where
+    absent : Ok place ≡ Err NoTenant → ⊥
+    absent is = cc
+one_counted every old new tenant (Err f) reply e before after was now there entered same counted uncounted =
+    rw (same, uncounted.0, uncounted.1) (none_counted every old before was.collects)
+
+events_on : (every events n m : ℕ) → events_after every (events_after every events n) m ≡ events_after every events (n + m)
+events_on every events n zero = ap (events_after every events) (sym (add-zero n))
+events_on every events n (suc m) = ap (one_event every) (events_on every events n m) ∙ ap (events_after every events) (sym (add-suc n m))
+
+due_on : (every events n m : ℕ) → (is_due_among every events n || is_due_among every (events_after every events n) m) ≡ is_due_among every events (n + m)
+due_on every events n zero = or-false (is_due_among every events n) ∙ ap (is_due_among every events) (sym (add-zero n))
+due_on every events n (suc m) =
+    sym (or_assoc (is_due_among every events n) (is_due_among every (events_after every events n) m) (is_due every (events_after every (events_after every events n) m)))
+    ∙ ap (λ b. b || is_due every (events_after every (events_after every events n) m)) (due_on every events n m)
+    ∙ ap (λ k. is_due_among every events (n + m) || is_due every k) (events_on every events n m)
+    ∙ ap (is_due_among every events) (sym (add-suc n m))
+
+-- some, and then some more
+pub counted_on : (every : ℕ) (old mid new : List Account) (before between after : ℕ) (was is now : Bool) → AreCounted every old mid before between was is
+    → AreCounted every mid new between after is now → AreCounted every old new before after was now
+counted_on every old mid new before between after was is now first then =
+    record {
+      n = first.n + then.n;
+      came = omega (arith, first.came, then.came);
+      events = then.events ∙ ap (λ k. events_after every k then.n) first.events ∙ events_on every before first.n then.n;
+      due = then.due ∙ ap (λ b. b || is_due_among every between then.n) first.due ∙ ap (λ k. (was || is_due_among every before first.n) || is_due_among every k then.n) first.events
+          ∙ or_assoc was (is_due_among every before first.n) (is_due_among every (events_after every before first.n) then.n) ∙ ap (λ b. was || b) (due_on every before first.n then.n);
+    }
+
+-- ---- journals that got long
+
+pub none_long : (epoch : ℕ) (accounts : List Account) (was : Bool) → NotesLong epoch accounts accounts was was
+none_long epoch accounts was = record { before = λ is. is; long = λ some tenant few many. absurd (omega (arith, few, many)) }
+
+-- with the event of a call that was served
+pub one_long : (epoch : ℕ) (old new : List Account) (tenant : ℕ) (result : Result ℕ Fault) (reply : Option Reply) (e : Reply → Event) (was now : Bool)
+    → (IsErrOf result NoTenant ↔ (length old ≤ tenant)) → IfOk result (λ _. IsSomeAnd reply (λ r. IsEntered old new tenant (e r))) → OnErr result (new ≡ old)
+    → IfOk result (λ _. 0 < epoch → length (events_at new tenant) ≡ epoch → now ≡ true) → (was ≡ true → now ≡ true) → NotesLong epoch old new was now
+one_long epoch old new tenant (Ok place) None e was now there entered same cuts still = absurd entered
+one_long epoch old new tenant (Ok place) (Some r) e was now there entered same cuts still =
+    let within : tenant < length old = omega (arith, λ (past : length old ≤ tenant). absent (there.1 past)) in
+    record {
+      before = still;
+      long = λ some other few many.
+          ⊎_elim
+          (λ h. let own = events_own old new tenant (e r) within entered in
+          let was_few : length (events_at old tenant) < epoch = subst (λ t. length (events_at old t) < epoch) h.1 few in
+          let is_many : epoch ≤ length (events_at new tenant) = subst (λ t. epoch ≤ length (events_at new t)) h.1 many in
+          cuts some (omega (arith, own, was_few, is_many)))
+          (λ h. let kept = events_other old new tenant other (e r) entered h.1 in absurd (omega (arith, kept, few, many)))
+          (eqb_tells other tenant);
+    }
+  where
+    absent : Ok place ≡ Err NoTenant → ⊥
+    absent is = cc
+one_long epoch old new tenant (Err f) reply e was now there entered same cuts still =
+    record {
+      before = still;
+      long = λ some other few many. let kept = ap (λ accounts. length (events_at accounts other)) same in absurd (omega (arith, kept, few, many));
+    }
+
+-- what was noted first is noted still
+pub long_on : (epoch : ℕ) (old mid new : List Account) (was is now : Bool) → NotesLong epoch old mid was is → NotesLong epoch mid new is now → NotesLong epoch old new was now
+long_on epoch old mid new was is now first then =
+    record {
+      before = λ cut. then.before (first.before cut);
+      long = λ some tenant few many.
+          ⊎_elim
+          (λ still. then.long some tenant still many)
+          (λ got. then.before (first.long some tenant few got))
+          (cases_lt (length (events_at mid tenant)) epoch);
+    }
