@@ -6,5 +6,5 @@ mod ending;
 mod reached;
 
 pub use checked::{Checked, Progress, Standing, Taken};
-pub use checker::{Checking, Known, progress_at};
+pub use checker::{Checking, JournalChecks, Known, progress_at};
 pub use ending::{Ending, LastEpochs};

@@ -1,8 +1,10 @@
 //! Epochs that are checked while a store runs, by a thread for each partition.
-ghost use Rattle.std.specs.Prelude.{◌≡◌, ◌⊎◌, ◌<◌, ◌≤◌, ◌+◌, IfNone, IfOk, IfSome, OnErr, OnOk, None, Some, [], length, slice_get, vec_len, vec_capacity};
+ghost use Rattle.std.specs.Prelude.{◌≡◌, ◌⊎◌, ◌<◌, ◌≤◌, ◌+◌, IfNone, IfOk, IfSome, IsSomeAnd, OnErr, OnOk, None, Some, [], length, slice_get, vec_len, vec_capacity};
 ghost use Rattle.std.specs.Arc.{arc_value};
 ghost use Rattle.server_verdicts.specs.Rows.{HavePlaces, at_place};
+ghost use Rattle.partition.specs.declared.journal.Epoch.{Epoch as Cut};
 ghost use Rattle.shard.specs.Journals.{WasCut};
+ghost use Rattle.server_verdicts.specs.declared.epochs.checked.Progress.{Progress as ItsProgress};
 
 use crate::epochs::{Checked, Progress, Taken};
 use crossbeam_channel::{Receiver, Sender, bounded};
@@ -19,6 +21,35 @@ const MOST_WAITING: usize = 2;
 
 /// What is known of the journals of a store: for each partition that of each tenant, each with a lock of its own.
 pub type Known = Vec<Vec<Mutex<Checked>>>;
+
+/// What is known of one journal, as threads share it.
+///
+/// `has_taken` and `has_told` stand for what these calls leave. An implementation need not say what they are. Code for any journal
+/// learns them from these calls alone, so a contract that names them says that this one took the epoch, or told its progress.
+pub trait JournalChecks {
+    ghost has_taken: { Self → Cut → Type 0 } = { λ _ _. Unit {0} };
+
+    ghost has_told: { Self → ItsProgress → Type 0 } = { λ _ _. Unit {0} };
+
+    /// Takes the epoch that comes next, as `Checked::take` does. It waits for the lock.
+    fn take_next<R: Wait>(&self, rt: &R, alloc: Global, epoch: Epoch) -> Taken
+        ensures receipt { result.number ≡ epoch.number }
+        ensures taken { has_taken self.now epoch };
+
+    /// How far its checks have come. It waits where one of its epochs is being checked.
+    fn progress_now<R: Wait>(&self, rt: &R) -> Progress
+        ensures { has_told self.now result };
+}
+
+impl JournalChecks for Mutex<Checked> {
+    fn take_next<R: Wait>(&self, rt: &R, alloc: Global, epoch: Epoch) -> Taken {
+        self.lock(rt).take(alloc, epoch)
+    }
+
+    fn progress_now<R: Wait>(&self, rt: &R) -> Progress {
+        self.lock(rt).progress()
+    }
+}
 
 /// An epoch that was cut, with its journal's partition and tenant, on its way to the thread that checks it.
 #[derive(Drop)]
@@ -196,8 +227,16 @@ fn check_all<H: Wait>(rt: &H, alloc: Global, cuts: &Receiver<QueuedEpoch>, known
 }
 
 /// Has what is known of the epoch's journal take it, and answers the receipt; none where there is no such journal.
-fn check_one<H: Wait>(rt: &H, alloc: Global, cut: QueuedEpoch, known: &Known) -> Option<Taken>
+fn check_one<C: JournalChecks, H: Wait>(
+    rt: &H,
+    alloc: Global,
+    cut: QueuedEpoch,
+    known: &Vec<Vec<C>>,
+) -> Option<Taken>
     ensures taken { IfSome result (λ taken. taken.number ≡ cut.epoch.number) }
+    ensures took { IfSome result (λ _.
+        IsSomeAnd (at_place known.now.items cut.partition cut.tenant)
+        (λ its. C.has_taken its cut.epoch)) }
     ensures none { IfNone result (at_place known.now.items cut.partition cut.tenant ≡ None) }
 {
     let QueuedEpoch {
@@ -206,21 +245,28 @@ fn check_one<H: Wait>(rt: &H, alloc: Global, cut: QueuedEpoch, known: &Known) ->
         epoch,
     } = cut;
     let checked = journal_of(known, partition, tenant)?;
-    let taken = checked.lock(rt).take(alloc, epoch);
-    Some(taken)
+    Some(checked.take_next(rt, alloc, epoch))
 }
 
 /// How far the checks of a tenant's journal at a partition have come. It waits where one of its epochs is being checked. `None`
 /// where there is no such journal.
-pub fn progress_at<R: Wait>(rt: &R, known: &Known, partition: u32, tenant: u32) -> Option<Progress>
-    ensures { IfNone result (at_place known.now.items partition tenant ≡ None) }
+pub fn progress_at<C: JournalChecks, R: Wait>(
+    rt: &R,
+    known: &Vec<Vec<C>>,
+    partition: u32,
+    tenant: u32,
+) -> Option<Progress>
+    ensures told { IfSome result (λ progress.
+        IsSomeAnd (at_place known.now.items partition tenant)
+        (λ its. C.has_told its progress)) }
+    ensures none { IfNone result (at_place known.now.items partition tenant ≡ None) }
 {
-    let checked = journal_of(known, partition, tenant)?;
-    Some(checked.lock(rt).progress())
+    let asked = journal_of(known, partition, tenant)?;
+    Some(asked.progress_now(rt))
 }
 
 /// What is known of a tenant's journal at a partition, if they are there.
-fn journal_of(known: &Known, partition: u32, tenant: u32) -> Option<&Mutex<Checked>>
+fn journal_of<C>(known: &Vec<Vec<C>>, partition: u32, tenant: u32) -> Option<&C>
     ensures there { IfSome result (λ checked. at_place known.now.items partition tenant
         ≡ Some checked.now) }
     ensures not_there { IfNone result (at_place known.now.items partition tenant ≡ None) }
