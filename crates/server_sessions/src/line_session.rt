@@ -78,7 +78,10 @@ pub fn run_session<'s, G: Gate + Naming, H: Wait, R: Read, W: Write>(
         strict: false,
         newest: false,
     };
-    run_session_as(rt, alloc, hub, names, options, None, reader, writer)
+    let (transcript, ended, _) = run_session_as(
+        rt, alloc, hub, names, options, None, reader, writer,
+    );
+    (transcript, ended)
 }
 
 /// Answers the lines of one connection by the tenants of a running store, which go by these names, until the session
@@ -93,9 +96,10 @@ pub fn run_session<'s, G: Gate + Naming, H: Wait, R: Read, W: Write>(
 /// within a line (42) and an allocation failure (30), but as the answer to `hello`. However it ends, its seat is ended, and
 /// that before the last of these answers is written.
 ///
-/// Where counts are given, each answer is counted there.
+/// Where counts are given, each answer is counted there before it is written.
 ///
-/// Beside what the session came to stands the transcript of its seat, and `None` where none was opened. The fault is
+/// Beside what the session came to stands the transcript of its seat, and `None` where none was opened; and behind both, where
+/// its answers were counted. The fault is
 /// `Read` where a read failed, `ReadsUsed` after 2^62 reads, and `Write` where a write or a flush failed or a write took no
 /// byte: nothing is read or written then, and no line is answered. `OutOfMemory` comes before anything is read.
 pub fn run_session_as<'s, G: Gate + Naming, H: Wait, R: Read, W: Write>(
@@ -107,12 +111,17 @@ pub fn run_session_as<'s, G: Gate + Naming, H: Wait, R: Read, W: Write>(
     counts: Option<&'s AnswerCounts>,
     reader: &mut R,
     writer: &mut W,
-) -> (Option<Transcript>, Result<(), RunFault>)
-    ensures { HasRun options hub.now names.now (R.remaining reader.old)
+) -> (
+    Option<Transcript>,
+    Result<(), RunFault>,
+    Option<&'s AnswerCounts>,
+)
+    ensures run { HasRun options hub.now names.now (R.remaining reader.old)
         (W.contents writer.old) (W.contents writer.new) result.0 result.1 }
+    ensures counts { result.2 ≡ counts.entry }
 {
     let Ok(mut out) = BytesMut::with_capacity(alloc, GATHERED) else {
-        return (None, Err(RunFault::OutOfMemory));
+        return (None, Err(RunFault::OutOfMemory), counts);
     };
     let mut connection = Connection {
         alloc,
@@ -125,13 +134,15 @@ pub fn run_session_as<'s, G: Gate + Naming, H: Wait, R: Read, W: Write>(
         answer: Given::new(),
     };
     let ended = answer_lines(rt, hub, &mut connection, &mut out, reader, writer);
+    let counts = connection.terms.counts;
     let transcript = end_seat(rt, connection.seat);
     match ended {
         Ok(ending) => {
-            let _counted = count_last(ending, counts);
-            (transcript, finish(ending, &mut out, writer))
+            let counted = count_last(ending, counts);
+            let ended = finish(ending, counts, counted, &mut out, writer);
+            (transcript, ended, counts)
         }
-        Err(fault) => (transcript, Err(fault)),
+        Err(fault) => (transcript, Err(fault), counts),
     }
 }
 
@@ -162,9 +173,16 @@ fn count_last(ending: SessionEnd, counts: Option<&AnswerCounts>) -> Option<Count
     }
 }
 
-// Writes what is gathered, and the last answer.
-fn finish<W: Write>(ending: SessionEnd, out: &mut BytesMut, writer: &mut W) -> Result<(), RunFault>
-    requires { LINE_LIMIT ≤ out.old.spare }
+// Writes what is gathered, and the last answer, which was counted where answers are.
+fn finish<W: Write>(
+    ending: SessionEnd,
+    _counts: Option<&AnswerCounts>,
+    _counted: Option<Counted>,
+    out: &mut BytesMut,
+    writer: &mut W,
+) -> Result<(), RunFault>
+    requires room { LINE_LIMIT ≤ out.old.spare }
+    requires counted { kind_of _counted ≡ if_counts _counts (counted_last ending) }
     ensures written { OnOk result ((last : List ℕ) × IsLastLine last
         × Appends (W.contents writer.old) (W.contents writer.new) (out.old.items ++ last)) }
     ensures begun { IfErr result (λ _. (last : List ℕ) × (n : ℕ) × IsLastLine last
@@ -392,8 +410,8 @@ fn answer_next<'s, G: Gate + Naming, H: Wait, W: Write>(
         return Ok(Some(ending));
     }
     let ends = connection.ends();
-    let _counted = connection.count();
-    put_answer(&connection.answer, out);
+    let counted = connection.count();
+    connection.put_answer(counted, out);
     make_room(out, writer)?;
     Ok(if ends { Some(SessionEnd::Silent) } else { None })
 }
@@ -483,6 +501,18 @@ impl<'s, G: Gate + Naming> Connection<'s, G> {
             Some(counts) => self.answer.count(counts),
             None => None,
         }
+    }
+
+    // Appends the line of the answer, which was counted where answers are, and for which there is room.
+    fn put_answer(&self, _counted: Option<Counted>, out: &mut BytesMut)
+        requires space { LINE_LIMIT ≤ out.old.spare }
+        requires counted { kind_of _counted
+            ≡ if_counts self.now.terms.counts (counted_as self.now.answer) }
+        ensures text { out.new.items ≡ out.old.items ++ answer_line self.now.answer }
+        ensures room { length out.old.items + out.old.spare
+            ≤ length out.new.items + out.new.spare }
+    {
+        put_answer(&self.answer, out);
     }
 
     // An allocation failure ends the session, but as the answer to the `hello` that would have opened its seat.

@@ -1,5 +1,5 @@
 //! A server's connections: those that it serves, and what those that ended left.
-ghost use Rattle.std.specs.Prelude.{◌≡◌, false, true, is_none, IfOk, IfSome, IsTrue};
+ghost use Rattle.std.specs.Prelude.{◌≡◌, false, true, is_none, IfOk, IfSome, IsSomeAnd, IsTrue};
 ghost use Rattle.std.specs.Arc.{arc_value};
 ghost use Rattle.server_sessions.specs.declared.served.Change.TheVariants.{Begun, Ended, Failed, GivenUp};
 ghost use Rattle.std.specs.IoError.{raw_os_error};
@@ -207,13 +207,16 @@ impl<L> Server<L> {
         self.served.lock(rt).fail()
     }
 
-    /// The connection at this place is served no longer, and left this transcript, if any.
+    /// The connection at this place is served no longer, and left this transcript, if any. Its answers were counted by this
+    /// server.
     pub(crate) fn leave<R: Wait>(
         &self,
         rt: &R,
         place: usize,
+        _counted: Option<&AnswerCounts>,
         transcript: Option<Transcript>,
     ) -> Receipt
+        requires { IsSomeAnd _counted (λ counts. counts.now ≡ answers_of self.now) }
         ensures { result.change ≡ Ended place }
     {
         let ended = self.served.lock(rt).end(place, transcript);

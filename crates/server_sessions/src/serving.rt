@@ -141,7 +141,7 @@ fn serve_connection<J: Naming, H: Wait, L>(
     let options = server.options();
     let counts = Some(server.answers());
     server.count().begin();
-    let (transcript, _) = run_session_as(
+    let (transcript, _, counted) = run_session_as(
         rt,
         alloc,
         hub,
@@ -158,5 +158,5 @@ fn serve_connection<J: Naming, H: Wait, L>(
     drop(stream);
     // Where journals are cut, nothing is settled at the end.
     let kept = if hub.epoch() == 0 { transcript } else { None };
-    server.leave(rt, place, kept)
+    server.leave(rt, place, counted, kept)
 }

@@ -93,17 +93,8 @@ fn is_new_store_right<J: Naming + Send + Sync + Drop + 'static, H: Handles>(
     let mut have_ended = true;
     for input in [&row.input].into_iter().chain(&row.later) {
         let mut reader = way.pieces(input);
-        let (transcript, ended) = run_session_as(
-            rt,
-            alloc,
-            &hub,
-            names,
-            manner,
-            None,
-            &mut reader,
-            &mut writer,
-        );
-        have_ended &= ended.is_ok();
+        let (transcript, has_ended) = run(rt, alloc, &hub, names, manner, &mut reader, &mut writer);
+        have_ended &= has_ended;
         if let Some(transcript) = transcript {
             transcripts.push(transcript)?;
         }
@@ -124,6 +115,22 @@ fn is_new_store_right<J: Naming + Send + Sync + Drop + 'static, H: Handles>(
         )?;
     }
     Ok(is_right && is_answered)
+}
+
+/// Runs a session whose answers nobody counts: its transcript, and whether it ended well.
+fn run<'s, G: Gate + Naming, H: Handles>(
+    rt: &H,
+    alloc: Global,
+    hub: &'s Hub<G>,
+    names: &'s [Name],
+    manner: SessionOptions,
+    reader: &mut Pieces<'_>,
+    writer: &mut Taken,
+) -> (Option<Transcript>, bool) {
+    let (transcript, ended, _) = run_session_as(
+        rt, alloc, hub, names, manner, None, reader, writer,
+    );
+    (transcript, ended.is_ok())
 }
 
 /// How the store that the words ask for is made.

@@ -1,13 +1,14 @@
 use Rattle.std.proofs.Common.{◌∙◌, rules}
 use Rattle.server_sessions.specs.Telling.{BreaksTelling}
 use Rattle.line_runs.proofs.Faults.{at_any}
-use Rattle.server_sessions.proofs.ToldOf.{breaks_after, told_on}
-use Rattle.std.proofs.Common.{◌≡◌, ◌++◌, [], List, ℕ, length, drop, sym, ap}
+use Rattle.server_sessions.proofs.ToldOf.{breaks_after, told_none, told_on}
+use Rattle.std.proofs.Common.{◌≡◌, ◌++◌, [], List, ℕ, length, drop, refl, sym, ap}
+use Rattle.line_runs.proofs.Gathering.{Gathers-none}
 use Rattle.std.proofs.lemmas.Bool.{eqb-true}
 use Rattle.std.proofs.lemmas.List.{append-nil, nil_from_length, take_rest}
 use Rattle.line_runs.proofs.Fronts.{fed_whole}
 use Rattle.server_sessions.specs.Answered.{BreaksOffIn}
-use Rattle.server_sessions.proofs.InTurn.{breaks_after as breaks_behind, goes_any_after, takes_any_after, takes_so_far, takes_too_long}
+use Rattle.server_sessions.proofs.InTurn.{breaks_after as breaks_behind, goes_any_after, takes_any_after, takes_so_far, takes_too_long, up_to_none}
 use Rattle.server_sessions.proofs.line_session.answer_piece.Goals as goal
 
 pub returns-then-is_some-clause-keeps : goal.returns-then-is_some-clause-keeps
@@ -93,3 +94,19 @@ returns-in_err-ending-clause-broke g c =
     c.args.out.now.items c.loop-rest.out.items
     (rw (fed_whole c.loop-rest.lines c.feed.new.self c.loop-rest.rest.now c.in-Ok.taken c.in-Ok.ensures.ok) at c.loop-rest.invariant.answered)
     (rw c.loop-rest.invariant.terms at c.in_err-ending.ensures.broke))
+
+-- nothing was answered yet
+pub loop-rest-init : goal.loop-rest-init
+loop-rest-init g c =
+    let terms = c.args.connection.now.terms in
+    let seat = c.args.connection.now.seat in
+    let writer = g.W.Write.contents c.args.writer.now in
+    let out = c.args.out.now.items in
+    record {
+      ready = c.requires.may.ready;
+      waits = c.requires.waits;
+      terms = refl;
+      tenant = c.requires.may.tenant;
+      told = told_none terms.options.newest c.args.hub.now.epoch writer out seat;
+      answered = record { text = []; gathers = Gathers-none writer out; answers = up_to_none terms.options c.args.hub.now terms.names.now seat (c.args.lines.now ++ c.args.piece.now) };
+    }

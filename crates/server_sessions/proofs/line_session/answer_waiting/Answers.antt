@@ -1,7 +1,7 @@
 use Rattle.server_sessions.specs.Telling.{BreaksTelling}
 use Rattle.line_runs.proofs.Faults.{at_any}
 use Rattle.server_sessions.specs.Answered.{BreaksOffIn}
-use Rattle.server_sessions.proofs.ToldOf.{begun_after, breaks_after, breaks_here, told_after, told_kept}
+use Rattle.server_sessions.proofs.ToldOf.{begun_after, breaks_after, breaks_here, told_after, told_kept, told_none}
 use Rattle.std.proofs.Common.{Some, None, rules}
 use Rattle.line_protocol.specs.Held.{HandsOut}
 use Rattle.server_sessions.proofs.InTurn.{breaks_before, breaks_waiting, takes_nothing, takes_waiting}
@@ -67,3 +67,12 @@ returns-in_err-find_peer-clause-broke g c =
     let new = g.W.Write.contents c.find_peer.new.writer in
     at_any c.from_residual.result (λ fault. BreaksOffIn options hub names seat seat c.args.lines.now old new c.args.out.now.items)
     (λ fault. breaks_before options hub names seat c.args.lines.now old new c.args.out.now.items c.find_peer.ensures)
+
+-- no line waits
+pub returns-in_default-clause-keeps : goal.returns-in_default-clause-keeps
+returns-in_default-clause-keeps g c = record {
+  ready = c.requires.ready;
+  tenant = c.requires.tenant;
+  told = told_none c.args.connection.now.terms.options.newest c.args.hub.now.epoch (g.W.Write.contents c.args.writer.now) c.args.out.now.items c.args.connection.now.seat;
+  begun = tt;
+}

@@ -4,29 +4,29 @@ use Rattle.server_sessions.proofs.ToldOf.{breaks_here, session_begun, session_br
 use Rattle.server_sessions.proofs.InTurn.{breaks_run, runs_at_first, session_answered, session_breaks, session_breaks_last}
 use Rattle.server_sessions.proofs.line_session.run_session_as.Goals as goal
 
-pub returns-in-Ok-ended : goal.returns-in-Ok-ended
-returns-in-Ok-ended g c = record {
+pub returns-in-Ok-ended-clause-run : goal.returns-in-Ok-ended-clause-run
+returns-in-Ok-ended-clause-run g c = record {
   written =
-      session_written c.args.options.newest c.args.hub.now.epoch c.finish.result c.answer_lines-ended.new.connection.seat _ (g.W.Write.contents c.args.writer.now) (g.W.Write.contents c.answer_lines-ended.new.writer) (g.W.Write.contents c.finish.new.writer)
-      c.answer_lines-ended.new.out.items (rw c.in-Ok.ensures.items at c.in-Ok-ended.ensures.keeps.told) c.finish.ensures.written
+      session_written c.args.options.newest c.args.hub.now.epoch c.finish-ended.result c.answer_lines-ended.new.connection.seat _ (g.W.Write.contents c.args.writer.now) (g.W.Write.contents c.answer_lines-ended.new.writer) (g.W.Write.contents c.finish-ended.new.writer)
+      c.answer_lines-ended.new.out.items (rw c.in-Ok.ensures.items at c.in-Ok-ended.ensures.keeps.told) c.finish-ended.ensures.written
       (record { counter = c.end_seat-transcript.ensures.counter; entries = c.end_seat-transcript.ensures.entries });
   begun =
-      session_broken c.args.options.newest c.args.hub.now.epoch c.finish.result c.answer_lines-ended.new.connection.seat _ (g.W.Write.contents c.args.writer.now) (g.W.Write.contents c.answer_lines-ended.new.writer) (g.W.Write.contents c.finish.new.writer)
-      c.answer_lines-ended.new.out.items (rw c.in-Ok.ensures.items at c.in-Ok-ended.ensures.keeps.told) c.finish.ensures.begun
+      session_broken c.args.options.newest c.args.hub.now.epoch c.finish-ended.result c.answer_lines-ended.new.connection.seat _ (g.W.Write.contents c.args.writer.now) (g.W.Write.contents c.answer_lines-ended.new.writer) (g.W.Write.contents c.finish-ended.new.writer)
+      c.answer_lines-ended.new.out.items (rw c.in-Ok.ensures.items at c.in-Ok-ended.ensures.keeps.told) c.finish-ended.ensures.begun
       (record { counter = c.end_seat-transcript.ensures.counter; entries = c.end_seat-transcript.ensures.entries });
   tenant = search rules;
   answered =
-      session_answered c.args.options c.args.hub.now c.args.names.now c.finish.result c.in-Ok-ended.ending c.answer_lines-ended.new.connection.seat _ (g.R.Read.remaining c.args.reader.now)
-      (g.W.Write.contents c.args.writer.now) (g.W.Write.contents c.answer_lines-ended.new.writer) (g.W.Write.contents c.finish.new.writer) c.answer_lines-ended.new.out.items
-      (rw c.in-Ok.ensures.items at c.in-Ok-ended.ensures.answered) c.finish.ensures.last c.end_seat-transcript.ensures.whole;
+      session_answered c.args.options c.args.hub.now c.args.names.now c.finish-ended.result c.in-Ok-ended.ending c.answer_lines-ended.new.connection.seat _ (g.R.Read.remaining c.args.reader.now)
+      (g.W.Write.contents c.args.writer.now) (g.W.Write.contents c.answer_lines-ended.new.writer) (g.W.Write.contents c.finish-ended.new.writer) c.answer_lines-ended.new.out.items
+      (rw c.in-Ok.ensures.items at c.in-Ok-ended.ensures.answered) c.finish-ended.ensures.last c.end_seat-transcript.ensures.whole;
   broke =
-      session_breaks_last c.args.options c.args.hub.now c.args.names.now c.finish.result c.in-Ok-ended.ending c.answer_lines-ended.new.connection.seat _ (g.R.Read.remaining c.args.reader.now)
-      (g.W.Write.contents c.args.writer.now) (g.W.Write.contents c.answer_lines-ended.new.writer) (g.W.Write.contents c.finish.new.writer) c.answer_lines-ended.new.out.items
-      (rw c.in-Ok.ensures.items at c.in-Ok-ended.ensures.answered) c.finish.ensures.begun c.end_seat-transcript.ensures.whole;
+      session_breaks_last c.args.options c.args.hub.now c.args.names.now c.finish-ended.result c.in-Ok-ended.ending c.answer_lines-ended.new.connection.seat _ (g.R.Read.remaining c.args.reader.now)
+      (g.W.Write.contents c.args.writer.now) (g.W.Write.contents c.answer_lines-ended.new.writer) (g.W.Write.contents c.finish-ended.new.writer) c.answer_lines-ended.new.out.items
+      (rw c.in-Ok.ensures.items at c.in-Ok-ended.ensures.answered) c.finish-ended.ensures.begun c.end_seat-transcript.ensures.whole;
 }
 
-pub returns-in_default : goal.returns-in_default
-returns-in_default g c = record {
+pub returns-in_default-clause-run : goal.returns-in_default-clause-run
+returns-in_default-clause-run g c = record {
   written = search rules;
   begun =
       session_begun c.args.options.newest c.args.hub.now.epoch None None (g.W.Write.contents c.args.writer.now) (g.W.Write.contents c.args.writer.now)
@@ -41,8 +41,8 @@ returns-in_default g c = record {
       (breaks_run c.args.options hub c.args.names.now None None [] input input writer writer writer [] [] 0 (runs_at_first c.args.options hub c.args.names.now None input writer [] [] refl) (Appends-nil writer)) refl;
 }
 
-pub returns : goal.returns
-returns g c = record {
+pub returns-clause-run : goal.returns-clause-run
+returns-clause-run g c = record {
   written = search rules;
   begun =
       session_begun c.args.options.newest c.args.hub.now.epoch c.answer_lines-ended.new.connection.seat _ (g.W.Write.contents c.args.writer.now) (g.W.Write.contents c.answer_lines-ended.new.writer)
