@@ -1,5 +1,5 @@
 -- What the evaluator's own types stand for.
-use Rattle.std.specs.Prelude.{◌≡◌, ℕ, ◌≤◌, List, [], ◌∷◌, ◌++◌, true, cond, length, Option, Some, None, is_some}
+use Rattle.std.specs.Prelude.{◌≡◌, ℕ, ◌≤◌, List, [], ◌∷◌, ◌++◌, true, false, cond, length, Option, Some, None, is_some}
 use Rattle.stamps.specs.Limits.{max_keys}
 use Rattle.plain_store.specs.History as definitions
 use Rattle.plain_store.specs.History.{History, message_at, log_at, Transaction, Writes, Gets, Finds, taken_in}
@@ -12,7 +12,8 @@ use Rattle.plain_store.specs.declared.reading.Reading.{Reading}
 use Rattle.plain_store.specs.declared.refusal.Refusal.{Refusal}
 use Rattle.plain_store.specs.Words.{Setup}
 use Rattle.plain_store.specs.Replies.{IsSound}
-use Rattle.plain_store.specs.Run.{Test, is_wanted}
+use Rattle.plain_store.specs.declared.step.Act.{Act}
+use Rattle.plain_store.specs.Run.{Test, is_wanted, rows_are_used}
 use Rattle.plain_store.specs.Finding.{all_keys_found, carrying}
 use Rattle.plain_store.specs.Moves.{Move, Waits, Decides, Finishes, Asks, Begins, Reads, Lists, Restarts, Fails}
 use Rattle.oracle.specs.declared.moves.Move as declared
@@ -93,3 +94,13 @@ ReadersAreFew history =
 -- each log of a history has the replies of the definitions
 abbrev pub LogsAreSound : Setup → History → Type 0
 LogsAreSound setup history = (partition : ℕ) → IsSound setup.room (log_at setup history partition)
+
+-- the act is this one, and there are rows for what it sends
+pub record MayGoOn (act this : Act) (history : History) : Type 0 where
+  pub asked : act ≡ this
+  pub free : rows_are_used history ≡ false
+
+-- this is the count, and no more than so many
+pub record Counts (result count most : ℕ) : Type 0 where
+  pub value : result ≡ count
+  pub at_most : result ≤ most

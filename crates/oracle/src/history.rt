@@ -1,11 +1,11 @@
 //! What a tenant's history contains. A history lists its moments newest first.
-ghost use Rattle.std.specs.Prelude.{◌≡◌, ◌++◌, ◌≤◌, ◌+◌, ◌==◌, IfOk, IfErr, IfSome, Some, length, filter, min, option_copied, option_to_list, slice_get, nat_eq};
+ghost use Rattle.std.specs.Prelude.{◌≡◌, ◌++◌, ◌≤◌, ◌+◌, ◌==◌, IfOk, IfErr, IfSome, Some, length, filter, min, option_copied, slice_get, nat_eq};
 ghost use Rattle.std.specs.List.{filter_map, list_any};
 ghost use Rattle.std.specs.Option.{option_map};
 ghost use Rattle.stamps.specs.Limits.{max_counter};
 ghost use Rattle.plain_store.specs.History.{begun_by, client_gained, clients_known, collection, counter, counter_gained, counter_in, counter_taken, decided, ends, exchange_of, is_by, is_last, is_move, is_of, keep_in, log_at, lost_rows, message_at, messages, one_if_by, row_lost, running, session, session_after, stamp_decided, taken, taken_in, tickets, took, transaction_of};
 ghost use Rattle.plain_store.specs.declared.message.Message.{Message as Sent};
-ghost use Rattle.oracle.specs.Words.{plain_request, session_of};
+ghost use Rattle.oracle.specs.Words.{Counts, plain_request, session_of};
 ghost use Rattle.plain_store.specs.Whole.{IsWhole};
 
 use super::lists;
@@ -291,8 +291,7 @@ pub(super) fn session(history: &[Moment<'_>], client: Client) -> SessionState
 
 /// How many clients a step brought: one, or none.
 fn client_gained(moment: &Moment<'_>, older: &[Moment<'_>]) -> usize
-    ensures value { result ≡ client_gained moment.now.act moment.now.answer older.now }
-    ensures at_most { result ≤ 1 }
+    ensures { Counts result (client_gained moment.now.act moment.now.answer older.now) 1 }
 {
     match (moment.act, moment.answer) {
         (Act::Hello(client, _), Answer::Ready(_)) => match session(older, *client) {
@@ -305,8 +304,7 @@ fn client_gained(moment: &Moment<'_>, older: &[Moment<'_>]) -> usize
 
 /// How many clients have said hello.
 pub(super) fn clients_known(history: &[Moment<'_>]) -> usize
-    ensures value { result ≡ clients_known history.now }
-    ensures at_most { result ≤ length history.now }
+    ensures { Counts result (clients_known history.now) (length history.now) }
 {
     match history {
         [] => 0,
@@ -336,8 +334,7 @@ fn begun_by<'a>(moment: &Moment<'a>) -> Option<(Client, Intent<'a>)>
 
 /// How many transactions of a client a step began: one, or none.
 fn one_if_by(client: Client, moment: &Moment<'_>) -> u64
-    ensures value { result ≡ one_if_by client (begun_by moment.now.act moment.now.answer) }
-    ensures at_most { result ≤ 1 }
+    ensures { Counts result (one_if_by client (begun_by moment.now.act moment.now.answer)) 1 }
 {
     match begun_by(moment) {
         Some((by, _)) if by == client => 1,
@@ -347,8 +344,7 @@ fn one_if_by(client: Client, moment: &Moment<'_>) -> u64
 
 /// How many transactions the client began. The last one has this ticket.
 pub(super) fn tickets(history: &[Moment<'_>], client: Client) -> u64
-    ensures value { result ≡ tickets history.now client }
-    ensures at_most { result ≤ length history.now }
+    ensures { Counts result (tickets history.now client) (length history.now) }
 {
     match history {
         [] => 0,
@@ -506,8 +502,7 @@ pub(super) fn running<'a>(history: &[Moment<'a>], client: Client) -> Option<Tran
 
 /// The counter of the stamp that a reply shows.
 fn counter_in(reply: &Option<Reply>) -> u64
-    ensures value { result ≡ counter_in reply.now }
-    ensures in_range { result ≤ max_counter }
+    ensures { Counts result (counter_in reply.now) max_counter }
 {
     match reply {
         Some(Reply::Get(ReadReply::Version(version))) => version.stamp.counter(),
@@ -518,8 +513,7 @@ fn counter_in(reply: &Option<Reply>) -> u64
 
 /// The counter that a message shows its client.
 fn counter_taken(client: Client, message: Option<&Message>) -> u64
-    ensures value { result ≡ counter_taken client (option_copied message.entry) }
-    ensures in_range { result ≤ max_counter }
+    ensures { Counts result (counter_taken client (option_copied message.entry)) max_counter }
 {
     match message {
         Some(message) if message.client == client => counter_in(&message.reply),
@@ -529,8 +523,8 @@ fn counter_taken(client: Client, message: Option<&Message>) -> u64
 
 /// The counter that a step showed or gave the client.
 fn counter_gained(moment: &Moment<'_>, older: &[Moment<'_>], client: Client) -> u64
-    ensures value { result ≡ counter_gained moment.now.act moment.now.answer older.now client }
-    ensures in_range { result ≤ max_counter }
+    ensures { Counts result
+        (counter_gained moment.now.act moment.now.answer older.now client) max_counter }
 {
     match (moment.act, &moment.answer) {
         (Act::Hello(opened, base), Answer::Ready(_)) if *opened == client => base.get(),
@@ -545,8 +539,7 @@ fn counter_gained(moment: &Moment<'_>, older: &[Moment<'_>], client: Client) -> 
 
 /// The greatest of the client's bases, of the counters of its stamps and of those in the replies that it took.
 pub(super) fn counter(history: &[Moment<'_>], client: Client) -> u64
-    ensures value { result ≡ counter history.now client }
-    ensures in_range { result ≤ max_counter }
+    ensures { Counts result (counter history.now client) max_counter }
 {
     match history {
         [] => 0,

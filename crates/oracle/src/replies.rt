@@ -1,7 +1,8 @@
 //! The reply of a cell to a call, after a log.
-ghost use Rattle.std.specs.Prelude.{◌≡◌, ◌∷◌, ◌-◌, ◌≤◌, IfOk, count_by, filter, ◌==◌, length, option_copied};
+ghost use Rattle.std.specs.Prelude.{◌≡◌, ◌∷◌, ◌-◌, IfOk, count_by, ◌==◌, length, option_copied};
 ghost use Rattle.plain_store.specs.Log.{kept};
 ghost use Rattle.plain_store.specs.Replies.{IsSound, discard_reply, found_or, get_reply, is_droppable, prepare_reply, reply_after};
+ghost use Rattle.oracle.specs.Words.{Counts};
 
 use super::log::{self, Exchange};
 use super::{lists, marks, tags};
@@ -99,8 +100,7 @@ fn get_reply(
 
 /// How many of the versions have a stamp.
 fn count_stamp(versions: &[Record], stamp: Stamp) -> usize
-    ensures value { result ≡ count_by (λ v. v.stamp == stamp) versions.now }
-    ensures at_most { result ≤ length versions.now }
+    ensures { Counts result (count_by (λ v. v.stamp == stamp) versions.now) (length versions.now) }
 {
     match versions {
         [] => 0,
@@ -153,8 +153,8 @@ fn is_droppable(log: &[Exchange], stamp: Stamp, version: &Record) -> bool
 
 /// How many of these versions a DISCARD of the stamp drops.
 fn count_droppable(log: &[Exchange], stamp: Stamp, versions: &[Record]) -> usize
-    ensures value { result ≡ count_by (is_droppable log.now stamp) versions.now }
-    ensures at_most { result ≤ length versions.now }
+    ensures { Counts result (count_by (is_droppable log.now stamp) versions.now)
+        (length versions.now) }
 {
     match versions {
         [] => 0,

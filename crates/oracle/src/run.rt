@@ -4,7 +4,7 @@ ghost use Rattle.stamps.specs.Key.{IsTransactionKeys};
 ghost use Rattle.plain_store.specs.History.{begun_by, counter, log_at, moment, running, taken_in};
 ghost use Rattle.plain_store.specs.Replies.{reply_after};
 ghost use Rattle.plain_store.specs.Moves.{is_answered};
-ghost use Rattle.oracle.specs.Words.{LogsAreSound, ReadersAreFew, ReadsFew, TakesFew, first_refusal, plain_outcome};
+ghost use Rattle.oracle.specs.Words.{LogsAreSound, MayGoOn, ReadersAreFew, ReadsFew, TakesFew, first_refusal, plain_outcome};
 ghost use Rattle.plain_store.specs.Run.{are_bad, begin_tests, call_message, count_freed, counter_limit, delivers, effect, is_decided, is_wanted, moment_of, moves, next_rows, one_twice, resends, retries, rows_are_used, serves, takes, unanswered};
 ghost use Rattle.plain_store.specs.Whole.{BeginsWhole};
 ghost use Rattle.plain_store.specs.declared.step.Act.{Act as Asked};
@@ -212,8 +212,7 @@ fn begin_put<'a>(
     client: Client,
     items: &'a [Item],
 ) -> Result<Moment<'a>, OutOfMemory>
-    requires asked { act.now ≡ Asked.Put client items.now }
-    requires free { rows_are_used history.now ≡ false }
+    requires asked { MayGoOn act.now (Asked.Put client items.now) history.now }
     requires keys { IsTransactionKeys (keys_written items.now) }
     requires counter { counter history.now client < counter_limit }
     ensures { IfOk result (λ m. m ≡ effect setup.now history.now act.now) }
@@ -261,8 +260,7 @@ fn begin_get<'a>(
     client: Client,
     keys: &[Key],
 ) -> Result<Moment<'a>, OutOfMemory>
-    requires asked { act.now ≡ Asked.Get client keys.now }
-    requires free { rows_are_used history.now ≡ false }
+    requires { MayGoOn act.now (Asked.Get client keys.now) history.now }
     ensures { IfOk result (λ m. m ≡ effect setup.now history.now act.now) }
 {
     let calls = rounds::reading_calls(alloc, setup, keys, &[])?;
@@ -302,8 +300,7 @@ fn begin_find<'a>(
     client: Client,
     tag: &Tag,
 ) -> Result<Moment<'a>, OutOfMemory>
-    requires asked { act.now ≡ Asked.Find client tag.now }
-    requires free { rows_are_used history.now ≡ false }
+    requires { MayGoOn act.now (Asked.Find client tag.now) history.now }
     ensures { IfOk result (λ m. m ≡ effect setup.now history.now act.now) }
 {
     let calls = moves::search_calls(alloc, setup, tag, &[])?;
@@ -341,8 +338,7 @@ fn moves<'a>(
     outcome: Move,
     row: u64,
 ) -> Result<Moment<'a>, OutOfMemory>
-    requires asked { act.now ≡ Asked.Deliver row }
-    requires free { rows_are_used history.now ≡ false }
+    requires { MayGoOn act.now (Asked.Deliver row) history.now }
     ensures { IfOk result (λ m. m
         ≡ moves history.now act.now transaction.now (plain_outcome outcome)) }
 {
@@ -396,8 +392,7 @@ fn hands<'a>(
     transaction: &Transaction<'a>,
     row: u64,
 ) -> Result<Moment<'a>, OutOfMemory>
-    requires asked { act.now ≡ Asked.Deliver row }
-    requires free { rows_are_used history.now ≡ false }
+    requires asked { MayGoOn act.now (Asked.Deliver row) history.now }
     requires few { is_wanted history.now transaction.now message.now ≡ true
         → ReadsFew transaction.now.request (taken_in history.now transaction.now
         ++ message.now ∷ []) message.now.call }
@@ -422,8 +417,7 @@ fn takes<'a>(
     message: &Message,
     row: u64,
 ) -> Result<Moment<'a>, OutOfMemory>
-    requires asked { act.now ≡ Asked.Deliver row }
-    requires free { rows_are_used history.now ≡ false }
+    requires asked { MayGoOn act.now (Asked.Deliver row) history.now }
     requires few { TakesFew history.now message.now }
     ensures { IfOk result (λ m. m
         ≡ takes setup.now history.now act.now message.now
@@ -444,8 +438,7 @@ fn serves<'a>(
     reply: Reply,
     row: u64,
 ) -> Result<Moment<'a>, OutOfMemory>
-    requires asked { act.now ≡ Asked.Deliver row }
-    requires free { rows_are_used history.now ≡ false }
+    requires { MayGoOn act.now (Asked.Deliver row) history.now }
     ensures { IfOk result (λ m. m ≡ serves history.now act.now message.now reply) }
 {
     let replied = Message {
@@ -487,8 +480,7 @@ fn delivers<'a>(
     message: &Message,
     row: u64,
 ) -> Result<Moment<'a>, OutOfMemory>
-    requires asked { act.now ≡ Asked.Deliver row }
-    requires free { rows_are_used history.now ≡ false }
+    requires asked { MayGoOn act.now (Asked.Deliver row) history.now }
     requires sound { LogsAreSound setup.now history.now }
     requires few { is_some message.now.reply ≡ true → TakesFew history.now message.now }
     ensures { IfOk result (λ m. m
@@ -584,8 +576,7 @@ fn resends<'a>(
     calls: &[Outgoing],
     client: Client,
 ) -> Result<Moment<'a>, OutOfMemory>
-    requires asked { act.now ≡ Asked.Retry client }
-    requires free { rows_are_used history.now ≡ false }
+    requires asked { MayGoOn act.now (Asked.Retry client) history.now }
     requires few { length calls.now < 2 ^ 63 }
     ensures { IfOk result (λ m. m ≡ resends history.now act.now transaction.now calls.now) }
 {
@@ -613,8 +604,7 @@ fn retries<'a>(
     act: &'a Act,
     client: Client,
 ) -> Result<Moment<'a>, OutOfMemory>
-    requires asked { act.now ≡ Asked.Retry client }
-    requires free { rows_are_used history.now ≡ false }
+    requires { MayGoOn act.now (Asked.Retry client) history.now }
     ensures { IfOk result (λ m. m
         ≡ retries setup.now history.now act.now (running history.now client)) }
 {
