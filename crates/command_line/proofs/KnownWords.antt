@@ -3,12 +3,7 @@ use Rattle.std.proofs.Common.{◌≡◌, false, ap, ap₂, ◌∙◌, refl}
 use Rattle.clap.specs.Words.{AddsArg, AddsSubcommand, App, Rule, app_of, rule_of, with_rule, with_subcommand}
 use Rattle.clap.specs.declared.builder.arg.Arg.{Arg}
 use Rattle.clap.specs.declared.builder.command.Command.{Command}
-use Rattle.clap.specs.declared.builder.command.Command.TheViews.{out-Command as fields_of}
-
--- the command knows these words, and none of them is known to another command
-pub record Knows (command : Command) (app : App) : Type 0 where
-  pub words : app_of command ≡ app
-  pub local : (fields_of command).has_globals ≡ false
+use Rattle.command_line.specs.Words.{Knows}
 
 pub knows_more : (old : Command) (arg : Arg) (new : Command) (app : App) (rule : Rule) → Knows old app → rule_of arg ≡ rule → arg.global ≡ false
     → AddsArg old arg new → Knows new (with_rule app rule)

@@ -2,8 +2,11 @@
 use Rattle.std.specs.Prelude.{◌≡◌, ◌≢◌, ◌⊎◌, ◌<◌, ◌≤◌, ◌^◌, ℕ, ℤ, List, [], ◌∷◌, ◌++◌, length, All, AllPairs, Bool, true}
 use Rattle.std.specs.Prelude.{false, Option, Some, codes, pos}
 use Rattle.std.specs.Str.Parse.{IsNumeral, digits_value, without_leading_plus}
-use Rattle.clap.specs.Words.{App, Row, Rule, IsAmong, all_of, fault_of, new_app, new_rule, one_of, subcommand_of}
+use Rattle.clap.specs.Words.{App, Row, Rule, IsAmong, all_of, app_of, fault_of, new_app, new_rule, one_of, rule_of, subcommand_of}
 use Rattle.clap.specs.Words.{with_rule, with_subcommand}
+use Rattle.clap.specs.declared.builder.arg.Arg.{Arg}
+use Rattle.clap.specs.declared.builder.command.Command.{Command}
+use Rattle.clap.specs.declared.builder.command.Command.TheViews.{out-Command as fields_of}
 use Rattle.clap.specs.declared.builder.action.ArgAction.TheVariants.{Append, SetTrue}
 use Rattle.clap.specs.declared.builder.value_parser.ValueParser.TheVariants.{Signed}
 use Rattle.clap.specs.declared.error.kind.ErrorKind.{ErrorKind}
@@ -17,6 +20,16 @@ use Rattle.command_line.specs.declared.options.NumberOption.{NumberOption}
 use Rattle.line_protocol.specs.StepSpelling.{IsName}
 
 -- ---- the words that are known
+
+-- the command knows these words, and none of them is known to another command
+pub record Knows (command : Command) (app : App) : Type 0 where
+  pub words : app_of command ≡ app
+  pub local : (fields_of command).has_globals ≡ false
+
+-- the option is read by this rule, by its own command alone
+pub record IsOwnOption (option : Arg) (read : Rule) : Type 0 where
+  pub rule : rule_of option ≡ read
+  pub local : option.global ≡ false
 
 -- an option of this name: a number from `least` to `most`, by default this one
 abbrev pub ranged_rule : List ℕ → List ℕ → ℤ → ℤ → Rule

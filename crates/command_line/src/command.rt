@@ -1,8 +1,8 @@
 //! The words that the program knows.
 ghost use Rattle.std.specs.Prelude.{◌≡◌, IfOk, false, pos};
-ghost use Rattle.clap.specs.Words.{app_of, rule_of};
+ghost use Rattle.clap.specs.Words.{app_of};
 ghost use Rattle.clap.specs.declared.builder.command.Command.TheViews.{out-Command as fields_of};
-ghost use Rattle.command_line.specs.Words.{cell_command, load_command, mix_rules, newest_rule, pace_rules, port_rule, program, ranged_rule, rules_of, serve_command, sim_command, stay_rule, store_rules, strict_rule, tenants_rule, with_rules};
+ghost use Rattle.command_line.specs.Words.{IsOwnOption, Knows, cell_command, load_command, mix_rules, newest_rule, pace_rules, port_rule, program, ranged_rule, rules_of, serve_command, sim_command, stay_rule, store_rules, strict_rule, tenants_rule, with_rules};
 
 use crate::options::{
     CLIENTS, EPOCH, EVERY, ITEMS, KEEP, KEYS, NEWEST, NumberOption, PARTS, PORT, QUEUE, ROUNDS,
@@ -124,8 +124,7 @@ pub(crate) fn command<'a>(alloc: Global) -> Result<Command<'a>, AllocError>
 }
 
 fn cell_command<'a>(alloc: Global) -> Result<Command<'a>, AllocError>
-    ensures words { IfOk result (λ command. app_of command ≡ cell_command) }
-    ensures local { IfOk result (λ command. (fields_of command).has_globals ≡ false) }
+    ensures { IfOk result (λ command. Knows command cell_command) }
 {
     let cell = Command::new(alloc, "cell")
         .about(CELL_ABOUT)
@@ -134,8 +133,7 @@ fn cell_command<'a>(alloc: Global) -> Result<Command<'a>, AllocError>
 }
 
 fn sim_command<'a>(alloc: Global) -> Result<Command<'a>, AllocError>
-    ensures words { IfOk result (λ command. app_of command ≡ sim_command) }
-    ensures local { IfOk result (λ command. (fields_of command).has_globals ≡ false) }
+    ensures { IfOk result (λ command. Knows command sim_command) }
 {
     let sim = Command::new(alloc, "sim")
         .about(SIM_ABOUT)
@@ -144,8 +142,7 @@ fn sim_command<'a>(alloc: Global) -> Result<Command<'a>, AllocError>
 }
 
 fn serve_command<'a>(alloc: Global) -> Result<Command<'a>, AllocError>
-    ensures words { IfOk result (λ command. app_of command ≡ serve_command) }
-    ensures local { IfOk result (λ command. (fields_of command).has_globals ≡ false) }
+    ensures { IfOk result (λ command. Knows command serve_command) }
 {
     let serve = Command::new(alloc, "serve")
         .about(SERVE_ABOUT)
@@ -162,8 +159,7 @@ fn serve_command<'a>(alloc: Global) -> Result<Command<'a>, AllocError>
 }
 
 fn load_command<'a>(alloc: Global) -> Result<Command<'a>, AllocError>
-    ensures words { IfOk result (λ command. app_of command ≡ load_command) }
-    ensures local { IfOk result (λ command. (fields_of command).has_globals ≡ false) }
+    ensures { IfOk result (λ command. Knows command load_command) }
 {
     let load = Command::new(alloc, "load")
         .about(LOAD_ABOUT)
@@ -187,9 +183,7 @@ const OF_PACE: [NumberOption; 3] = [QUEUE, EVERY, EPOCH];
 // The options of a store.
 fn with_store<'a>(alloc: Global, command: Command<'a>) -> Result<Command<'a>, AllocError>
     requires { (fields_of command).has_globals ≡ false }
-    ensures words { IfOk result (λ made. app_of made
-        ≡ with_rules (app_of command.entry) store_rules) }
-    ensures local { IfOk result (λ made. (fields_of made).has_globals ≡ false) }
+    ensures { IfOk result (λ made. Knows made (with_rules (app_of command.entry) store_rules)) }
 {
     with_numbers(alloc, command, &OF_STORE)
 }
@@ -197,9 +191,7 @@ fn with_store<'a>(alloc: Global, command: Command<'a>) -> Result<Command<'a>, Al
 // The options of what the seats of a load do.
 fn with_mix<'a>(alloc: Global, command: Command<'a>) -> Result<Command<'a>, AllocError>
     requires { (fields_of command).has_globals ≡ false }
-    ensures words { IfOk result (λ made. app_of made
-        ≡ with_rules (app_of command.entry) mix_rules) }
-    ensures local { IfOk result (λ made. (fields_of made).has_globals ≡ false) }
+    ensures { IfOk result (λ made. Knows made (with_rules (app_of command.entry) mix_rules)) }
 {
     with_numbers(alloc, command, &OF_MIX)
 }
@@ -207,9 +199,7 @@ fn with_mix<'a>(alloc: Global, command: Command<'a>) -> Result<Command<'a>, Allo
 // The options of how a running store is paced.
 fn with_pace<'a>(alloc: Global, command: Command<'a>) -> Result<Command<'a>, AllocError>
     requires { (fields_of command).has_globals ≡ false }
-    ensures words { IfOk result (λ made. app_of made
-        ≡ with_rules (app_of command.entry) pace_rules) }
-    ensures local { IfOk result (λ made. (fields_of made).has_globals ≡ false) }
+    ensures { IfOk result (λ made. Knows made (with_rules (app_of command.entry) pace_rules)) }
 {
     with_numbers(alloc, command, &OF_PACE)
 }
@@ -221,9 +211,8 @@ fn with_numbers<'a>(
     options: &[NumberOption],
 ) -> Result<Command<'a>, AllocError>
     requires { (fields_of command).has_globals ≡ false }
-    ensures words { IfOk result (λ made. app_of made
-        ≡ with_rules (app_of command.entry) (rules_of options.now)) }
-    ensures local { IfOk result (λ made. (fields_of made).has_globals ≡ false) }
+    ensures { IfOk result
+        (λ made. Knows made (with_rules (app_of command.entry) (rules_of options.now))) }
 {
     let mut made = command;
     for option in options {
@@ -234,10 +223,9 @@ fn with_numbers<'a>(
 
 // An option that takes a number.
 fn number<'a>(alloc: Global, option: &NumberOption) -> Arg<'a>
-    ensures rule { rule_of result
-        ≡ ranged_rule option.now.name.now option.now.default.now (pos option.now.least)
-        (pos option.now.most) }
-    ensures local { result.global ≡ false }
+    ensures { IsOwnOption result
+        (ranged_rule option.now.name.now option.now.default.now (pos option.now.least)
+        (pos option.now.most)) }
 {
     Arg::new(alloc, option.name)
         .long(option.name)
@@ -249,8 +237,7 @@ fn number<'a>(alloc: Global, option: &NumberOption) -> Arg<'a>
 
 // The port, which may be 0.
 fn port<'a>(alloc: Global) -> Arg<'a>
-    ensures rule { rule_of result ≡ port_rule }
-    ensures local { result.global ≡ false }
+    ensures { IsOwnOption result port_rule }
 {
     Arg::new(alloc, PORT)
         .long(PORT)
@@ -262,8 +249,7 @@ fn port<'a>(alloc: Global) -> Arg<'a>
 
 // Whether the server stays.
 fn stay<'a>(alloc: Global) -> Arg<'a>
-    ensures rule { rule_of result ≡ stay_rule }
-    ensures local { result.global ≡ false }
+    ensures { IsOwnOption result stay_rule }
 {
     Arg::new(alloc, STAY)
         .long(STAY)
@@ -273,8 +259,7 @@ fn stay<'a>(alloc: Global) -> Arg<'a>
 
 // Whether its sessions are strict.
 fn strict<'a>(alloc: Global) -> Arg<'a>
-    ensures rule { rule_of result ≡ strict_rule }
-    ensures local { result.global ≡ false }
+    ensures { IsOwnOption result strict_rule }
 {
     Arg::new(alloc, STRICT)
         .long(STRICT)
@@ -284,8 +269,7 @@ fn strict<'a>(alloc: Global) -> Arg<'a>
 
 // Whether each put reads its keys first.
 fn newest<'a>(alloc: Global) -> Arg<'a>
-    ensures rule { rule_of result ≡ newest_rule }
-    ensures local { result.global ≡ false }
+    ensures { IsOwnOption result newest_rule }
 {
     Arg::new(alloc, NEWEST)
         .long(NEWEST)
@@ -295,8 +279,7 @@ fn newest<'a>(alloc: Global) -> Arg<'a>
 
 // The names of the tenants.
 fn tenants<'a>(alloc: Global) -> Arg<'a>
-    ensures rule { rule_of result ≡ tenants_rule }
-    ensures local { result.global ≡ false }
+    ensures { IsOwnOption result tenants_rule }
 {
     Arg::new(alloc, "tenant")
         .value_name("TENANT")

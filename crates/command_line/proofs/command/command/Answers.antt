@@ -15,8 +15,8 @@ returns c =
     let sim = c.in_ok-sim_command.ensures in
     let serve = c.in_ok-serve_command.ensures in
     let load = c.in_ok-load_command.ensures in
-    let first = knows_command c.subcommand_required.result c.in_ok-cell_command.field-0 c.in_ok-subcommand.field-0 _ cell_command top (record { words = cell.words; local = cell.local }) c.in_ok-subcommand.ensures in
-    let second = knows_command c.in_ok-subcommand.field-0 c.in_ok-sim_command.field-0 c.in_ok-subcommand-2.field-0 _ sim_command first (record { words = sim.words; local = sim.local }) c.in_ok-subcommand-2.ensures in
-    let third = knows_command c.in_ok-subcommand-2.field-0 c.in_ok-serve_command.field-0 c.in_ok-subcommand-3.field-0 _ serve_command second (record { words = serve.words; local = serve.local }) c.in_ok-subcommand-3.ensures in
+    let first = knows_command c.subcommand_required.result c.in_ok-cell_command.field-0 c.in_ok-subcommand.field-0 _ cell_command top cell c.in_ok-subcommand.ensures in
+    let second = knows_command c.in_ok-subcommand.field-0 c.in_ok-sim_command.field-0 c.in_ok-subcommand-2.field-0 _ sim_command first sim c.in_ok-subcommand-2.ensures in
+    let third = knows_command c.in_ok-subcommand-2.field-0 c.in_ok-serve_command.field-0 c.in_ok-subcommand-3.field-0 _ serve_command second serve c.in_ok-subcommand-3.ensures in
     IfOk-weaker c.subcommand-4.result _ _
-    (λ command adds. knows_command c.in_ok-subcommand-3.field-0 c.in_ok-load_command.field-0 command _ load_command third (record { words = load.words; local = load.local }) adds) c.subcommand-4.ensures
+    (λ command adds. knows_command c.in_ok-subcommand-3.field-0 c.in_ok-load_command.field-0 command _ load_command third load adds) c.subcommand-4.ensures

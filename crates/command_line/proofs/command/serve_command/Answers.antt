@@ -3,8 +3,8 @@ use Rattle.std.proofs.lemmas.Result.{IfOk-weaker}
 use Rattle.clap.specs.Words.{AddsArg, new_app}
 use Rattle.clap.specs.Simple.{app_of_fields}
 use Rattle.clap.specs.declared.builder.command.Command.{Command}
-use Rattle.command_line.specs.Words.{pace_rules, serve_command, store_rules, with_rules}
-use Rattle.command_line.proofs.KnownWords.{Knows, knows_more}
+use Rattle.command_line.specs.Words.{Knows, pace_rules, serve_command, store_rules, with_rules}
+use Rattle.command_line.proofs.KnownWords.{knows_more}
 use Rattle.command_line.proofs.command.serve_command.Goals as goal
 
 known : (c : goal.After-arg-7) (command : Command) → AddsArg c.in_ok-arg-5.field-0 c.tenants.result command → Knows command serve_command
@@ -26,5 +26,5 @@ known c command adds =
     let status = knows_more c.in_ok-with_pace.field-0 c.number-2.result c.in_ok-arg-5.field-0 _ _ paced c.number-2.ensures.rule c.number-2.ensures.local c.in_ok-arg-5.ensures in
     knows_more c.in_ok-arg-5.field-0 c.tenants.result command _ _ status c.tenants.ensures.rule c.tenants.ensures.local adds
 
-pub returns-clause-words : goal.returns-clause-words
-returns-clause-words c = IfOk-weaker c.arg-7.result _ _ (λ command adds. (known c command adds).words) c.arg-7.ensures
+pub returns : goal.returns
+returns c = IfOk-weaker c.arg-7.result _ _ (known c) c.arg-7.ensures

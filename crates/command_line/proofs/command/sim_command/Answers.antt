@@ -3,8 +3,8 @@ use Rattle.std.proofs.lemmas.Result.{IfOk-weaker}
 use Rattle.clap.specs.Words.{AddsArg, App}
 use Rattle.clap.specs.Simple.{app_of_fields}
 use Rattle.clap.specs.declared.builder.command.Command.{Command}
-use Rattle.command_line.specs.Words.{sim_command, store_rules, with_rules}
-use Rattle.command_line.proofs.KnownWords.{Knows, knows_more}
+use Rattle.command_line.specs.Words.{Knows, sim_command, store_rules, with_rules}
+use Rattle.command_line.proofs.KnownWords.{knows_more}
 use Rattle.command_line.proofs.command.sim_command.Goals as goal
 
 known : (c : goal.After-arg) (command : Command) → AddsArg c.in_ok-with_store.field-0 c.tenants.result command → Knows command sim_command
@@ -16,8 +16,5 @@ known c command adds =
     } in
     knows_more c.in_ok-with_store.field-0 c.tenants.result command _ _ store c.tenants.ensures.rule c.tenants.ensures.local adds
 
-pub returns-clause-words : goal.returns-clause-words
-returns-clause-words c = IfOk-weaker c.arg.result _ _ (λ command adds. (known c command adds).words) c.arg.ensures
-
-pub returns-clause-local : goal.returns-clause-local
-returns-clause-local c = IfOk-weaker c.arg.result _ _ (λ command adds. (known c command adds).local) c.arg.ensures
+pub returns : goal.returns
+returns c = IfOk-weaker c.arg.result _ _ (known c) c.arg.ensures

@@ -35,8 +35,12 @@ loop-option-preserved c =
       local = more.local;
     }
 
-pub returns-clause-words : goal.returns-clause-words
-returns-clause-words c =
+pub returns : goal.returns
+returns c =
     let made = c.loop-option.made in
-    sym (at_drop_all (λ (left : List NumberOption). with_rules (app_of made) (rules_of left)) c.args.options.now c.loop-option.option-index c.loop-option-test.false)
-    ∙ c.loop-option.invariant.words
+    record {
+      words =
+          sym (at_drop_all (λ (left : List NumberOption). with_rules (app_of made) (rules_of left)) c.args.options.now c.loop-option.option-index c.loop-option-test.false)
+          ∙ c.loop-option.invariant.words;
+      local = c.loop-option.invariant.local;
+    }
