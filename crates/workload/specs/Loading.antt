@@ -1,5 +1,5 @@
 -- What a load reports, and what one did that the words ask for.
-use Rattle.std.specs.Prelude.{◌≡◌, ◌<◌, ◌⊎◌, ◌-◌, ℕ, List, [], Option, Some, Result, Ok, Err, false, codes, length, map}
+use Rattle.std.specs.Prelude.{◌≡◌, ◌+◌, ◌<◌, ◌⊎◌, ◌-◌, ℕ, List, [], Option, Some, Result, Ok, Err, false, codes, length, map}
 use Rattle.std.specs.Prelude.{IsPermutation}
 use Rattle.std.specs.List.{range_with_len}
 use Rattle.std.specs.Io.KnownBytes.{Keeps}
@@ -16,7 +16,9 @@ use Rattle.partition.specs.declared.journal.Journal.{Journal}
 use Rattle.line_runs.specs.declared.fault.ProgramFault.{ProgramFault}
 use Rattle.line_runs.specs.declared.fault.ProgramFault.TheVariants.{OutOfMemory, Device}
 use Rattle.command_line.specs.declared.load_options.LoadOptions.{LoadOptions}
+use Rattle.server_verdicts.specs.Begun.{told_count}
 use Rattle.server_verdicts.specs.Verdicts.{TellsBegun, TellsEach, TellsVerdicts}
+use Rattle.workload.specs.declared.load.tally.Begun.{Begun}
 use Rattle.workload.specs.Rounds.{AreOfSeats, seats_of}
 use Rattle.workload.specs.Serving.{IsClosed, store_view}
 use Rattle.command_line.specs.Words.{AsksForLoad}
@@ -152,3 +154,9 @@ RunsLoad words old new ended =
     × AsksForLoad words parts limits names options
     × HasLoaded (store_view parts limits names options.queue options.every options.epoch) (load_view options)
     names old new ended
+
+-- so many more were begun, up to the greatest number of each
+pub record CountsMore (old : Begun) (more_puts more_gets more_finds : ℕ) (new : Begun) : Type 0 where
+  pub puts : new.puts ≡ told_count (old.puts + more_puts)
+  pub gets : new.gets ≡ told_count (old.gets + more_gets)
+  pub finds : new.finds ≡ told_count (old.finds + more_finds)

@@ -1,7 +1,8 @@
 -- What a server reports about itself, and what one did that the words ask for.
-use Rattle.std.specs.Prelude.{◌≡◌, ◌⊎◌, ℕ, ◌<◌, ◌^◌, ◌++◌, length, List, Option, Result, Ok, Err}
+use Rattle.std.specs.Prelude.{◌≡◌, ◌⊎◌, ℕ, ◌<◌, ◌≤◌, ◌^◌, ◌++◌, length, List, Option, Result, Ok, Err, IfOk, IfErr, OnOk}
 use Rattle.std.specs.Prelude.{codes, decimal, if◌then◌else◌, map, nat_lt, take}
 use Rattle.std.specs.Io.KnownBytes.{Appends, Keeps}
+use Rattle.stamps.specs.Bounds.{IsParts}
 use Rattle.stamps.specs.declared.bounds.Limits.{Limits}
 use Rattle.hub.specs.Hubs.{AllSoundBooks, ConfigView, config_view}
 use Rattle.closed_store.specs.declared.closed.Closed.{Closed}
@@ -10,11 +11,12 @@ use Rattle.line_runs.specs.Statuses.{status_of}
 use Rattle.line_runs.specs.declared.fault.ProgramFault.{ProgramFault}
 use Rattle.line_runs.specs.declared.fault.ProgramFault.TheVariants.{LineTooLong, Cut, Settle, Options}
 use Rattle.line_runs.specs.declared.fault.ProgramFault.TheVariants.{OutOfMemory, Device}
+use Rattle.command_line.specs.declared.options.StoreOptions.{StoreOptions}
 use Rattle.command_line.specs.declared.server_options.ServerOptions.{ServerOptions}
 use Rattle.server_verdicts.specs.declared.epochs.ending.LastEpochs.{LastEpochs}
 use Rattle.server_verdicts.specs.Judged.{AreLeft, TellsChecks}
 use Rattle.server_verdicts.specs.Verdicts.{TellsVerdicts}
-use Rattle.command_line.specs.Words.{AsksForServer}
+use Rattle.command_line.specs.Words.{AreTenants, AsksForServer}
 use Rattle.server_sessions.specs.Ports.{IsPortFor}
 
 -- the line that reports at which port a server listens
@@ -124,3 +126,35 @@ RunsServer words old new ended =
     × AsksForServer words parts limits names options
     × HasServed (store_view parts limits names options.queue options.every options.epoch) names old new ended
     × TellsPortFor options.port old new ended
+
+-- the server wrote so, and told a port as is asked
+pub record ServesAndTells (view : ConfigView) (names : List (List ℕ))
+    (TellsPort : Option (List ℕ) → Option (List ℕ) → Result (Unit {0}) ProgramFault → Type 0)
+    (old new : Option (List ℕ)) (ended : Result (Unit {0}) ProgramFault) : Type 0 where
+  pub served : HasServed view names old new ended
+  pub port : TellsPort old new ended
+
+-- what was written of this port went so
+pub record TellsOfPort (number : ℕ) (old new : Option (List ℕ)) (told : Result (Unit {0}) ProgramFault) : Type 0 where
+  pub listened : HasListened old new told
+  pub port : OnOk told (Appends old new (listening_line number))
+
+-- what was done is so, or there was no memory, or a device failed
+pub record DoneOrRefused {A : Type 0} (IsDone : A → Type 0) (result : Result A ProgramFault) : Type 0 where
+  pub done : IfOk result IsDone
+  pub refused : IfErr result (λ fault. (fault ≡ OutOfMemory) ⊎ (fault ≡ Device))
+
+-- ---- what the words ask for
+
+-- a store has some partitions, and tenants that are named once each
+pub record IsAskedStore (store : StoreOptions) : Type 0 where
+  pub parts : IsParts store.parts
+  pub tenants : AreTenants store.names.items
+
+-- how many calls may wait at a partition, after how many it is collected, and after how many events a journal is cut
+pub record IsPace (queue every epoch : ℕ) : Type 0 where
+  pub some_room : 0 < queue
+  pub little_room : queue ≤ 1024
+  pub some_calls : 0 < every
+  pub few_calls : every ≤ 65536
+  pub few_events : epoch ≤ 1048576

@@ -1,10 +1,9 @@
 //! A load: seats that put, get and search as they draw it, and the verdict over what they were answered.
-ghost use Rattle.std.specs.Prelude.{◌≡◌, ◌≤◌, ◌<◌, ◌⊎◌, IfOk, IfErr, length};
+ghost use Rattle.std.specs.Prelude.{◌≡◌, ◌≤◌, ◌<◌, length};
 ghost use Rattle.workload.specs.Rounds.{AreOfSeats, seats_of};
 ghost use Rattle.hub.specs.Hubs.{config_view};
-ghost use Rattle.line_runs.specs.declared.fault.ProgramFault.TheVariants.{Device, OutOfMemory as NoMemory};
 ghost use Rattle.workload.specs.Loading.{HasLoaded, IsToldOfLoad};
-ghost use Rattle.workload.specs.Serving.{IsClosed};
+ghost use Rattle.workload.specs.Serving.{DoneOrRefused, IsClosed};
 
 mod all_there;
 mod joined;
@@ -122,12 +121,9 @@ fn run_store<
     orders: Orders,
 ) -> Result<Closed, ProgramFault>
     requires { seats ≤ 16 }
-    ensures closed { IfOk result (λ closed. IsClosed (config_view config) closed) }
-    ensures seats { IfOk result
-        (λ closed.
-        AreOfSeats orders.seed orders.rounds orders.keys
-        (seats_of (length config.limits.items) seats) closed.transcripts.items) }
-    ensures refused { IfErr result (λ fault. (fault ≡ NoMemory) ⊎ (fault ≡ Device)) }
+    ensures { DoneOrRefused (λ closed. IsClosed (config_view config) closed
+        × AreOfSeats orders.seed orders.rounds orders.keys
+        (seats_of (length config.limits.items) seats) closed.transcripts.items) result }
 {
     run_new::<Brand, S, H>(rt, alloc, NewStore::of(config), sink, seats, orders)
 }
@@ -147,9 +143,9 @@ fn run_new<
 ) -> Result<Closed, ProgramFault>
     requires seats { seats ≤ 16 }
     requires name { store.history.seen.book ≡ J.book }
-    ensures closed { IfOk result (λ closed. IsClosed (config_view store.config) closed) }
-    ensures seats { IfOk result (λ closed. AreOfSeats orders.seed orders.rounds orders.keys (seats_of (length store.config.limits.items) seats) closed.transcripts.items) }
-    ensures refused { IfErr result (λ fault. (fault ≡ NoMemory) ⊎ (fault ≡ Device)) }
+    ensures { DoneOrRefused (λ closed. IsClosed (config_view store.config) closed
+        × AreOfSeats orders.seed orders.rounds orders.keys
+        (seats_of (length store.config.limits.items) seats) closed.transcripts.items) result }
 {
     let tenants = store.config.limits.len() as u32;
     let hub = open_hub::<J, S, H>(rt, alloc, store, sink)?;

@@ -1,9 +1,8 @@
 //! A server: sessions over TCP, and the verdicts over the store that they left.
-ghost use Rattle.std.specs.Prelude.{◌≡◌, ◌<◌, ◌≤◌, ◌⊎◌, cond, Ok, Err, IfOk, IfErr, OnOk, string_bytes};
-ghost use Rattle.std.specs.Io.KnownBytes.{Appends};
+ghost use Rattle.std.specs.Prelude.{◌≡◌, ◌<◌, ◌≤◌, ◌⊎◌, cond, Ok, Err, IfOk, IfErr, string_bytes};
 ghost use Rattle.line_runs.specs.declared.fault.ProgramFault.TheVariants.{Device, OutOfMemory as NoMemory};
 ghost use Rattle.hub.specs.Hubs.{config_view};
-ghost use Rattle.workload.specs.Serving.{HasListened, HasServed, IsFaultBefore, TellsPortFirst, TellsPortFor, greater_fault, listening_line};
+ghost use Rattle.workload.specs.Serving.{DoneOrRefused, IsFaultBefore, ServesAndTells, TellsOfPort, TellsPortFirst, TellsPortFor, greater_fault, listening_line};
 ghost use Rattle.server_sessions.specs.Ports.{listener_of, options_of, port_of};
 
 use command_line::{ServerOptions, VERSION};
@@ -67,10 +66,8 @@ pub fn run_server<
     reader: &mut R,
     writer: &mut W,
 ) -> Result<(), ProgramFault>
-    ensures served { HasServed (config_view config) names.now (W.contents writer.old)
-        (W.contents writer.new) result }
-    ensures port { TellsPortFor options.port (W.contents writer.old)
-        (W.contents writer.new) result }
+    ensures { ServesAndTells (config_view config) names.now (TellsPortFor options.port)
+        (W.contents writer.old) (W.contents writer.new) result }
 {
     let Ok(listener) = Listener::bind(rt, options.port) else {
         return Err(ProgramFault::Device);
@@ -152,10 +149,9 @@ fn serve_and_settle<
 ) -> Result<(), ProgramFault>
     requires kept { store.config.epoch ≡ 0 }
     requires name { store.history.seen.book ≡ J.book }
-    ensures served { HasServed (config_view store.config) names.now (W.contents writer.old)
-        (W.contents writer.new) result }
-    ensures port { TellsPortFirst (port_of (listener_of server)) (W.contents writer.old)
-        (W.contents writer.new) result }
+    ensures { ServesAndTells (config_view store.config) names.now
+        (TellsPortFirst (port_of (listener_of server)))
+        (W.contents writer.old) (W.contents writer.new) result }
 {
     let hub = open_hub::<J, (), H>(rt, alloc, store, ())?;
     let reporting = Reporting {
@@ -192,10 +188,9 @@ fn serve_and_check<
 ) -> Result<(), ProgramFault>
     requires cut { 0 < store.config.epoch }
     requires name { store.history.seen.book ≡ J.book }
-    ensures served { HasServed (config_view store.config) names.now (W.contents writer.old)
-        (W.contents writer.new) result }
-    ensures port { TellsPortFirst (port_of (listener_of server)) (W.contents writer.old)
-        (W.contents writer.new) result }
+    ensures { ServesAndTells (config_view store.config) names.now
+        (TellsPortFirst (port_of (listener_of server)))
+        (W.contents writer.old) (W.contents writer.new) result }
 {
     let (hub, checking) = open_checked::<J, H>(rt, alloc, store)?;
     let reporting = Reporting {
@@ -255,8 +250,7 @@ fn open_checked<
     H: Threads + Wait + Clone + Send + Sync + Drop + 'static,
 >(rt: &H, alloc: Global, store: NewStore) -> Result<(OpenHub<J>, Checking), ProgramFault>
     requires { store.history.seen.book ≡ J.book }
-    ensures opened { IfOk result (λ r. r.0 ≡ config_view store.config) }
-    ensures refused { IfErr result (λ fault. (fault ≡ NoMemory) ⊎ (fault ≡ Device)) }
+    ensures { DoneOrRefused (λ r. r.0 ≡ config_view store.config) result }
 {
     let limits = store.config.limits.as_slice();
     let (checking, checker) = match Checking::start(rt, alloc, store.config.parts, limits) {
@@ -281,8 +275,7 @@ pub(crate) fn open_hub<
     H: Threads + Wait + Clone + Send + Drop + 'static,
 >(rt: &H, alloc: Global, store: NewStore, sink: S) -> Result<OpenHub<J>, ProgramFault>
     requires { store.history.seen.book ≡ J.book }
-    ensures opened { IfOk result (λ hub. hub ≡ config_view store.config) }
-    ensures refused { IfErr result (λ fault. (fault ≡ NoMemory) ⊎ (fault ≡ Device)) }
+    ensures { DoneOrRefused (λ hub. hub ≡ config_view store.config) result }
 {
     match Hub::open(rt, alloc, store, Named::<J, Open>::new(Open), sink) {
         Ok(hub) => Ok(hub),
@@ -302,10 +295,8 @@ fn serve_all<J: Naming + Send + Sync, H: Threads + Wait + Clock + Sync, R: Read,
     reader: &mut R,
     writer: &mut W,
 ) -> Result<(), ProgramFault>
-    ensures listened { HasListened (W.contents writer.old) (W.contents writer.new) result }
-    ensures port { OnOk result
-        (Appends (W.contents writer.old) (W.contents writer.new)
-        (listening_line (port_of (listener_of server.now)))) }
+    ensures { TellsOfPort (port_of (listener_of server.now))
+        (W.contents writer.old) (W.contents writer.new) result }
 {
     tell_port(alloc, server.listener().port(), writer)?;
     let Some(port) = reporting.port else {
@@ -337,9 +328,7 @@ fn seconds_now<H: Clock>(rt: &H) -> u64 {
 
 // Whoever waits for the port gets it at once.
 fn tell_port<W: Write>(alloc: Global, port: u16, writer: &mut W) -> Result<(), ProgramFault>
-    ensures listened { HasListened (W.contents writer.old) (W.contents writer.new) result }
-    ensures port { OnOk result
-        (Appends (W.contents writer.old) (W.contents writer.new) (listening_line port)) }
+    ensures { TellsOfPort port (W.contents writer.old) (W.contents writer.new) result }
 {
     let line = listening_line(alloc, port)?;
     let Ok(()) = write_text(writer, line.as_bytes()) else {

@@ -1,14 +1,13 @@
 //! The program as its words ask for it.
-ghost use Rattle.std.specs.Prelude.{◌≡◌, ◌<◌, ◌≤◌, ◌⊎◌, Result, IfOk, map, string_bytes};
+ghost use Rattle.std.specs.Prelude.{◌≡◌, ◌<◌, ◌⊎◌, Result, IfOk, map, string_bytes};
 ghost use Rattle.std.specs.Io.KnownBytes.{Keeps};
 ghost use Rattle.line_runs.specs.declared.fault.ProgramFault.{ProgramFault as Fault};
 ghost use Rattle.workload.specs.Program.{Runs, ended_as};
 ghost use Rattle.workload.specs.Loading.{HasLoaded, RunsLoad, load_view};
-ghost use Rattle.workload.specs.Serving.{HasServed, RunsServer, TellsPortFor, store_view};
+ghost use Rattle.workload.specs.Serving.{IsAskedStore, IsPace, RunsServer, ServesAndTells, TellsPortFor, store_view};
 ghost use Rattle.line_runs.specs.Statuses.{IsHelpStatus, exit_status};
-ghost use Rattle.command_line.specs.Words.{AreTenants, AsksForHelp, AsksForVersion};
+ghost use Rattle.command_line.specs.Words.{AsksForHelp, AsksForVersion};
 ghost use Rattle.hub.specs.Hubs.{config_view};
-ghost use Rattle.stamps.specs.Bounds.{IsParts};
 
 use crate::load::run_load;
 use crate::serve::run_server;
@@ -147,14 +146,11 @@ fn serve_store<
     reader: &mut R,
     writer: &mut W,
 ) -> Result<(), ProgramFault>
-    requires parts { IsParts store.now.parts }
-    requires tenants { AreTenants store.now.names.items }
-    ensures served { let names = store.now.names.items in
-        HasServed (store_view store.now.parts store.now.limits names
-        options.queue options.every options.epoch) names
+    requires { IsAskedStore store.now }
+    ensures { let names = store.now.names.items in
+        ServesAndTells (store_view store.now.parts store.now.limits names
+        options.queue options.every options.epoch) names (TellsPortFor options.port)
         (W.contents writer.old) (W.contents writer.new) result }
-    ensures port { TellsPortFor options.port (W.contents writer.old)
-        (W.contents writer.new) result }
 {
     let config = config_of(alloc, store, options.queue, options.every, options.epoch)?;
     let names = store.names.as_slice();
@@ -169,8 +165,7 @@ fn load_store<H: Threads + Wait + Clone + Send + Sync + Drop + 'static, W: Write
     options: LoadOptions,
     writer: &mut W,
 ) -> Result<(), ProgramFault>
-    requires parts { IsParts store.now.parts }
-    requires tenants { AreTenants store.now.names.items }
+    requires { IsAskedStore store.now }
     ensures { let names = store.now.names.items in
         HasLoaded (store_view store.now.parts store.now.limits names
         options.queue options.every options.epoch) (load_view options) names
@@ -200,13 +195,8 @@ fn config_of(
     every: u32,
     epoch: u32,
 ) -> Result<Config, AllocError>
-    requires parts { IsParts store.now.parts }
-    requires tenants { AreTenants store.now.names.items }
-    requires some_room { 0 < queue }
-    requires little_room { queue ≤ 1024 }
-    requires some_calls { 0 < every }
-    requires few_calls { every ≤ 65536 }
-    requires few_events { epoch ≤ 1048576 }
+    requires store { IsAskedStore store.now }
+    requires pace { IsPace queue every epoch }
     ensures { IfOk result (λ config. config_view config
         ≡ store_view store.now.parts store.now.limits store.now.names.items queue every epoch) }
 {

@@ -1,11 +1,12 @@
 //! The seats of a load, each of which does its rounds in a thread of its own.
-ghost use Rattle.std.specs.Prelude.{◌≡◌, ◌≤◌, ◌<◌, ◌⊎◌, ◌++◌, ◌∷◌, [], All, IfOk, IfErr, IfSome, false, map, true};
+ghost use Rattle.std.specs.Prelude.{◌≡◌, ◌≤◌, ◌<◌, ◌++◌, ◌∷◌, [], All, IfOk, IfErr, IfSome, false, map, true};
 ghost use Rattle.std.specs.List.{filter_map};
 ghost use Rattle.line_runs.specs.declared.fault.ProgramFault.TheVariants.{Device, OutOfMemory as NoMemory};
 ghost use Rattle.plain_store.specs.declared.answer.Answer.{Answer as Told};
 ghost use Rattle.closed_store.specs.declared.transcript.Transcript.{Transcript as Left};
 ghost use Rattle.hub.specs.Seats.{IsNamed};
 ghost use Rattle.server_sessions.specs.Telling.{IsServed};
+ghost use Rattle.workload.specs.Serving.{DoneOrRefused};
 ghost use Rattle.workload.specs.Rounds.{AreOfSeats, ArePicked, IsOfSeat, act_in, act_of_round, acts_drawn, seats_of};
 
 use crate::load::mix::{Draws, Round, RoundKind, four_keys, items_of, tag_of};
@@ -58,9 +59,9 @@ pub(crate) fn run_seats<J: Naming + Send + Sync, H: Threads + Wait + Sync>(
 ) -> Result<Vec<Transcript>, ProgramFault>
     requires tenants { tenants ≤ 64 }
     requires seats { seats ≤ 16 }
-    ensures all { IfOk result
-        (λ ts. AreOfSeats orders.seed orders.rounds orders.keys (seats_of tenants seats) ts.items) }
-    ensures refused { IfErr result (λ fault. (fault ≡ NoMemory) ⊎ (fault ≡ Device)) }
+    ensures { DoneOrRefused
+        (λ ts. AreOfSeats orders.seed orders.rounds orders.keys (seats_of tenants seats) ts.items)
+        result }
 {
     thread::scope(
         thread::scope_env(),
@@ -68,11 +69,9 @@ pub(crate) fn run_seats<J: Naming + Send + Sync, H: Threads + Wait + Sync>(
         |scope| -> Result<Vec<Transcript>, ProgramFault>
             requires tenants { tenants ≤ 64 }
             requires seats { seats ≤ 16 }
-            ensures all { IfOk result
-                (λ ts.
-                AreOfSeats orders.seed orders.rounds orders.keys
-                (seats_of tenants seats) ts.items) }
-            ensures refused { IfErr result (λ fault. (fault ≡ NoMemory) ⊎ (fault ≡ Device)) }
+            ensures { DoneOrRefused
+                (λ ts. AreOfSeats orders.seed orders.rounds orders.keys
+                (seats_of tenants seats) ts.items) result }
         {
             let Ok(mut handles) = Vec::with_capacity(alloc, tenants as usize * usize::from(seats))
             else {

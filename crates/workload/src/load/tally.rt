@@ -1,7 +1,8 @@
 //! What is reported of a load: how many operations the seats of each tenant began.
 ghost use Rattle.std.specs.Prelude.{◌≡◌, ◌+◌, ◌++◌, IfErr, OnOk, decimal, sum_by};
 ghost use Rattle.std.specs.Io.KnownBytes.{Appends};
-ghost use Rattle.server_verdicts.specs.Begun.{counts_begun, counts_in, counts_of, counts_of_entry, counts_of_operation, told_count};
+ghost use Rattle.server_verdicts.specs.Begun.{counts_begun, counts_in, counts_of, counts_of_entry, counts_of_operation};
+ghost use Rattle.workload.specs.Loading.{CountsMore};
 ghost use Rattle.server_verdicts.specs.Verdicts.{BreaksOff, TellsBegun, load_line};
 
 use hub::{Closed, EntryList, Operation, Transcript};
@@ -65,12 +66,9 @@ fn count_in(transcripts: &[Transcript], tenant: u32) -> Begun
 impl Begun {
     /// With the operations that a session began, where it is of this tenant.
     fn with_session(self, tenant: u32, transcript: &Transcript) -> Begun
-        ensures puts { result.puts
-            ≡ told_count (self.puts + counts_begun (λ c. c.puts) tenant transcript.now) }
-        ensures gets { result.gets
-            ≡ told_count (self.gets + counts_begun (λ c. c.gets) tenant transcript.now) }
-        ensures finds { result.finds
-            ≡ told_count (self.finds + counts_begun (λ c. c.finds) tenant transcript.now) }
+        ensures { CountsMore self (counts_begun (λ c. c.puts) tenant transcript.now)
+            (counts_begun (λ c. c.gets) tenant transcript.now)
+            (counts_begun (λ c. c.finds) tenant transcript.now) result }
     {
         if transcript.tenant == tenant {
             self.with_all(&transcript.entries)
@@ -81,12 +79,9 @@ impl Begun {
 
     /// With the operations that these entries say were begun.
     fn with_all(self, entries: &EntryList) -> Begun
-        ensures puts { result.puts
-            ≡ told_count (self.puts + sum_by (λ e. (counts_of_entry e).puts) entries.now.items) }
-        ensures gets { result.gets
-            ≡ told_count (self.gets + sum_by (λ e. (counts_of_entry e).gets) entries.now.items) }
-        ensures finds { result.finds
-            ≡ told_count (self.finds + sum_by (λ e. (counts_of_entry e).finds) entries.now.items) }
+        ensures { CountsMore self (sum_by (λ e. (counts_of_entry e).puts) entries.now.items)
+            (sum_by (λ e. (counts_of_entry e).gets) entries.now.items)
+            (sum_by (λ e. (counts_of_entry e).finds) entries.now.items) result }
     {
         let mut begun = self;
         for at in 0..entries.len() {
@@ -97,10 +92,8 @@ impl Begun {
 
     /// With an operation, if one was begun.
     fn with_operation(self, operation: Option<Operation>) -> Begun
-        ensures puts { result.puts ≡ told_count (self.puts + (counts_of_operation operation).puts) }
-        ensures gets { result.gets ≡ told_count (self.gets + (counts_of_operation operation).gets) }
-        ensures finds { result.finds
-            ≡ told_count (self.finds + (counts_of_operation operation).finds) }
+        ensures { let one = counts_of_operation operation in
+            CountsMore self one.puts one.gets one.finds result }
     {
         let Begun { puts, gets, finds } = self;
         match operation {

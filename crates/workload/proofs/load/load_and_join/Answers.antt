@@ -8,8 +8,8 @@ pub returns : goal.returns
 returns g c =
     inr (
       c.in_ok-closed.closed,
-      c.in_ok-closed.ensures.closed,
-      c.in_ok-closed.ensures.seats,
+      c.in_ok-closed.ensures.done.0,
+      c.in_ok-closed.ensures.done.1,
       record { whole = λ never. absurd (omega (arith, never, c.requires.cut)); cut = λ cut. (c.in_ok-epochs.epochs.items, c.in_ok-epochs.ensures.all, c.tell_kept.ensures) },
     )
 

@@ -6,7 +6,7 @@ use Rattle.workload.proofs.load.load_and_settle.Goals as goal
 
 pub returns : goal.returns
 returns g c =
-    inr (c.in_ok-closed.closed, c.in_ok-closed.ensures.closed, c.in_ok-closed.ensures.seats, record { whole = λ never. c.tell_load.ensures; cut = λ cut. absurd (omega (arith, cut, c.requires.never)) })
+    inr (c.in_ok-closed.closed, c.in_ok-closed.ensures.done.0, c.in_ok-closed.ensures.done.1, record { whole = λ never. c.tell_load.ensures; cut = λ cut. absurd (omega (arith, cut, c.requires.never)) })
 
 pub returns-in_err-closed : goal.returns-in_err-closed
 returns-in_err-closed g c =
