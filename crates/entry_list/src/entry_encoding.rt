@@ -5,7 +5,7 @@ ghost use Rattle.entry_list.specs.LentActs.{act_lent};
 ghost use Rattle.entry_list.specs.Sizes.{max_took_bytes, max_answered_bytes};
 
 use crate::kinds::{Entry, LentAct};
-use packed::{Buffer, MAX_NUMBER_BYTES, put_number};
+use packed::{Buffer, MAX_NUMBER_BYTES, PackEntry, put_number};
 use packed_steps::{
     MAX_ANSWER_BYTES, MAX_REPLY_BYTES, put_act, put_answer, put_find_act, put_get_act, put_put_act,
     put_reply,
@@ -31,6 +31,53 @@ pub fn put_began(out: &mut Buffer, act: &LentAct<'_>) -> Result<(), AllocError>
         LentAct::Get(client, keys) => put_get_act(out, *client, keys),
         LentAct::Find(client, tag) => put_find_act(out, *client, tag),
         LentAct::Whole(act) => put_act(out, act),
+    }
+}
+
+/// The parts of a reply's entry.
+#[derive(Drop)]
+pub(crate) struct TookParts<'a> {
+    pub(crate) number: u64,
+    pub(crate) partition: u32,
+    pub(crate) place: u64,
+    pub(crate) reply: &'a Reply,
+}
+
+impl<'a> PackEntry for TookParts<'a> {
+    ghost use Rattle.entry_list.specs.declared.kinds.Entry.TheVariants.{Took};
+    ghost use Rattle.entry_list.specs.PackedEntries.{packed_entry, IsStoreEntry};
+    ghost use Rattle.entry_list.specs.Sizes.{max_took_bytes};
+
+    ghost packed_as = { λ e. packed_entry (Took e.number e.partition e.place e.reply.now) };
+
+    ghost most_bytes = { λ e. max_took_bytes };
+
+    ghost is_stored = { λ e. IsStoreEntry (Took e.number e.partition e.place e.reply.now) };
+
+    fn put(&self, out: &mut Buffer) {
+        put_took(out, self.number, self.partition, self.place, self.reply);
+    }
+}
+
+/// The parts of an answer's entry.
+#[derive(Drop)]
+pub(crate) struct AnsweredParts<'a> {
+    pub(crate) answer: &'a Answer,
+}
+
+impl<'a> PackEntry for AnsweredParts<'a> {
+    ghost use Rattle.entry_list.specs.declared.kinds.Entry.TheVariants.{Answered};
+    ghost use Rattle.entry_list.specs.PackedEntries.{packed_entry, IsStoreEntry};
+    ghost use Rattle.entry_list.specs.Sizes.{max_answered_bytes};
+
+    ghost packed_as = { λ e. packed_entry (Answered e.answer.now) };
+
+    ghost most_bytes = { λ e. max_answered_bytes };
+
+    ghost is_stored = { λ e. IsStoreEntry (Answered e.answer.now) };
+
+    fn put(&self, out: &mut Buffer) {
+        put_answered(out, self.answer);
     }
 }
 

@@ -4,9 +4,7 @@ ghost use Rattle.entry_list.specs.LentActs.{act_lent};
 ghost use Rattle.entry_list.specs.PackedEntries.{taken_of, answer_of, operation_of, entry_in, IsPackedEntry};
 
 use crate::entry_decoding::{answer_in, operation_in, taken_in, unpacked};
-use crate::entry_encoding::{
-    MAX_ANSWERED_BYTES, MAX_TOOK_BYTES, put_answered, put_began, put_took,
-};
+use crate::entry_encoding::{AnsweredParts, MAX_TOOK_BYTES, TookParts, put_began};
 use crate::kinds::{Entry, LentAct, Operation, Taken};
 use packed::{Buffer, PackedList};
 use plain_store::{Act, Answer, Reply};
@@ -18,7 +16,7 @@ use std::marker::Model;
 /// takes the room of 5.
 pub struct EntryList {
     list: PackedList,
-    // Where an entry is packed first.
+    // Where the entry that an operation began is packed first.
     scratch: Buffer,
     room: usize,
 }
@@ -37,14 +35,13 @@ impl Drop for EntryList {
 impl Model for EntryList {
     ghost use Rattle.std.specs.Prelude.{◌*◌, ◌<◌, ◌≤◌};
     ghost use Rattle.entry_list.specs.PackedEntries.{ArePackedEntries, EntriesView, entries_in};
-    ghost use Rattle.entry_list.specs.Sizes.{max_took_bytes, max_answered_bytes};
+    ghost use Rattle.entry_list.specs.Sizes.{max_took_bytes};
 
     ghost Value = { EntriesView };
 
     ghost view = { λ l. record { items = entries_in l.list.items; room = l.room } };
 
-    ghost invariant = { λ l. ArePackedEntries l.list.items × (l.room ≤ l.list.places) × (max_took_bytes * l.room ≤ l.list.bytes)
-        × (0 < l.room → max_answered_bytes ≤ l.scratch.capacity) };
+    ghost invariant = { λ l. ArePackedEntries l.list.items × (l.room ≤ l.list.places) × (max_took_bytes * l.room ≤ l.list.bytes) };
 }
 
 impl EntryList {
@@ -149,8 +146,6 @@ impl EntryList {
         ensures room { OnOk result (self.new.room ≡ room) }
     {
         self.room = 0;
-        self.scratch.clear();
-        self.scratch.reserve(MAX_ANSWERED_BYTES)?;
         self.list.reserve(room, MAX_TOOK_BYTES * room)?;
         self.room = room;
         Ok(())
@@ -167,7 +162,6 @@ impl EntryList {
         self.room = 0;
         self.scratch.clear();
         put_began(&mut self.scratch, act)?;
-        self.scratch.reserve(MAX_ANSWERED_BYTES)?;
         let entry = self.scratch.as_slice();
         self.list
             .reserve(room + 1, MAX_TOOK_BYTES * room + entry.len())?;
@@ -182,9 +176,13 @@ impl EntryList {
         ensures items { self.new.items ≡ self.old.items ++ Entry.Took number partition place reply.now ∷ [] }
         ensures room { self.new.room + 1 ≡ self.old.room }
     {
-        self.scratch.clear();
-        put_took(&mut self.scratch, number, partition, place, reply);
-        self.list.push_reserved(self.scratch.as_slice());
+        let parts = TookParts {
+            number,
+            partition,
+            place,
+            reply,
+        };
+        self.list.push_packed(&parts);
         self.room -= 1;
     }
 
@@ -194,9 +192,8 @@ impl EntryList {
         ensures items { self.new.items ≡ self.old.items ++ Entry.Answered answer.now ∷ [] }
         ensures room { self.new.room + 5 ≡ self.old.room }
     {
-        self.scratch.clear();
-        put_answered(&mut self.scratch, answer);
-        self.list.push_reserved(self.scratch.as_slice());
+        let parts = AnsweredParts { answer };
+        self.list.push_packed(&parts);
         self.room -= 5;
     }
 

@@ -1,5 +1,5 @@
 //! Bytes that are put one behind the other.
-ghost use Rattle.std.specs.Prelude.{◌≡◌, ℕ, ◌+◌, ◌-◌, ◌<◌, ◌≤◌, ◌++◌, ◌∷◌, [], length, take, OnOk, vec_len, vec_capacity};
+ghost use Rattle.std.specs.Prelude.{◌≡◌, ◌+◌, ◌-◌, ◌<◌, ◌≤◌, ◌∷◌, [], length, take, OnOk, vec_len, vec_capacity};
 
 use crate::laying::{lay, lay_text};
 use std::alloc::{AllocError, Global};
@@ -30,6 +30,8 @@ impl Model for Buffer {
 }
 
 impl Buffer {
+    ghost use Rattle.packed.specs.Laying.{Grows};
+
     /// No bytes. It takes no memory.
     pub fn new(alloc: Global) -> Buffer
         ensures { result.items ≡ [] }
@@ -94,9 +96,7 @@ impl Buffer {
     #[inline(always)]
     pub fn push_reserved(&mut self, byte: u8)
         requires { length self.old.items < self.old.capacity }
-        ensures items { self.new.items ≡ self.old.items ++ byte ∷ [] }
-        ensures few { length self.new.items ≡ length self.old.items + 1 }
-        ensures capacity { self.old.capacity ≤ self.new.capacity }
+        ensures { Grows (byte ∷ []) 1 self.old self.new }
     {
         self.put_front(&[byte], 1);
     }
@@ -106,9 +106,7 @@ impl Buffer {
     pub fn put_front<const N: usize>(&mut self, all: &[u8; N], len: usize)
         requires fits { len ≤ N }
         requires room { length self.old.items + N ≤ self.old.capacity }
-        ensures items { self.new.items ≡ self.old.items ++ take len all.now }
-        ensures few { length self.new.items ≡ length self.old.items + len }
-        ensures capacity { self.old.capacity ≤ self.new.capacity }
+        ensures { Grows (take len all.now) len self.old self.new }
     {
         open(&mut self.bytes, self.len, N);
         lay(self.bytes.as_mut_slice(), self.len, all);
@@ -121,9 +119,7 @@ impl Buffer {
         requires fits { len ≤ N }
         requires short { N < 256 }
         requires room { length self.old.items + 1 + N ≤ self.old.capacity }
-        ensures items { self.new.items ≡ self.old.items ++ len ∷ take len all.now }
-        ensures few { length self.new.items ≡ length self.old.items + 1 + len }
-        ensures capacity { self.old.capacity ≤ self.new.capacity }
+        ensures { Grows (len ∷ take len all.now) (1 + len) self.old self.new }
     {
         open(&mut self.bytes, self.len, N + 1);
         self.len = lay_text(self.bytes.as_mut_slice(), self.len, all, len);
@@ -132,9 +128,7 @@ impl Buffer {
     /// Puts these bytes at the end, for which there is room.
     pub fn put_slice(&mut self, bytes: &[u8])
         requires { length self.old.items + length bytes.now ≤ self.old.capacity }
-        ensures items { self.new.items ≡ self.old.items ++ bytes.now }
-        ensures few { length self.new.items ≡ length self.old.items + length bytes.now }
-        ensures capacity { self.old.capacity ≤ self.new.capacity }
+        ensures { Grows bytes.now (length bytes.now) self.old self.new }
     {
         open(&mut self.bytes, self.len, bytes.len());
         lay(self.bytes.as_mut_slice(), self.len, bytes);

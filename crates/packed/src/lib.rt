@@ -4,12 +4,14 @@
 
 mod buffer;
 mod laying;
+mod pack_entry;
 mod packed_list;
 mod sizes;
 mod value_decoding;
 mod value_encoding;
 
 pub use buffer::Buffer;
+pub use pack_entry::PackEntry;
 pub use packed_list::PackedList;
 pub use sizes::{
     MAX_ITEM_BYTES, MAX_KEY_BYTES, MAX_KEYS_BYTES, MAX_NUMBER_BYTES, MAX_RECORD_BYTES, STAMP_BYTES,

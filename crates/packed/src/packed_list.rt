@@ -4,9 +4,9 @@ ghost use Rattle.packed.specs.Cuts.{IsCut, pieces, start_of};
 ghost use Rattle.packed.specs.Packing.{packed_record, IsStoreRecord};
 ghost use Rattle.packed.specs.Sizes.{max_record_bytes};
 
-use crate::Buffer;
 use crate::sizes::MAX_RECORD_BYTES;
 use crate::value_encoding::put_record;
+use crate::{Buffer, PackEntry};
 use stamps::Record;
 use std::alloc::{AllocError, Global};
 use std::marker::Model;
@@ -44,6 +44,11 @@ impl PackedList {
             bytes: Buffer::new(alloc),
             ends: Vec::new(alloc),
         }
+    }
+
+    /// Where its memory comes from.
+    pub fn alloc(&self) -> Global {
+        self.bytes.alloc()
     }
 
     /// The number of entries.
@@ -97,6 +102,20 @@ impl PackedList {
     {
         let _within = self.bytes.len();
         append(&mut self.bytes, &mut self.ends, entry);
+    }
+
+    /// Puts an entry at the end, packed where it stays. There is room for it, and for as many bytes as it may need. It takes no
+    /// memory.
+    pub fn push_packed<E: PackEntry>(&mut self, entry: &E)
+        requires place { 0 < self.old.places }
+        requires bytes { E.most_bytes entry.now ≤ self.old.bytes }
+        ensures items { self.new.items ≡ self.old.items ++ E.packed_as entry.now ∷ [] }
+        ensures stored { E.is_stored entry.now }
+        ensures places { self.old.places ≤ self.new.places + 1 }
+        ensures bytes { self.old.bytes ≤ self.new.bytes + E.most_bytes entry.now }
+    {
+        let _within = self.bytes.len();
+        append_packed(&mut self.bytes, &mut self.ends, entry);
     }
 
     /// Puts an entry at the end. At `Err` the entries are as they were.
@@ -215,6 +234,23 @@ fn append(bytes: &mut Buffer, ends: &mut Vec<usize>, piece: &[u8])
     ensures room { bytes.old.capacity ≤ bytes.new.capacity }
 {
     bytes.put_slice(piece);
+    ends.push_reserved(bytes.len());
+}
+
+/// Puts an entry at the end as a piece, packed where it stays, for which there is room.
+fn append_packed<E: PackEntry>(bytes: &mut Buffer, ends: &mut Vec<usize>, entry: &E)
+    requires cut { IsCut 0 ends.old.items (length bytes.old.items) }
+    requires place { vec_len ends.old < vec_capacity ends.old }
+    requires room { length bytes.old.items + E.most_bytes entry.now ≤ bytes.old.capacity }
+    ensures cut { IsCut 0 ends.new.items (length bytes.new.items) }
+    ensures items { pieces bytes.new.items 0 ends.new.items ≡ pieces bytes.old.items 0 ends.old.items ++ E.packed_as entry.now ∷ [] }
+    ensures stored { E.is_stored entry.now }
+    ensures ends { vec_len ends.new ≡ vec_len ends.old + 1 }
+    ensures bytes { length bytes.new.items ≤ length bytes.old.items + E.most_bytes entry.now }
+    ensures places { vec_capacity ends.old ≤ vec_capacity ends.new }
+    ensures room { bytes.old.capacity ≤ bytes.new.capacity }
+{
+    entry.put(bytes);
     ends.push_reserved(bytes.len());
 }
 

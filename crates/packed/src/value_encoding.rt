@@ -1,15 +1,15 @@
 //! Small values, put at the end of a buffer that has room for them.
-ghost use Rattle.std.specs.Prelude.{◌≡◌, ◌+◌, ◌*◌, ◌<◌, ◌≤◌, ◌++◌, ◌∷◌, [], length};
+ghost use Rattle.std.specs.Prelude.{◌+◌, ◌<◌, ◌≤◌, length};
 ghost use Rattle.std.specs.Int.{w64, to_le_bytes};
-ghost use Rattle.std.specs.List.{AllByRecursion, flat_map};
+ghost use Rattle.std.specs.List.{AllByRecursion};
 ghost use Rattle.stamps.specs.Limits.{max_keys};
 ghost use Rattle.stamps.specs.Stamp.{IsStamp};
 ghost use Rattle.stamps.specs.Key.{IsKey};
 ghost use Rattle.stamps.specs.Tag.{IsTag};
 ghost use Rattle.stamps.specs.Value.{IsValue};
-ghost use Rattle.stamps.specs.WriteSet.{IsWriteSet};
 ghost use Rattle.packed.specs.Packing.{packed_number, packed_text, packed_keys, packed_record, IsStoreRecord};
 ghost use Rattle.packed.specs.Sizes.{max_number_bytes, stamp_bytes, max_key_bytes, max_tag_bytes, max_value_bytes, max_keys_bytes, max_record_bytes};
+ghost use Rattle.packed.specs.Laying.{Puts, PutsValue};
 
 use crate::buffer::{Buffer, open};
 use crate::laying::{lay_keys, lay_record};
@@ -20,9 +20,7 @@ use stamps::{Key, Record, Stamp, Tag, Value};
 #[inline(always)]
 fn put_wide(out: &mut Buffer, number: u64)
     requires { length out.old.items + 8 ≤ out.old.capacity }
-    ensures packed { out.new.items ≡ out.old.items ++ to_le_bytes w64 number }
-    ensures few { length out.new.items ≤ length out.old.items + 8 }
-    ensures room { out.old.capacity ≤ out.new.capacity }
+    ensures { Puts (to_le_bytes w64 number) 8 out.old out.new }
 {
     out.put_front(&number.to_le_bytes(), 8);
 }
@@ -31,9 +29,7 @@ fn put_wide(out: &mut Buffer, number: u64)
 #[inline(always)]
 pub fn put_number(out: &mut Buffer, number: u64)
     requires { length out.old.items + max_number_bytes ≤ out.old.capacity }
-    ensures packed { out.new.items ≡ out.old.items ++ packed_number number }
-    ensures few { length out.new.items ≤ length out.old.items + max_number_bytes }
-    ensures room { out.old.capacity ≤ out.new.capacity }
+    ensures { Puts (packed_number number) max_number_bytes out.old out.new }
 {
     if number < 255 {
         out.push_reserved(number as u8);
@@ -47,10 +43,7 @@ pub fn put_number(out: &mut Buffer, number: u64)
 #[inline(always)]
 pub fn put_stamp(out: &mut Buffer, stamp: Stamp)
     requires { length out.old.items + stamp_bytes ≤ out.old.capacity }
-    ensures packed { out.new.items ≡ out.old.items ++ to_le_bytes w64 stamp }
-    ensures stored { IsStamp stamp }
-    ensures few { length out.new.items ≤ length out.old.items + stamp_bytes }
-    ensures room { out.old.capacity ≤ out.new.capacity }
+    ensures { PutsValue (to_le_bytes w64 stamp) stamp_bytes (IsStamp stamp) out.old out.new }
 {
     put_wide(out, stamp.number());
 }
@@ -59,10 +52,7 @@ pub fn put_stamp(out: &mut Buffer, stamp: Stamp)
 #[inline(always)]
 pub fn put_key(out: &mut Buffer, key: &Key)
     requires { length out.old.items + max_key_bytes ≤ out.old.capacity }
-    ensures packed { out.new.items ≡ out.old.items ++ packed_text key.now }
-    ensures stored { IsKey key.now }
-    ensures few { length out.new.items ≤ length out.old.items + max_key_bytes }
-    ensures room { out.old.capacity ≤ out.new.capacity }
+    ensures { PutsValue (packed_text key.now) max_key_bytes (IsKey key.now) out.old out.new }
 {
     out.put_text(key.padded(), key.len());
 }
@@ -71,10 +61,7 @@ pub fn put_key(out: &mut Buffer, key: &Key)
 #[inline(always)]
 pub fn put_tag(out: &mut Buffer, tag: &Tag)
     requires { length out.old.items + max_tag_bytes ≤ out.old.capacity }
-    ensures packed { out.new.items ≡ out.old.items ++ packed_text tag.now }
-    ensures stored { IsTag tag.now }
-    ensures few { length out.new.items ≤ length out.old.items + max_tag_bytes }
-    ensures room { out.old.capacity ≤ out.new.capacity }
+    ensures { PutsValue (packed_text tag.now) max_tag_bytes (IsTag tag.now) out.old out.new }
 {
     out.put_text(tag.padded(), tag.len());
 }
@@ -83,10 +70,8 @@ pub fn put_tag(out: &mut Buffer, tag: &Tag)
 #[inline(always)]
 pub fn put_value(out: &mut Buffer, value: &Value)
     requires { length out.old.items + max_value_bytes ≤ out.old.capacity }
-    ensures packed { out.new.items ≡ out.old.items ++ packed_text value.now }
-    ensures stored { IsValue value.now }
-    ensures few { length out.new.items ≤ length out.old.items + max_value_bytes }
-    ensures room { out.old.capacity ≤ out.new.capacity }
+    ensures { PutsValue (packed_text value.now) max_value_bytes
+        (IsValue value.now) out.old out.new }
 {
     out.put_text(value.padded(), value.len());
 }
@@ -95,10 +80,8 @@ pub fn put_value(out: &mut Buffer, value: &Value)
 pub fn put_keys(out: &mut Buffer, keys: &[Key])
     requires many { length keys.now ≤ max_keys }
     requires room { length out.old.items + max_keys_bytes ≤ out.old.capacity }
-    ensures packed { out.new.items ≡ out.old.items ++ packed_keys keys.now }
-    ensures stored { AllByRecursion IsKey keys.now }
-    ensures few { length out.new.items ≤ length out.old.items + max_keys_bytes }
-    ensures room { out.old.capacity ≤ out.new.capacity }
+    ensures { PutsValue (packed_keys keys.now) max_keys_bytes
+        (AllByRecursion IsKey keys.now) out.old out.new }
 {
     open(&mut out.bytes, out.len, MAX_KEYS_BYTES);
     out.len = lay_keys(out.bytes.as_mut_slice(), out.len, keys);
@@ -107,10 +90,8 @@ pub fn put_keys(out: &mut Buffer, keys: &[Key])
 /// A record, part by part. It takes up to `MAX_RECORD_BYTES`.
 pub fn put_record(out: &mut Buffer, version: &Record)
     requires { length out.old.items + max_record_bytes ≤ out.old.capacity }
-    ensures packed { out.new.items ≡ out.old.items ++ packed_record version.now }
-    ensures stored { IsStoreRecord version.now }
-    ensures few { length out.new.items ≤ length out.old.items + max_record_bytes }
-    ensures room { out.old.capacity ≤ out.new.capacity }
+    ensures { PutsValue (packed_record version.now) max_record_bytes
+        (IsStoreRecord version.now) out.old out.new }
 {
     open(&mut out.bytes, out.len, MAX_RECORD_BYTES);
     out.len = lay_record(out.bytes.as_mut_slice(), out.len, version);

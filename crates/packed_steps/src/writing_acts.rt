@@ -1,10 +1,11 @@
 //! Acts, packed at the end of bytes.
-ghost use Rattle.std.specs.Prelude.{◌≡◌, ◌+◌, ◌≤◌, ◌++◌, OnOk, length};
+ghost use Rattle.std.specs.Prelude.{◌+◌, ◌≤◌, length};
 ghost use Rattle.packed.specs.Packing.{packed_text};
 ghost use Rattle.packed.specs.Sizes.{max_item_bytes};
 ghost use Rattle.packed_steps.specs.Lists.{packed_list};
 ghost use Rattle.plain_store.specs.declared.step.Act.TheVariants.{Put, Get, Find};
 ghost use Rattle.packed_steps.specs.PackedActs.{packed_item, IsStoreItem, AreStoreItems, AreStoreKeys, packed_act, IsStoreAct};
+ghost use Rattle.packed.specs.Laying.{PutsIfOk, PutsValue};
 
 use packed::{
     Buffer, MAX_ITEM_BYTES, MAX_KEY_BYTES, MAX_NUMBER_BYTES, put_key, put_number, put_tag,
@@ -17,10 +18,8 @@ use std::alloc::AllocError;
 /// An item, part by part. It takes up to `MAX_ITEM_BYTES`.
 pub fn put_item(out: &mut Buffer, item: &Item)
     requires { length out.old.items + max_item_bytes ≤ out.old.capacity }
-    ensures packed { out.new.items ≡ out.old.items ++ packed_item item.now }
-    ensures stored { IsStoreItem item.now }
-    ensures few { length out.new.items ≤ length out.old.items + max_item_bytes }
-    ensures room { out.old.capacity ≤ out.new.capacity }
+    ensures { PutsValue (packed_item item.now) max_item_bytes
+        (IsStoreItem item.now) out.old out.new }
 {
     put_key(out, &item.key);
     put_tag(out, &item.tag);
@@ -29,8 +28,8 @@ pub fn put_item(out: &mut Buffer, item: &Item)
 
 /// Items behind their count. At `Err` some of their bytes may stand there.
 pub fn put_items(out: &mut Buffer, items: &[Item]) -> Result<(), AllocError>
-    ensures packed { OnOk result (out.new.items ≡ out.old.items ++ packed_list packed_item items.now) }
-    ensures stored { OnOk result (AreStoreItems items.now) }
+    ensures { PutsIfOk (packed_list packed_item items.now)
+        (AreStoreItems items.now) out.old out.new result }
 {
     out.reserve(MAX_NUMBER_BYTES)?;
     put_number(out, items.len() as u64);
@@ -43,8 +42,8 @@ pub fn put_items(out: &mut Buffer, items: &[Item]) -> Result<(), AllocError>
 
 /// Any number of keys behind their count. At `Err` some of their bytes may stand there.
 pub fn put_all_keys(out: &mut Buffer, keys: &[Key]) -> Result<(), AllocError>
-    ensures packed { OnOk result (out.new.items ≡ out.old.items ++ packed_list packed_text keys.now) }
-    ensures stored { OnOk result (AreStoreKeys keys.now) }
+    ensures { PutsIfOk (packed_list packed_text keys.now)
+        (AreStoreKeys keys.now) out.old out.new result }
 {
     out.reserve(MAX_NUMBER_BYTES)?;
     put_number(out, keys.len() as u64);
@@ -57,8 +56,8 @@ pub fn put_all_keys(out: &mut Buffer, keys: &[Key]) -> Result<(), AllocError>
 
 /// An act that writes these items. At `Err` some of its bytes may stand there, and so it is of the two below.
 pub fn put_put_act(out: &mut Buffer, client: Client, items: &[Item]) -> Result<(), AllocError>
-    ensures packed { OnOk result (out.new.items ≡ out.old.items ++ packed_act (Put client items.now)) }
-    ensures stored { OnOk result (IsStoreAct (Put client items.now)) }
+    ensures { PutsIfOk (packed_act (Put client items.now))
+        (IsStoreAct (Put client items.now)) out.old out.new result }
 {
     out.reserve(1 + MAX_NUMBER_BYTES)?;
     out.push_reserved(1);
@@ -68,8 +67,8 @@ pub fn put_put_act(out: &mut Buffer, client: Client, items: &[Item]) -> Result<(
 
 /// An act that reads these keys.
 pub fn put_get_act(out: &mut Buffer, client: Client, keys: &[Key]) -> Result<(), AllocError>
-    ensures packed { OnOk result (out.new.items ≡ out.old.items ++ packed_act (Get client keys.now)) }
-    ensures stored { OnOk result (IsStoreAct (Get client keys.now)) }
+    ensures { PutsIfOk (packed_act (Get client keys.now))
+        (IsStoreAct (Get client keys.now)) out.old out.new result }
 {
     out.reserve(1 + MAX_NUMBER_BYTES)?;
     out.push_reserved(2);
@@ -79,8 +78,8 @@ pub fn put_get_act(out: &mut Buffer, client: Client, keys: &[Key]) -> Result<(),
 
 /// An act that searches by this tag.
 pub fn put_find_act(out: &mut Buffer, client: Client, tag: &Tag) -> Result<(), AllocError>
-    ensures packed { OnOk result (out.new.items ≡ out.old.items ++ packed_act (Find client tag.now)) }
-    ensures stored { OnOk result (IsStoreAct (Find client tag.now)) }
+    ensures { PutsIfOk (packed_act (Find client tag.now))
+        (IsStoreAct (Find client tag.now)) out.old out.new result }
 {
     out.reserve(1 + 3 * MAX_NUMBER_BYTES)?;
     out.push_reserved(3);
@@ -91,8 +90,7 @@ pub fn put_find_act(out: &mut Buffer, client: Client, tag: &Tag) -> Result<(), A
 
 /// A byte for the form of the act, and its parts. At `Err` some of their bytes may stand there.
 pub fn put_act(out: &mut Buffer, act: &Act) -> Result<(), AllocError>
-    ensures packed { OnOk result (out.new.items ≡ out.old.items ++ packed_act act.now) }
-    ensures stored { OnOk result (IsStoreAct act.now) }
+    ensures { PutsIfOk (packed_act act.now) (IsStoreAct act.now) out.old out.new result }
 {
     out.reserve(1 + 3 * MAX_NUMBER_BYTES)?;
     match act {

@@ -1,10 +1,10 @@
 //! Answers, packed at the end of bytes that have room for them.
-ghost use Rattle.std.specs.Prelude.{◌≡◌, ◌+◌, ◌*◌, ◌<◌, ◌≤◌, ◌^◌, ◌++◌, ◌∷◌, [], length};
+ghost use Rattle.std.specs.Prelude.{◌+◌, ◌*◌, ◌≤◌, length};
 ghost use Rattle.stamps.specs.Limits.{max_keys};
-ghost use Rattle.plain_store.specs.Numbers.{number_of};
 ghost use Rattle.packed_steps.specs.Lists.{packed_list};
 ghost use Rattle.packed_steps.specs.Sizes.{max_rows_bytes, max_reading_bytes, max_readings_bytes, max_answer_bytes};
 ghost use Rattle.packed_steps.specs.PackedAnswers.{packed_rows, AreStoreRows, packed_reading, IsStoreReading, AreStoreReadings, packed_answer, IsStoreAnswer};
+ghost use Rattle.packed.specs.Laying.{PutsValue};
 
 use crate::writing_acts::put_item;
 use crate::writing_replies::put_reply;
@@ -14,10 +14,8 @@ use plain_store::{Answer, Reading, Rows};
 /// Rows. They take up to two numbers of `MAX_NUMBER_BYTES`.
 pub fn put_rows(out: &mut Buffer, rows: &Rows)
     requires { length out.old.items + max_rows_bytes ≤ out.old.capacity }
-    ensures packed { out.new.items ≡ out.old.items ++ packed_rows rows.now }
-    ensures stored { AreStoreRows rows.now }
-    ensures few { length out.new.items ≤ length out.old.items + max_rows_bytes }
-    ensures room { out.old.capacity ≤ out.new.capacity }
+    ensures { PutsValue (packed_rows rows.now) max_rows_bytes
+        (AreStoreRows rows.now) out.old out.new }
 {
     put_number(out, rows.first);
     put_number(out, rows.last);
@@ -26,10 +24,8 @@ pub fn put_rows(out: &mut Buffer, rows: &Rows)
 /// A reading. It takes up to `MAX_ITEM_BYTES + STAMP_BYTES`.
 pub fn put_reading(out: &mut Buffer, reading: &Reading)
     requires { length out.old.items + max_reading_bytes ≤ out.old.capacity }
-    ensures packed { out.new.items ≡ out.old.items ++ packed_reading reading.now }
-    ensures stored { IsStoreReading reading.now }
-    ensures few { length out.new.items ≤ length out.old.items + max_reading_bytes }
-    ensures room { out.old.capacity ≤ out.new.capacity }
+    ensures { PutsValue (packed_reading reading.now) max_reading_bytes
+        (IsStoreReading reading.now) out.old out.new }
 {
     put_item(out, &reading.item);
     put_stamp(out, reading.stamp);
@@ -39,10 +35,8 @@ pub fn put_reading(out: &mut Buffer, reading: &Reading)
 pub fn put_readings(out: &mut Buffer, readings: &[Reading])
     requires many { length readings.now ≤ max_keys }
     requires room { length out.old.items + max_readings_bytes ≤ out.old.capacity }
-    ensures packed { out.new.items ≡ out.old.items ++ packed_list packed_reading readings.now }
-    ensures stored { AreStoreReadings readings.now }
-    ensures few { length out.new.items ≤ length out.old.items + max_readings_bytes }
-    ensures room { out.old.capacity ≤ out.new.capacity }
+    ensures { PutsValue (packed_list packed_reading readings.now) max_readings_bytes
+        (AreStoreReadings readings.now) out.old out.new }
 {
     put_number(out, readings.len() as u64);
     for reading in readings {
@@ -53,10 +47,8 @@ pub fn put_readings(out: &mut Buffer, readings: &[Reading])
 /// A byte for the form of the answer, and its parts. It takes up to `MAX_ANSWER_BYTES`.
 pub fn put_answer(out: &mut Buffer, answer: &Answer)
     requires { length out.old.items + max_answer_bytes ≤ out.old.capacity }
-    ensures packed { out.new.items ≡ out.old.items ++ packed_answer answer.now }
-    ensures stored { IsStoreAnswer answer.now }
-    ensures few { length out.new.items ≤ length out.old.items + max_answer_bytes }
-    ensures room { out.old.capacity ≤ out.new.capacity }
+    ensures { PutsValue (packed_answer answer.now) max_answer_bytes
+        (IsStoreAnswer answer.now) out.old out.new }
 {
     match answer {
         Answer::Refused(refusal) => {

@@ -1,7 +1,8 @@
 //! Calls, packed at the end of bytes that have room for them.
-ghost use Rattle.std.specs.Prelude.{◌≡◌, ◌+◌, ◌≤◌, ◌++◌, length};
+ghost use Rattle.std.specs.Prelude.{◌+◌, ◌≤◌, length};
 ghost use Rattle.packed_steps.specs.PackedCalls.{packed_call, IsStoreCall};
 ghost use Rattle.packed_steps.specs.Sizes.{max_call_bytes};
+ghost use Rattle.packed.specs.Laying.{PutsValue};
 
 use packed::{Buffer, put_key, put_record, put_stamp, put_tag};
 use plain_store::Call;
@@ -9,10 +10,8 @@ use plain_store::Call;
 /// A byte for the form of the call, and its parts. It takes up to `MAX_CALL_BYTES`.
 pub fn put_call(out: &mut Buffer, call: &Call)
     requires { length out.old.items + max_call_bytes ≤ out.old.capacity }
-    ensures packed { out.new.items ≡ out.old.items ++ packed_call call.now }
-    ensures stored { IsStoreCall call.now }
-    ensures few { length out.new.items ≤ length out.old.items + max_call_bytes }
-    ensures room { out.old.capacity ≤ out.new.capacity }
+    ensures { PutsValue (packed_call call.now) max_call_bytes
+        (IsStoreCall call.now) out.old out.new }
 {
     match call {
         Call::Prepare(version) => {

@@ -1,8 +1,9 @@
 //! Replies, packed at the end of bytes that have room for them.
-ghost use Rattle.std.specs.Prelude.{◌≡◌, ◌+◌, ◌≤◌, ◌++◌, length};
+ghost use Rattle.std.specs.Prelude.{◌+◌, ◌≤◌, length};
 ghost use Rattle.plain_store.specs.declared.calls.Reply.TheVariants.{Prepare as ToPrepare, Get as ToGet, Discard as ToDiscard};
 ghost use Rattle.packed_steps.specs.PackedCalls.{packed_found, IsStoreFound, packed_reply, IsStoreReply};
 ghost use Rattle.packed_steps.specs.Sizes.{max_found_bytes, max_reply_bytes};
+ghost use Rattle.packed.specs.Laying.{Puts, PutsValue};
 
 use packed::{Buffer, put_keys, put_number, put_record, put_stamp};
 use plain_store::{DiscardReply, Found, PrepareReply, ReadReply, Reply};
@@ -10,10 +11,8 @@ use plain_store::{DiscardReply, Found, PrepareReply, ReadReply, Reply};
 /// What stands under a tag. It takes up to a number and `MAX_KEYS_BYTES`.
 pub fn put_found(out: &mut Buffer, found: &Found)
     requires { length out.old.items + max_found_bytes ≤ out.old.capacity }
-    ensures packed { out.new.items ≡ out.old.items ++ packed_found found.now }
-    ensures stored { IsStoreFound found.now }
-    ensures few { length out.new.items ≤ length out.old.items + max_found_bytes }
-    ensures room { out.old.capacity ≤ out.new.capacity }
+    ensures { PutsValue (packed_found found.now) max_found_bytes
+        (IsStoreFound found.now) out.old out.new }
 {
     let count = found.count();
     let keys = found.keys();
@@ -26,10 +25,8 @@ pub fn put_found(out: &mut Buffer, found: &Found)
 /// A byte for the form of the reply, and its parts. It takes up to `MAX_REPLY_BYTES`.
 pub fn put_reply(out: &mut Buffer, reply: &Reply)
     requires { length out.old.items + max_reply_bytes ≤ out.old.capacity }
-    ensures packed { out.new.items ≡ out.old.items ++ packed_reply reply.now }
-    ensures stored { IsStoreReply reply.now }
-    ensures few { length out.new.items ≤ length out.old.items + max_reply_bytes }
-    ensures room { out.old.capacity ≤ out.new.capacity }
+    ensures { PutsValue (packed_reply reply.now) max_reply_bytes
+        (IsStoreReply reply.now) out.old out.new }
 {
     match reply {
         Reply::Prepare(told) => put_prepare_reply(out, told),
@@ -52,9 +49,7 @@ pub fn put_reply(out: &mut Buffer, reply: &Reply)
 
 fn put_prepare_reply(out: &mut Buffer, reply: &PrepareReply)
     requires { length out.old.items + 1 ≤ out.old.capacity }
-    ensures packed { out.new.items ≡ out.old.items ++ packed_reply (ToPrepare reply.now) }
-    ensures few { length out.new.items ≤ length out.old.items + 1 }
-    ensures room { out.old.capacity ≤ out.new.capacity }
+    ensures { Puts (packed_reply (ToPrepare reply.now)) 1 out.old out.new }
 {
     let form = match reply {
         PrepareReply::Prepared => 0,
@@ -68,10 +63,8 @@ fn put_prepare_reply(out: &mut Buffer, reply: &PrepareReply)
 
 fn put_read_reply(out: &mut Buffer, reply: &ReadReply)
     requires { length out.old.items + max_reply_bytes ≤ out.old.capacity }
-    ensures packed { out.new.items ≡ out.old.items ++ packed_reply (ToGet reply.now) }
-    ensures stored { IsStoreReply (ToGet reply.now) }
-    ensures few { length out.new.items ≤ length out.old.items + max_reply_bytes }
-    ensures room { out.old.capacity ≤ out.new.capacity }
+    ensures { PutsValue (packed_reply (ToGet reply.now)) max_reply_bytes
+        (IsStoreReply (ToGet reply.now)) out.old out.new }
 {
     match reply {
         ReadReply::Version(version) => {
@@ -89,10 +82,8 @@ fn put_read_reply(out: &mut Buffer, reply: &ReadReply)
 
 fn put_discard_reply(out: &mut Buffer, reply: &DiscardReply)
     requires { length out.old.items + 10 ≤ out.old.capacity }
-    ensures packed { out.new.items ≡ out.old.items ++ packed_reply (ToDiscard reply.now) }
-    ensures stored { IsStoreReply (ToDiscard reply.now) }
-    ensures few { length out.new.items ≤ length out.old.items + 10 }
-    ensures room { out.old.capacity ≤ out.new.capacity }
+    ensures { PutsValue (packed_reply (ToDiscard reply.now)) 10
+        (IsStoreReply (ToDiscard reply.now)) out.old out.new }
 {
     match reply {
         DiscardReply::Dropped(count) => {

@@ -8,7 +8,7 @@ ghost use Rattle.partition.specs.PackedEvents.{packed_event, event_from, event_a
 ghost use Rattle.partition.specs.Sizes.{max_event_bytes};
 
 use crate::Event;
-use packed::{Buffer, MAX_NUMBER_BYTES, PackedList, put_number, read_number};
+use packed::{Buffer, MAX_NUMBER_BYTES, PackEntry, PackedList, put_number, read_number};
 use packed_steps::{MAX_CALL_BYTES, MAX_REPLY_BYTES, put_call, put_reply, read_call, read_reply};
 use plain_store::{Call, Reply};
 use std::alloc::{AllocError, Global};
@@ -21,17 +21,12 @@ const MAX_EVENT_BYTES: usize = 2 * MAX_NUMBER_BYTES + MAX_CALL_BYTES + MAX_REPLY
 /// without an allocation.
 pub struct EventList {
     list: PackedList,
-    // Where an event is packed first.
-    scratch: Buffer,
 }
 
 // What lies in it is released here, so that no crate above proves it anew.
 impl Drop for EventList {
     fn drop(self) {
-        let EventList {
-            list: _,
-            scratch: _,
-        } = self;
+        let EventList { list: _ } = self;
     }
 }
 
@@ -42,7 +37,7 @@ impl Model for EventList {
 
     ghost Value = { Happenings };
 
-    ghost view = { λ l. record { items = events_in l.list.items; has_room = nat_lt 0 l.list.places && (nat_le max_event_bytes l.list.bytes && nat_le max_event_bytes l.scratch.capacity) } };
+    ghost view = { λ l. record { items = events_in l.list.items; has_room = nat_lt 0 l.list.places && nat_le max_event_bytes l.list.bytes } };
 
     ghost invariant = { λ l. ArePackedEvents l.list.items };
 }
@@ -54,7 +49,6 @@ impl EventList {
     {
         EventList {
             list: PackedList::new(alloc),
-            scratch: Buffer::new(alloc),
         }
     }
 
@@ -71,7 +65,7 @@ impl EventList {
 
     /// Where its memory comes from.
     pub fn alloc(&self) -> Global {
-        self.scratch.alloc()
+        self.list.alloc()
     }
 
     /// The number of events.
@@ -158,11 +152,9 @@ impl EventList {
         ensures items { self.new.items ≡ self.old.items }
         ensures room { OnOk result (IsTrue self.new.has_room) }
     {
-        self.scratch.clear();
-        if self.list.has_room(1, MAX_EVENT_BYTES) && self.scratch.room() >= MAX_EVENT_BYTES {
+        if self.list.has_room(1, MAX_EVENT_BYTES) {
             return Ok(());
         }
-        self.scratch.reserve(MAX_EVENT_BYTES)?;
         self.list.reserve(1, MAX_EVENT_BYTES)?;
         Ok(())
     }
@@ -175,9 +167,13 @@ impl EventList {
             ≡ self.old.items ++ event seat number call.now reply.now ∷ [] }
         ensures few { length self.new.items < 2 ^ 63 }
     {
-        self.scratch.clear();
-        put_event(&mut self.scratch, seat, number, call, reply);
-        self.list.push_reserved(self.scratch.as_slice());
+        let parts = EventParts {
+            seat,
+            number,
+            call,
+            reply,
+        };
+        self.list.push_packed(&parts);
         let _few = self.list.len();
     }
 
@@ -207,11 +203,35 @@ impl EventList {
         ensures given { result.items ≡ self.old.items }
         ensures empty { self.new.items ≡ [] }
     {
-        let alloc = self.scratch.alloc();
         EventList {
             list: self.list.take(),
-            scratch: Buffer::new(alloc),
         }
+    }
+}
+
+/// The parts of an event.
+#[derive(Drop)]
+struct EventParts<'a> {
+    seat: u64,
+    number: u64,
+    call: &'a Call,
+    reply: &'a Reply,
+    ghost fits: { IsTrue (is_reply_to call.now reply.now) },
+}
+
+impl<'a> PackEntry for EventParts<'a> {
+    ghost use Rattle.partition.specs.Events.{event};
+    ghost use Rattle.partition.specs.PackedEvents.{packed_event, IsStoreEvent};
+    ghost use Rattle.partition.specs.Sizes.{max_event_bytes};
+
+    ghost packed_as = { λ e. packed_event (event e.seat e.number e.call.now e.reply.now) };
+
+    ghost most_bytes = { λ e. max_event_bytes };
+
+    ghost is_stored = { λ e. IsStoreEvent (event e.seat e.number e.call.now e.reply.now) };
+
+    fn put(&self, out: &mut Buffer) {
+        put_event(out, self.seat, self.number, self.call, self.reply);
     }
 }
 

@@ -10,19 +10,18 @@ pub invariant_of-self-2 : goal.invariant_of-self-2
 invariant_of-self-2 c =
     let e = Began (act_lent c.args.act.now) in
     let bytes = c.as_slice-entry.result.now in
-    let is : bytes ≡ packed_entry e = c.as_slice-entry.ensures.value ∙ c.in_ok-reserve.ensures.items ∙ c.in_ok-put_began.ensures.packed ∙ ap (λ (t : List ℕ). t ++ packed_entry e) c.clear.ensures.items in
-    let more = c.push_reserved.ensures.items ∙ ap (λ (ps : List (List ℕ)). ps ++ bytes ∷ []) c.in_ok-reserve-2.ensures.items in (
+    let is : bytes ≡ packed_entry e = c.as_slice-entry.ensures.value ∙ c.in_ok-put_began.ensures.packed ∙ ap (λ (t : List ℕ). t ++ packed_entry e) c.clear.ensures.items in
+    let more = c.push_reserved.ensures.items ∙ ap (λ (ps : List (List ℕ)). ps ++ bytes ∷ []) c.in_ok-reserve.ensures.items in (
       still_packed c.self.inside.list.items c.push_reserved.new.self.items e bytes c.self.invariant.0 c.in_ok-put_began.ensures.stored is more,
-      omega (arith, c.push_reserved.ensures.places, c.in_ok-reserve-2.ensures.places),
-      omega (arith, c.push_reserved.ensures.bytes, c.in_ok-reserve-2.ensures.bytes, c.as_slice-entry.ensures.len),
-      λ some. omega (arith, c.in_ok-reserve.ensures.ok),
+      omega (arith, c.push_reserved.ensures.places, c.in_ok-reserve.ensures.places),
+      omega (arith, c.push_reserved.ensures.bytes, c.in_ok-reserve.ensures.bytes, c.as_slice-entry.ensures.len),
     )
 
 pub returns-clause-ok : goal.returns-clause-ok
 returns-clause-ok c =
     let e = Began (act_lent c.args.act.now) in
     let bytes = c.as_slice-entry.result.now in
-    let is : bytes ≡ packed_entry e = c.as_slice-entry.ensures.value ∙ c.in_ok-reserve.ensures.items ∙ c.in_ok-put_began.ensures.packed ∙ ap (λ (t : List ℕ). t ++ packed_entry e) c.clear.ensures.items in
-    let more = c.push_reserved.ensures.items ∙ ap (λ (ps : List (List ℕ)). ps ++ bytes ∷ []) c.in_ok-reserve-2.ensures.items in
+    let is : bytes ≡ packed_entry e = c.as_slice-entry.ensures.value ∙ c.in_ok-put_began.ensures.packed ∙ ap (λ (t : List ℕ). t ++ packed_entry e) c.clear.ensures.items in
+    let more = c.push_reserved.ensures.items ∙ ap (λ (ps : List (List ℕ)). ps ++ bytes ∷ []) c.in_ok-reserve.ensures.items in
     grown c.self.inside.list.items c.push_reserved.new.self.items e bytes c.in_ok-put_began.ensures.stored is more
     ∙ ap (λ (v : EntriesView). v.items ++ e ∷ []) c.self.view_is
