@@ -1,9 +1,10 @@
 -- What a reader stands for.
-use Rattle.std.specs.Prelude.{◌≡◌, ℕ, List, [], ◌∷◌, ◌++◌, Bool, true, false, ◌||◌, ◌==◌, map, Option, Some, None}
+use Rattle.std.specs.Prelude.{◌≡◌, ◌≢◌, ◌+◌, ◌≤◌, ℕ, List, [], ◌∷◌, ◌++◌, Bool, true, false, ◌||◌, ◌==◌, map, Option, Some, None}
 use Rattle.std.specs.Prelude.{is_some, length, cond}
 use Rattle.std.specs.List.{list_any, list_all}
 use Rattle.stamps.specs.Record.{Record}
 use Rattle.plain_store.specs.declared.calls.Call.TheVariants.{Get}
+use Rattle.plain_store.specs.declared.calls.ReadReply.{ReadReply}
 use Rattle.plain_store.specs.declared.message.Message.{Message}
 use Rattle.plain_store.specs.declared.reading.Reading.{Reading}
 use Rattle.plain_store.specs.declared.refusal.Refusal.TheVariants.{Torn as IsTorn}
@@ -12,7 +13,7 @@ use Rattle.plain_store.specs.Writing.{Outgoing}
 use Rattle.plain_store.specs.Rounds.{seen_first, seen_second, needed, round_one_complete, shows_writes, round_of}
 use Rattle.plain_store.specs.Moves.{Move, Waits, Asks, Restarts, Fails, is_answered}
 use Rattle.get_all.specs.ReadProgress.{first_shows, has_first, late_by, readings_by}
-use Rattle.get_all.specs.Reading.{any_last, has_ended, read_answer, taken_with, ReadsWhole}
+use Rattle.get_all.specs.Reading.{any_last, has_ended, read_answer, taken_with, IsFirst, IsSecond, ReadsWhole}
 use Rattle.get_all.specs.declared.late.Late.{Late}
 use Rattle.get_all.specs.declared.read_progress.KeyProgress.{KeyProgress}
 use Rattle.get_all.specs.declared.reader.Reader.{Reader}
@@ -126,3 +127,13 @@ calls_asked (Read readings) = 0
 calls_asked (Restart key floor) = 0
 calls_asked Torn = 0
 calls_asked Ignored = 0
+
+-- The reply to the GET of a key in round 1 or 2 was offered to a reader, which takes it as the read does; in any other round it
+-- ignores it. What it asks for, and may ask for after it, is no more than what it might before.
+pub record TakesInRound (key : Key) (round : ℕ) (reply : ReadReply) (old : Reader) (move : ReadMove) (new : Reader) : Type 0 where
+  pub first : (keys : List Key) (taken : List Message) (message : Message) → round ≡ 1 → StandsFor keys old taken
+      → IsFirst key reply message → TakesRead keys taken message move new
+  pub second : (keys : List Key) (taken : List Message) (message : Message) → round ≡ 2 → StandsFor keys old taken
+      → IsSecond keys taken key reply message → TakesRead keys taken message move new
+  pub no_round : round ≢ 1 → round ≢ 2 → (move ≡ Ignored) × (new ≡ old)
+  pub few : calls_asked move + calls_left new ≤ calls_left old

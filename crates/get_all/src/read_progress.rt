@@ -1,10 +1,9 @@
 //! The keys of a read, and the replies that counted.
-ghost use Rattle.std.specs.Prelude.{◌≡◌, ◌<◌, ◌≤◌, length, map, max, cond, nat_lt, option_copied, slice_index_or, take};
+ghost use Rattle.std.specs.Prelude.{◌≡◌, true, ◌<◌, ◌≤◌, ◌+◌, ◌++◌, ◌∷◌, length, map, max, cond, nat_lt, option_copied, slice_index_or, take, drop};
 ghost use Rattle.std.specs.List.{list_any, list_all};
 ghost use Rattle.stamps.specs.Limits.{max_keys};
 ghost use Rattle.plain_store.specs.Rounds.{stamp_for, stamp_seen, reading_of, flat};
 ghost use Rattle.get_all.specs.declared.read_progress.KeyProgress.{KeyProgress};
-ghost use Rattle.plain_store.specs.Words.{item_of};
 ghost use Rattle.get_all.specs.ReadProgress.{slot_for, with_first, with_second, awaits_first, has_first, first_shows, needed_by, needed_stamps, awaits_second, is_answered_by, late_by, readings_by};
 
 use crate::record_place::{FirstShown, RecordPlace};
@@ -46,11 +45,19 @@ impl KeyProgress {
         self.second.clear();
     }
 
+    /// Whether what round one shows of this key is the first of it.
+    fn awaits_first(&self, key: &Key) -> bool
+        ensures { result ≡ awaits_first key.now self.now }
+    {
+        // A key is compared only where its reply is awaited.
+        self.first.is_none() && self.key == *key
+    }
+
     /// Takes what round one showed of a key: the first counts.
     fn take_first(&mut self, key: &Key, shown: Option<&Record>)
         ensures { self.new ≡ with_first key.now (option_copied shown.entry) self.old }
     {
-        if self.key == *key && self.first.is_none() {
+        if self.awaits_first(key) {
             self.first.put(shown);
         }
     }
@@ -104,15 +111,18 @@ impl KeyProgress {
         }
     }
 
-    /// What is read where this stamp is needed.
-    fn reading(&self, needed: Stamp) -> Reading
-        ensures { result ≡ reading_of self.now.key
+    /// Puts what is read where this stamp is needed at this place of the caller's buffer.
+    fn read_into(&self, needed: Stamp, at: usize, place: &mut Readings)
+        requires place { at ≤ length place.old }
+        requires room { at < max_keys }
+        ensures { place.new ≡ take at place.old
+            ++ (reading_of self.now.key
             (cond (nat_lt (stamp_seen self.now.first) needed) self.now.second
-            (flat self.now.first)) }
+            (flat self.now.first))) ∷ drop (at + 1) place.old }
     {
         match self.version(needed) {
-            Some(version) => reading_of(version),
-            None => initial(self.key),
+            Some(version) => place.put_record(at, version),
+            None => place.put(at, &initial(self.key)),
         }
     }
 
@@ -139,20 +149,6 @@ fn initial(key: Key) -> Reading
             value: Value::read(nothing).unwrap(),
         },
         stamp: Stamp::ZERO,
-    }
-}
-
-/// A record as it is read.
-fn reading_of(version: &Record) -> Reading
-    ensures { result ≡ record { item = item_of version.now; stamp = version.now.stamp } }
-{
-    Reading {
-        item: Item {
-            key: version.key,
-            tag: version.tag,
-            value: version.value,
-        },
-        stamp: version.stamp,
     }
 }
 
@@ -204,11 +200,12 @@ impl KeyProgressList {
         self.len = keys.len();
     }
 
-    /// Has each slot take what round one showed of the key.
-    fn take_first(&mut self, key: &Key, shown: Option<&Record>)
-        ensures { self.new ≡ map (with_first key.now (option_copied shown.entry)) self.old }
+    /// Has each slot take what round one showed of the key, and says whether round one is complete then.
+    fn take_first(&mut self, key: &Key, shown: Option<&Record>) -> bool
+        ensures slots { self.new ≡ map (with_first key.now (option_copied shown.entry)) self.old }
+        ensures shown { result ≡ list_all has_first self.new }
     {
-        take_first(&mut self.slots[..self.len], key, shown);
+        take_first(&mut self.slots[..self.len], key, shown)
     }
 
     /// Has each slot take what round two showed of the key.
@@ -339,12 +336,14 @@ impl ReadProgress {
         self.as_slice().iter().any(|slot| slot.shows(stamp, writes))
     }
 
-    /// Takes what round one showed of the key.
-    pub(crate) fn mark_first(&mut self, key: &Key, shown: Option<&Record>)
-        ensures { self.new ≡ map (with_first key.now (option_copied shown.entry)) self.old }
+    /// Takes what round one showed of the key, which is the first of it, and says whether round one is complete then.
+    pub(crate) fn mark_first(&mut self, key: &Key, shown: Option<&Record>) -> bool
+        requires { list_any (awaits_first key.now) self.old ≡ true }
+        ensures slots { self.new ≡ map (with_first key.now (option_copied shown.entry)) self.old }
+        ensures shown { result ≡ list_all has_first self.new }
     {
         raise_at_first(&mut self.needed, self.slots.as_slice(), key, shown);
-        self.slots.take_first(key, shown);
+        self.slots.take_first(key, shown)
     }
 
     /// Takes what round two showed of the key.
@@ -380,9 +379,9 @@ impl ReadProgress {
         ensures { place.new ≡ readings_by self.now }
     {
         let slots = self.as_slice();
-        place.clear();
+        place.truncate(slots.len());
         for (i, slot) in slots.iter().enumerate() {
-            place.push(&slot.reading(self.needed_at(i)));
+            slot.read_into(self.needed_at(i), i, place);
         }
     }
 }
@@ -419,26 +418,23 @@ fn reset_first(slots: &mut [KeyProgress], keys: &[Key])
 fn await_first(slots: &[KeyProgress], key: &Key) -> bool
     ensures { result ≡ list_any (awaits_first key.now) slots.now }
 {
-    slots
-        .iter()
-        .any(|slot| slot.key == *key && slot.first.is_none())
+    slots.iter().any(|slot| slot.awaits_first(key))
 }
 
-/// Raises what is needed of each slot's key by what round one showed of this key, where that is the first of it.
+/// Raises what is needed of each slot's key by what round one showed of this key, which is the first of it.
 fn raise_at_first(
     needed: &mut SmallList<Stamp, { ReadProgress::MAX_LEN }>,
     slots: &[KeyProgress],
     key: &Key,
     shown: Option<&Record>,
 )
-    requires { needed.old ≡ needed_stamps slots.now }
+    requires needed { needed.old ≡ needed_stamps slots.now }
+    requires first { list_any (awaits_first key.now) slots.now ≡ true }
     ensures { needed.new
         ≡ needed_stamps (map (with_first key.now (option_copied shown.entry)) slots.now) }
 {
     if let Some(version) = shown {
-        if await_first(slots, key) {
-            raise_each(needed, slots, version);
-        }
+        raise_each(needed, slots, version);
     }
 }
 
@@ -472,13 +468,17 @@ fn raised(needed: Stamp, key: &Key, version: &Record) -> Stamp
     }
 }
 
-/// Has each slot take what round one showed of the key.
-fn take_first(slots: &mut [KeyProgress], key: &Key, shown: Option<&Record>)
-    ensures { slots.new ≡ map (with_first key.now (option_copied shown.entry)) slots.old }
+/// Has each slot take what round one showed of the key, and says whether each has been shown then. It looks through them once.
+fn take_first(slots: &mut [KeyProgress], key: &Key, shown: Option<&Record>) -> bool
+    ensures slots { slots.new ≡ map (with_first key.now (option_copied shown.entry)) slots.old }
+    ensures shown { result ≡ list_all has_first slots.new }
 {
+    let mut are_shown = true;
     for slot in slots.iter_mut() {
         slot.take_first(key, shown);
+        are_shown &= slot.first.is_some();
     }
+    are_shown
 }
 
 /// Has each slot take what round two showed of the key.

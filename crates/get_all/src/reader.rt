@@ -60,14 +60,14 @@ fn is_of(version: &Record, key: &Key) -> bool
 }
 
 impl Reader {
-    ghost use Rattle.std.specs.Prelude.{◌≡◌, ◌≢◌, ◌+◌, ◌≤◌, true, false, ◌&&◌, ◌==◌, ◌↔◌, List, map, length, bytes_eq, option_copied, if◌then◌else◌, IsTrue, IsNone, IfSome};
+    ghost use Rattle.std.specs.Prelude.{◌≡◌, ◌+◌, ◌≤◌, true, false, ◌&&◌, ◌==◌, ◌↔◌, List, map, length, bytes_eq, option_copied, if◌then◌else◌, IsTrue, IsNone, IfSome};
     ghost use Rattle.std.specs.List.{list_any, list_all};
     ghost use Rattle.plain_store.specs.declared.message.Message.{Message};
     ghost use Rattle.plain_store.specs.Run.{are_bad};
     ghost use Rattle.plain_store.specs.Words.{Key};
     ghost use Rattle.get_all.specs.Reading.{IsFirst, IsSecond};
-    ghost use Rattle.get_all.specs.ReadProgress.{with_first, with_second, first_shows, has_first, is_answered_by, is_whole, readings_by, late_by};
-    ghost use Rattle.get_all.specs.Reader.{StandsFor, TakesRead, is_no_read, told_by, calls_left, calls_asked};
+    ghost use Rattle.get_all.specs.ReadProgress.{with_first, with_second, awaits_first, first_shows, has_first, is_answered_by, is_whole, readings_by, late_by};
+    ghost use Rattle.get_all.specs.Reader.{StandsFor, TakesInRound, TakesRead, is_no_read, told_by, calls_left, calls_asked};
 
     /// A reader of these keys which took no reply yet. None exactly for no key, more than 16, or one twice.
     pub fn new(keys: &[Key]) -> Option<Reader>
@@ -115,16 +115,7 @@ impl Reader {
     /// Takes the reply to the GET of this key in round 1 or 2. Ignored where that GET was answered before or was
     /// not asked, in any other round, and once the read has ended.
     pub fn take(&mut self, key: &Key, round: u8, reply: &ReadReply) -> ReadMove
-        ensures first { (keys : List Key) (taken : List Message) (message : Message) → round ≡ 1
-            → StandsFor keys self.old taken
-            → IsFirst key.now reply.now message → TakesRead keys taken message result self.new }
-        ensures second { (keys : List Key) (taken : List Message) (message : Message) → round ≡ 2
-            → StandsFor keys self.old taken
-            → IsSecond keys taken key.now reply.now message
-            → TakesRead keys taken message result self.new }
-        ensures no_round { round ≢ 1 → round ≢ 2
-            → (result ≡ ReadMove.Ignored) × (self.new ≡ self.old) }
-        ensures few { calls_asked result + calls_left self.new ≤ calls_left self.old }
+        ensures { TakesInRound key.now round reply.now self.old result self.new }
     {
         let kind = self.take_kind(key, round, reply);
         self.told(kind)
@@ -132,18 +123,7 @@ impl Reader {
 
     /// Does what `take` does, and leaves out what is asked for or read.
     pub fn take_kind(&mut self, key: &Key, round: u8, reply: &ReadReply) -> ReadMoveKind
-        ensures first { (keys : List Key) (taken : List Message) (message : Message) → round ≡ 1
-            → StandsFor keys self.old taken
-            → IsFirst key.now reply.now message
-            → TakesRead keys taken message (told_by self.new result) self.new }
-        ensures second { (keys : List Key) (taken : List Message) (message : Message) → round ≡ 2
-            → StandsFor keys self.old taken
-            → IsSecond keys taken key.now reply.now message
-            → TakesRead keys taken message (told_by self.new result) self.new }
-        ensures no_round { round ≢ 1 → round ≢ 2
-            → (result ≡ ReadMoveKind.Ignored) × (self.new ≡ self.old) }
-        ensures few { calls_asked (told_by self.new result) + calls_left self.new
-            ≤ calls_left self.old }
+        ensures { TakesInRound key.now round reply.now self.old (told_by self.new result) self.new }
     {
         if self.has_ended {
             return ReadMoveKind::Ignored;
@@ -226,9 +206,10 @@ impl Reader {
         }
     }
 
-    /// Takes what round one showed of the key.
+    /// Takes what round one showed of the key, which is the first of it.
     fn show_first(&mut self, key: &Key, shown: Option<&Record>) -> ReadMoveKind
-        requires { self.old.has_ended ≡ false }
+        requires open { self.old.has_ended ≡ false }
+        requires first { list_any (awaits_first key.now) self.old.slots ≡ true }
         ensures slots { self.new.slots
             ≡ map (with_first key.now (option_copied shown.entry)) self.old.slots }
         ensures ended { self.new.has_ended ≡ is_whole self.new.slots }
@@ -238,8 +219,7 @@ impl Reader {
             else ReadMove.Ask (late_by self.new.slots))
             else ReadMove.Wait) }
     {
-        self.slots.mark_first(key, shown);
-        if !self.slots.are_shown() {
+        if !self.slots.mark_first(key, shown) {
             return ReadMoveKind::Wait;
         }
         if self.slots.are_answered() {

@@ -1,8 +1,10 @@
 -- The items of a write, and what was answered of them.
-use Rattle.std.specs.Prelude.{ℕ, Bool, false, ◌&&◌, ◌||◌, ◌==◌, not, bytes_eq}
+use Rattle.std.specs.Prelude.{◌≡◌, ℕ, Bool, false, ◌&&◌, ◌||◌, ◌==◌, not, bytes_eq, List, map}
+use Rattle.std.specs.List.{list_any, list_all}
 use Rattle.stamps.specs.Key.{home_of}
 use Rattle.plain_store.specs.Words.{Key}
 use Rattle.put_all.specs.declared.write_progress.ItemProgress.{ItemProgress}
+use Rattle.put_all.specs.declared.write_progress.Marked.{Marked}
 
 -- an item of which nothing was answered
 abbrev pub place_for : ℕ → Key → ItemProgress
@@ -34,3 +36,9 @@ awaits_prepared key place = bytes_eq place.key key && not place.is_prepared
 
 abbrev pub awaits_committed : ℕ → ItemProgress → Bool
 awaits_committed partition place = place.home == partition && not place.is_committed
+
+-- each item knows that the key was answered Prepared; it is known whether one waited for that, and whether each is prepared
+pub record MarksPrepared (key : Key) (old new : List ItemProgress) (marked : Marked) : Type 0 where
+  pub places : new ≡ map (with_prepared key) old
+  pub awaited : marked.was_awaited ≡ list_any (awaits_prepared key) old
+  pub all : marked.are_prepared ≡ list_all (λ (place : ItemProgress). place.is_prepared) new

@@ -3,7 +3,7 @@ ghost use Rattle.std.specs.Prelude.{◌≡◌, ◌<◌, ◌≤◌, [], length, m
 ghost use Rattle.std.specs.List.{list_any, list_all};
 ghost use Rattle.stamps.specs.Bounds.{IsParts};
 ghost use Rattle.stamps.specs.Limits.{max_keys};
-ghost use Rattle.put_all.specs.WriteProgress.{place_for, with_prepared, with_committed, awaits_prepared, awaits_committed, is_at};
+ghost use Rattle.put_all.specs.WriteProgress.{MarksPrepared, place_for, with_prepared, with_committed, awaits_prepared, awaits_committed, is_at};
 
 use lists::SmallList;
 use stamps::{Item, Key, limits};
@@ -175,9 +175,7 @@ impl WriteProgress {
 
     /// Takes the Prepared of this key. Where no item of it waits for that, they stay as they were.
     pub(crate) fn mark_prepared(&mut self, key: &Key) -> Marked
-        ensures places { self.new ≡ map (with_prepared key.now) self.old }
-        ensures awaited { result.was_awaited ≡ list_any (awaits_prepared key.now) self.old }
-        ensures all { result.are_prepared ≡ list_all (λ place. place.is_prepared) self.new }
+        ensures { MarksPrepared key.now self.old self.new result }
     {
         self.0.change(|places| take_prepared(places, key))
     }
@@ -192,9 +190,7 @@ impl WriteProgress {
 
 /// Has each place take that the key was answered Prepared. It looks through them once.
 fn take_prepared(places: &mut [ItemProgress], key: &Key) -> Marked
-    ensures places { places.new ≡ map (with_prepared key.now) places.old }
-    ensures awaited { result.was_awaited ≡ list_any (awaits_prepared key.now) places.old }
-    ensures all { result.are_prepared ≡ list_all (λ place. place.is_prepared) places.new }
+    ensures { MarksPrepared key.now places.old places.new result }
 {
     let mut marked = Marked {
         was_awaited: false,

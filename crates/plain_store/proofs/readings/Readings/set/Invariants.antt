@@ -1,6 +1,6 @@
-use Rattle.std.proofs.Common.{◌≡◌, take}
+use Rattle.std.proofs.Common.{◌≡◌, ◌++◌, length, take, drop}
 use Rattle.plain_store.proofs.readings.Readings.set.Given as goal
 
--- the readings so far
-abbrev pub invariant-loop-reading : goal.invariant-loop-reading
-invariant-loop-reading l = l.self ≡ take l.reading-index l.readings
+-- those so far are written over, and those behind them are as they were
+abbrev pub invariant-loop-at : goal.invariant-loop-at
+invariant-loop-at l = l.self ≡ take l.at l.readings ++ drop l.at (take (length l.readings) l.fn.self)
