@@ -1,6 +1,6 @@
 -- What holds of epochs that are put before the rest of a journal.
 use Rattle.std.specs.Prelude.{◌≡◌, ◌+◌, ℕ, List, [], ◌∷◌, ◌++◌, ◌&&◌, nat_eq, take, map, length}
-use Rattle.std.specs.Prelude.{Option, Some, None, IsSome, All, IsPermutation, slice_get}
+use Rattle.std.specs.Prelude.{Option, Some, None, IsSome, All, IsPermutation, slice_get, ◌⊎◌, Result, IfOk, IfErr, IsErrOf}
 use Rattle.std.specs.List.{filter}
 use Rattle.std.specs.Global.{Vec}
 use Rattle.stamps.specs.declared.bounds.Limits.{Limits}
@@ -11,6 +11,8 @@ use Rattle.prepare_commit.specs.Bases.{Leaves, empty_base}
 use Rattle.partition.specs.Events.{Event}
 use Rattle.partition.specs.declared.journal.Epoch.{Epoch}
 use Rattle.partition.specs.declared.journal.Journal.{Journal}
+use Rattle.closed_store.specs.declared.join.joining.JoinFault.{JoinFault}
+use Rattle.closed_store.specs.declared.join.joining.JoinFault.TheVariants.{Base, OutOfMemory}
 use Rattle.partition.specs.Journals.{IsEnd, IsLate, IsSoundUnder, log_after, room_for}
 use Rattle.partition.specs.Accounts.{Account, EpochStart, account_of, new_account, epoch_start_of}
 
@@ -143,3 +145,10 @@ IsAmid limits room before events accounts =
     × (accounts ≡ record { limits = limits; start = start; events = given } ∷ [])
     × IsEnd (empty_base room) before start.base
     × (log_after given ≡ log_after events)
+
+-- What is joined is so; that a base does not fit is said only where they do not all fit; and nothing else fails it but an
+-- allocation failure.
+pub record JoinsIfFit {A : Type 0} (IsWhole : A → Type 0) (Fits : Type 0) (result : Result A JoinFault) : Type 0 where
+  pub joined : IfOk result IsWhole
+  pub base : IsErrOf result Base → Fits → ⊥
+  pub faults : IfErr result (λ fault. (fault ≡ Base) ⊎ (fault ≡ OutOfMemory))

@@ -1,6 +1,7 @@
 -- How much room the texts that are written take.
-use Rattle.std.specs.Prelude.{◌≡◌, ℕ, ◌+◌, ◌*◌, ◌≤◌, List, ◌++◌, length}
+use Rattle.std.specs.Prelude.{◌≡◌, ℕ, ◌+◌, ◌*◌, ◌≤◌, ◌↔◌, List, ◌++◌, length, Result, IsOk, OnOk, OnErr}
 use Rattle.bytes.specs.Filled.{Filled}
+use Rattle.line_protocol.specs.declared.write.NoRoom.{NoRoom}
 use Rattle.stamps.specs.Limits.{max_keys, max_key_len, max_tag_len, max_value_len}
 
 -- A buffer got this text behind what stood in it, of so many bytes at most. Its room is as great as it was.
@@ -8,6 +9,14 @@ pub record Appends (most : ℕ) (old new : Filled) (text : List ℕ) : Type 0 wh
   pub items : new.items ≡ old.items ++ text
   pub used : old.spare ≤ new.spare + most
   pub kept : length new.items + new.spare ≡ length old.items + old.spare
+
+-- A buffer got this line behind what stood in it. That is so exactly where it had this many bytes spare; where it had not, it
+-- is as it was. Its room does not get smaller.
+pub record WritesLine (limit : ℕ) (line : List ℕ) (old new : Filled) (result : Result (Unit {0}) NoRoom) : Type 0 where
+  pub succeeds : IsOk result ↔ (limit ≤ old.spare)
+  pub ok : OnOk result (new.items ≡ old.items ++ line)
+  pub err : OnErr result (new ≡ old)
+  pub room : length old.items + old.spare ≤ length new.items + new.spare
 
 -- ---- how long each text is at most
 

@@ -1,9 +1,9 @@
 //! The lines that answer steps.
-ghost use Rattle.std.specs.Prelude.{◌≡◌, ◌+◌, ◌*◌, ◌≤◌, ◌++◌, ◌∷◌, ◌↔◌, length, IsOk, OnOk, OnErr};
+ghost use Rattle.std.specs.Prelude.{◌+◌, ◌*◌, ◌≤◌, ◌++◌, ◌∷◌, length};
 ghost use Rattle.plain_store.specs.declared.answer.Answer.TheVariants.{Replied, Restart, Sent};
-ghost use Rattle.line_protocol.specs.AnswerSpelling.{rows_text, written_text, reading_text, readings_text, parted_readings_text, sent_text, ending_text, answer_text, answer_line};
+ghost use Rattle.line_protocol.specs.AnswerSpelling.{rows_text, written_text, reading_text, readings_text, parted_readings_text, ending_text, answer_text, answer_line};
 ghost use Rattle.line_protocol.specs.Spelling.{space, stamp_text};
-ghost use Rattle.line_protocol.specs.Room.{Appends, rows_room, ending_room, stamped_rows_room, reading_room, spaced_reading_room, readings_room, answer_room, written_room};
+ghost use Rattle.line_protocol.specs.Room.{Appends, WritesLine, rows_room, ending_room, stamped_rows_room, reading_room, spaced_reading_room, readings_room, answer_room, written_room};
 
 use crate::LINE_LIMIT;
 use crate::write::{
@@ -17,10 +17,7 @@ use stamps::{Key, Stamp};
 /// Appends the line of an answer to a step, with its LF. It succeeds exactly where [`LINE_LIMIT`] bytes are spare,
 /// and takes no memory. Otherwise it is [`NoRoom`], and `out` is as it was.
 pub fn write_answer(answer: &Answer, out: &mut BytesMut) -> Result<(), NoRoom>
-    ensures succeeds { IsOk result ↔ (LINE_LIMIT ≤ out.old.spare) }
-    ensures ok { OnOk result (out.new.items ≡ out.old.items ++ answer_line answer.now) }
-    ensures err { OnErr result (out.new ≡ out.old) }
-    ensures room { length out.old.items + out.old.spare ≤ length out.new.items + out.new.spare }
+    ensures { WritesLine LINE_LIMIT (answer_line answer.now) out.old out.new result }
 {
     if has_no_room(out) {
         return Err(NoRoom);
@@ -99,7 +96,8 @@ fn put_begun(out: &mut BytesMut, word: &[u8], rows: Rows)
 fn put_stamped_rows(out: &mut BytesMut, word: &[u8], stamp: Stamp, rows: Rows)
     requires room { stamped_rows_room ≤ out.old.spare }
     requires short { length word.now ≤ 8 }
-    ensures { Appends stamped_rows_room out.old out.new (word.now ++ (stamp_text stamp ++ space ∷ rows_text rows)) }
+    ensures { Appends stamped_rows_room out.old out.new (word.now
+        ++ (stamp_text stamp ++ space ∷ rows_text rows)) }
 {
     put(out, word);
     put_stamp(out, stamp);
@@ -178,7 +176,8 @@ fn put_reading(out: &mut BytesMut, reading: &Reading)
 // Each after a space.
 fn put_readings(out: &mut BytesMut, readings: &[Reading])
     requires room { spaced_reading_room * length readings.now ≤ out.old.spare }
-    ensures { Appends (spaced_reading_room * length readings.now) out.old out.new (readings_text readings.now) }
+    ensures { Appends (spaced_reading_room * length readings.now) out.old out.new
+        (readings_text readings.now) }
 {
     for reading in readings {
         put(out, b" ");

@@ -1,10 +1,10 @@
 //! Lines that go out. A `put_` function is called where there is room for the longest text that it appends.
-ghost use Rattle.std.specs.Prelude.{◌≡◌, ◌+◌, ◌≤◌, ◌++◌, ◌↔◌, length, decimal, IsOk, OnOk, OnErr, IsTrue, ◌<◌};
+ghost use Rattle.std.specs.Prelude.{◌+◌, ◌≤◌, ◌++◌, ◌↔◌, length, decimal, IsTrue, ◌<◌};
 ghost use Rattle.plain_store.specs.Numbers.{number_of};
 ghost use Rattle.line_protocol.specs.Stream.{terminated};
 ghost use Rattle.line_protocol.specs.ServeSpelling.{bye_line};
 ghost use Rattle.line_protocol.specs.Spelling.{stamp_text, tag_text, record_text, keys_text, found_keys_text, prepare_text, discard_text, read_text, reply_text, reply_line, refused_text};
-ghost use Rattle.line_protocol.specs.Room.{Appends, number_room, stamp_room, tag_room, key_room, keys_room, record_room, refusal_room, reply_room, count_room};
+ghost use Rattle.line_protocol.specs.Room.{Appends, WritesLine, number_room, stamp_room, tag_room, key_room, keys_room, record_room, refusal_room, reply_room, count_room};
 
 use crate::LINE_LIMIT;
 use bytes::BytesMut;
@@ -19,10 +19,7 @@ pub struct NoRoom;
 /// Appends the line of a cell's reply, with its LF. It succeeds exactly where [`LINE_LIMIT`] bytes are spare,
 /// and takes no memory. Otherwise it is [`NoRoom`], and `out` is as it was.
 pub fn write_reply(reply: &Reply, out: &mut BytesMut) -> Result<(), NoRoom>
-    ensures succeeds { IsOk result ↔ (LINE_LIMIT ≤ out.old.spare) }
-    ensures ok { OnOk result (out.new.items ≡ out.old.items ++ reply_line reply.now) }
-    ensures err { OnErr result (out.new ≡ out.old) }
-    ensures room { length out.old.items + out.old.spare ≤ length out.new.items + out.new.spare }
+    ensures { WritesLine LINE_LIMIT (reply_line reply.now) out.old out.new result }
 {
     if has_no_room(out) {
         return Err(NoRoom);
@@ -35,10 +32,8 @@ pub fn write_reply(reply: &Reply, out: &mut BytesMut) -> Result<(), NoRoom>
 /// Appends the line of a refusal, with its LF. It succeeds exactly where [`LINE_LIMIT`] bytes are spare, and
 /// takes no memory. Otherwise it is [`NoRoom`], and `out` is as it was.
 pub fn write_refusal(refusal: Refusal, out: &mut BytesMut) -> Result<(), NoRoom>
-    ensures succeeds { IsOk result ↔ (LINE_LIMIT ≤ out.old.spare) }
-    ensures ok { OnOk result (out.new.items ≡ out.old.items ++ terminated (refused_text (number_of refusal))) }
-    ensures err { OnErr result (out.new ≡ out.old) }
-    ensures room { length out.old.items + out.old.spare ≤ length out.new.items + out.new.spare }
+    ensures { WritesLine LINE_LIMIT
+        (terminated (refused_text (number_of refusal))) out.old out.new result }
 {
     if has_no_room(out) {
         return Err(NoRoom);
@@ -51,10 +46,7 @@ pub fn write_refusal(refusal: Refusal, out: &mut BytesMut) -> Result<(), NoRoom>
 /// Appends the line that answers `bye`, with its LF. It succeeds exactly where [`LINE_LIMIT`] bytes are spare, and
 /// takes no memory. Otherwise it is [`NoRoom`], and `out` is as it was.
 pub fn write_bye(out: &mut BytesMut) -> Result<(), NoRoom>
-    ensures succeeds { IsOk result ↔ (LINE_LIMIT ≤ out.old.spare) }
-    ensures ok { OnOk result (out.new.items ≡ out.old.items ++ bye_line) }
-    ensures err { OnErr result (out.new ≡ out.old) }
-    ensures room { length out.old.items + out.old.spare ≤ length out.new.items + out.new.spare }
+    ensures { WritesLine LINE_LIMIT bye_line out.old out.new result }
 {
     if has_no_room(out) {
         return Err(NoRoom);

@@ -1,6 +1,6 @@
 -- What a run over a byte stream answers.
-use Rattle.std.specs.Prelude.{◌≡◌, ◌⊎◌, ⊤, ℕ, ◌^◌, ◌≤◌, List, [], ◌∷◌, ◌++◌, length, take, nat_lt, ◌==◌}
-use Rattle.std.specs.Prelude.{if◌then◌else◌, Option, Some, None, IfSome}
+use Rattle.std.specs.Prelude.{◌≡◌, ◌⊎◌, ⊤, ℕ, ◌+◌, ◌^◌, ◌≤◌, List, [], ◌∷◌, ◌++◌, length, take, nat_lt, ◌==◌}
+use Rattle.std.specs.Prelude.{if◌then◌else◌, Option, Some, None, Result, IfSome, IfOk, IfErr, OnOk}
 use Rattle.std.specs.Io.KnownBytes.{Appends}
 use Rattle.line_protocol.specs.Stream.{line_limit, terminated, between_feeds, lines_of}
 use Rattle.line_protocol.specs.Spelling.{refused_text}
@@ -29,6 +29,24 @@ pub record Gathers (old new : Option (List ℕ)) (before after text : List ℕ) 
   pub written : List ℕ
   pub appends : Appends old new written
   pub whole : before ++ text ≡ written ++ after
+
+-- What was gathered is written. None of it is left, so there is room for as much, also where a write failed: then a beginning of it was
+-- written.
+pub record WritesOut (before after : List ℕ) (spare spare_after : ℕ) (old new : Option (List ℕ))
+    (result : Result (Unit {0}) RunFault) : Type 0 where
+  pub written : OnOk result (Appends old new before)
+  pub empty : after ≡ []
+  pub room : length before + spare ≤ spare_after
+  pub error : IfErr result (λ fault. fault ≡ Write)
+  pub begun : IfErr result (λ fault. (n : ℕ) × Appends old new (take n before))
+
+-- What was gathered is written, and behind it what is said of the end of a stream that left these bytes. Where a write failed, a beginning
+-- of that was written.
+pub record WritesEnd (held before : List ℕ) (old new : Option (List ℕ)) (result : Result End RunFault) : Type 0 where
+  pub end : IfOk result (λ ending. end_of held ≡ ending)
+  pub written : IfOk result (λ ending. Appends old new (before ++ text_at_end ending))
+  pub error : IfErr result (λ fault. fault ≡ Write)
+  pub begun : IfErr result (λ fault. (n : ℕ) × Appends old new (take n (before ++ text_at_end (end_of held))))
 
 module _ {S : Type 0} (replies : S → List (List ℕ) → List ℕ → Type 0) where
   -- from the first state the stream goes on to the second, which has the rest still to answer

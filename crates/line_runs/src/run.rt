@@ -1,9 +1,9 @@
 //! A run: the lines of a stream are answered one by one.
-ghost use Rattle.std.specs.Prelude.{◌≡◌, ◌+◌, ◌≤◌, ◌<◌, vec_len, ℕ, List, [], ◌++◌, length, take, MatchBool, OnOk, IfOk, IfErr, IfSome};
+ghost use Rattle.std.specs.Prelude.{◌≡◌, ◌+◌, ◌≤◌, ◌<◌, vec_len, ℕ, List, [], ◌++◌, length, MatchBool, OnOk, IfOk, IfErr, IfSome};
 ghost use Rattle.std.specs.Io.KnownBytes.{Appends};
 ghost use Rattle.line_protocol.specs.Stream.{HasNoLineFeed};
-ghost use Rattle.line_runs.specs.declared.fault.RunFault.TheVariants.{Write as WriteFault, OutOfMemory};
-ghost use Rattle.line_runs.specs.RunAnswers.{Answers, AnswersFront, Continues, FailsSo, Gathers, LeavesOff, StopsAt, end_of, text_at_end};
+ghost use Rattle.line_runs.specs.declared.fault.RunFault.TheVariants.{OutOfMemory};
+ghost use Rattle.line_runs.specs.RunAnswers.{Answers, AnswersFront, Continues, FailsSo, Gathers, LeavesOff, StopsAt, WritesEnd, WritesOut, end_of, text_at_end};
 
 use crate::device::write_text;
 use crate::fault::{End, RunFault};
@@ -172,14 +172,8 @@ fn answer_waiting<S: LineService, W: Write>(
 
 /// Writes what is gathered. None of it is left, also where a write failed.
 pub fn flush<W: Write>(out: &mut BytesMut, writer: &mut W) -> Result<(), RunFault>
-    ensures written { OnOk result
-        (Appends (W.contents writer.old) (W.contents writer.new) out.old.items) }
-    ensures empty { out.new.items ≡ [] }
-    ensures room { length out.old.items + out.old.spare ≤ out.new.spare }
-    ensures error { IfErr result (λ fault. fault ≡ WriteFault) }
-    // At a fault a beginning was written.
-    ensures begun { IfErr result (λ _. (n : ℕ)
-        × Appends (W.contents writer.old) (W.contents writer.new) (take n out.old.items)) }
+    ensures { WritesOut out.old.items out.new.items out.old.spare out.new.spare
+        (W.contents writer.old) (W.contents writer.new) result }
 {
     let written = write_text(writer, out.as_slice());
     out.clear();
@@ -190,15 +184,8 @@ pub fn flush<W: Write>(out: &mut BytesMut, writer: &mut W) -> Result<(), RunFaul
 fn finish<W: Write>(lines: &Lines, out: &mut BytesMut, writer: &mut W) -> Result<End, RunFault>
     requires ready { LINE_LIMIT ≤ out.old.spare }
     requires waits { HasNoLineFeed lines.now }
-    ensures end { IfOk result (λ end. end_of lines.now ≡ end) }
-    ensures written { IfOk result
-        (λ end.
-        Appends (W.contents writer.old) (W.contents writer.new) (out.old.items
-        ++ text_at_end end)) }
-    ensures error { IfErr result (λ fault. fault ≡ WriteFault) }
-    ensures begun { IfErr result (λ _. (n : ℕ)
-        × Appends (W.contents writer.old) (W.contents writer.new)
-        (take n (out.old.items ++ text_at_end (end_of lines.now)))) }
+    ensures { WritesEnd lines.now out.old.items
+        (W.contents writer.old) (W.contents writer.new) result }
 {
     let end = end_of(lines);
     put_ending(end, out);

@@ -118,7 +118,9 @@ impl<T> RowList<T> {
     pub fn partition_point<F: FnMut(&T) -> bool>(&self, mut passes: F) -> usize
         requires { F.IsAlwaysCallable passes }
         ensures bound { result ≤ length self.now.items }
-        ensures partitioned { (p : T → Bool) → ComputesKey F.FnMut p passes → IsPartitionedBy p self.now.items → IsPartitionPoint (λ y. p y ≡ true) (λ y. p y ≡ false) self.now.items result }
+        ensures partitioned { (p : T → Bool) → ComputesKey F.FnMut p passes
+            → IsPartitionedBy p self.now.items
+            → IsPartitionPoint (λ y. p y ≡ true) (λ y. p y ≡ false) self.now.items result }
     {
         let mut low = 0;
         let mut high = self.len();
@@ -138,7 +140,9 @@ impl<T> RowList<T> {
         requires callable { F.IsAlwaysCallable f.old }
         requires within { index < length self.now.items }
         ensures callable { F.IsAlwaysCallable f.new }
-        ensures answer { (key : T → R) → ComputesKey F.FnMut key f.old → ComputesKey F.FnMut key f.new × ((d : T) → key (slice_index_or self.now.items index d) ≡ result) }
+        ensures answer { (key : T → R) → ComputesKey F.FnMut key f.old
+            → ComputesKey F.FnMut key f.new
+            × ((d : T) → key (slice_index_or self.now.items index d) ≡ result) }
     {
         f(self.get(index))
     }

@@ -2,7 +2,7 @@
 use Rattle.std.proofs.Common.{◌≡◌, ℕ, zero, suc, ◌<◌, List, map, length, get_or, Option, Some, None, is_some, IsSome, IsNone, nat_lt, if◌then◌else◌, ◌⊎◌, inl, inr, true, false, true≢false, refl, sym, ap, subst, ◌∙◌, arith}
 use Rattle.version_arena.specs.declared.cell_state.CellState.{CellState}
 use Rattle.version_arena.specs.declared.cell_state.CellState.TheVariants as state
-use Rattle.version_arena.specs.Cells.{Cell, Free, Live, held_in, is_live, places, IsThreaded, IsFreeList}
+use Rattle.version_arena.specs.Cells.{ArenaCell, Free, Live, held_in, is_live, places, IsThreaded, IsFreeList}
 use Rattle.version_arena.proofs.Places.{length-places, live_at, free_at, empty_at}
 use Rattle.version_arena.proofs.Threading.{held_at, live_within, below_used, within_row, slot_here}
 
@@ -22,13 +22,13 @@ module _ {T : Type 0} where
       → IsSome (get_or (map held_in (places values states)) slot None) → LiveCell values states slot
   live_cell values states live free slot threaded some = by (get_or (places values states) slot None) refl
     where
-      cells : List (Option (Cell T))
+      cells : List (Option (ArenaCell T))
       cells = places values states
 
       within : slot < length cells
       within = live_within cells slot some
 
-      by : (place : Option (Cell T)) → get_or cells slot None ≡ place → LiveCell values states slot
+      by : (place : Option (ArenaCell T)) → get_or cells slot None ≡ place → LiveCell values states slot
       by None is = absurd (true≢false (sym some ∙ ap is_some (held_at cells slot None within is)))
       by (Some (Free next)) is = absurd (true≢false (sym some ∙ ap is_some (held_at cells slot (Some (Free next)) within is)))
       by (Some (Live value next)) is =
@@ -58,7 +58,7 @@ module _ {T : Type 0} where
       → FreeCell values states slot
   free_cell values states live free slot threaded first = by_count threaded.free_count threaded.linked
     where
-      cells : List (Option (Cell T))
+      cells : List (Option (ArenaCell T))
       cells = places values states
 
       by_count : (n : ℕ) → IsFreeList cells n free → FreeCell values states slot
@@ -85,7 +85,7 @@ module _ {T : Type 0} where
     pub live_if : slot < length states → is_live (get_or states slot other) ≡ true → IsSome (get_or (map held_in (places values states)) slot None)
     live_if used says = let cell = threaded.filled slot used in by cell.0 cell.1
       where
-        by : (cell : Cell T) → get_or (places values states) slot None ≡ Some cell → IsSome (get_or (map held_in (places values states)) slot None)
+        by : (cell : ArenaCell T) → get_or (places values states) slot None ≡ Some cell → IsSome (get_or (map held_in (places values states)) slot None)
         by (Free next) is = absurd (true≢false (sym says ∙ ap is_live (free_at values states slot next other used is).1))
         by (Live value next) is = ap is_some (held_at (places values states) slot (Some (Live value next)) (within_row (places values states) slot (Live value next) is) is)
 
@@ -98,7 +98,7 @@ module _ {T : Type 0} where
     pub empty_if : slot < length states → is_live (get_or states slot other) ≡ false → get_or values slot None ≡ None
     empty_if used says = let cell = threaded.filled slot used in by cell.0 cell.1
       where
-        by : (cell : Cell T) → get_or (places values states) slot None ≡ Some cell → get_or values slot None ≡ None
+        by : (cell : ArenaCell T) → get_or (places values states) slot None ≡ Some cell → get_or values slot None ≡ None
         by (Free next) is = (free_at values states slot next other used is).0
         by (Live value next) is = absurd (true≢false (sym (ap is_live (live_at values states slot value next other used is).1) ∙ says))
 

@@ -10,9 +10,8 @@ ghost use Rattle.plain_store.specs.declared.step.Step.{Step as Stepped};
 ghost use Rattle.world.specs.Content.{parts_of, limits_of};
 ghost use Rattle.world.specs.Standing.{StandsFor, history_of, answered_in_place};
 ghost use Rattle.world.specs.Opening.{IsOpenedShelf, IsFresh};
-ghost use Rattle.world.specs.Promises.{IsPromisedAfter, ArePromised, AreCallsOf};
-ghost use Rattle.world.specs.Stepping.{StepsOn};
-ghost use Rattle.world.specs.Running.{Ran, added, steps_taken};
+ghost use Rattle.world.specs.Promises.{IsPromisedAfter};
+ghost use Rattle.world.specs.Stepping.{IsOpenedWorld, RunsOn, StepsOn};
 ghost use Rattle.world.specs.declared.tenant.Tenant.{Tenant as Owned};
 
 use crate::tenant::Tenant;
@@ -60,9 +59,7 @@ impl World {
     /// among them. The one error is that an allocation failed.
     pub fn open(alloc: Global, parts: u32, limits: &[Limits]) -> Result<World, OutOfMemory>
         requires { IsParts parts }
-        ensures parts { IfOk result (λ world. parts_of world ≡ parts) }
-        ensures limits { IfOk result (λ world. limits_of world ≡ limits.now) }
-        ensures stands { IfOk result (λ world. StandsFor world []) }
+        ensures { IfOk result (IsOpenedWorld parts limits.now) }
     {
         let shelves = open_shelves(alloc, parts, limits)?;
         let tenants = open_tenants(alloc, parts, limits)?;
@@ -125,20 +122,7 @@ impl World {
     /// Takes the steps in order, and adds the answer of each. Where an allocation fails it stops before the step that met
     /// this, and the answers are those to the steps before it.
     pub fn run(&mut self, steps: &[Step], answers: &mut Vec<Answer>) -> Result<(), OutOfMemory>
-        ensures ran { (before : List Stepped) → StandsFor self.old before
-            → Ran (parts_of self.old)
-            (limits_of self.old) self.new before steps.now answers.old.items answers.new.items
-            (is_ok result) }
-        // Each tenant is answered as if its own steps were all, and each promise is kept by each answer.
-        ensures promised { (before : List Stepped) → StandsFor self.old before
-            → ArePromised (parts_of self.old) (limits_of self.old) before steps.now
-            (added answers.old.items answers.new.items) }
-        // The calls that the world holds go home and are few.
-        ensures calls { (before : List Stepped) → StandsFor self.old before
-            → AreCallsOf self.new (before
-            ++ steps_taken steps.now answers.old.items answers.new.items) }
-        ensures parts { parts_of self.new ≡ parts_of self.old }
-        ensures limits { limits_of self.new ≡ limits_of self.old }
+        ensures { RunsOn steps.now answers.old.items answers.new.items self.old self.new (is_ok result) }
     {
         for step in steps {
             self.answer(step, answers)?;

@@ -1,10 +1,10 @@
 //! The parts of a closed hub that were returned before, put before the rest.
-ghost use Rattle.std.specs.Prelude.{◌≡◌, ◌⊎◌, ◌↔◌, ◌≤◌, length, map, IfOk, IfErr, IsErrOf, IsSome, IsTrue, OnOk, OnErr, IsPermutation};
+ghost use Rattle.std.specs.Prelude.{◌≡◌, ◌↔◌, ◌≤◌, length, map, IfOk, IsErrOf, IsSome, IsTrue, OnOk, IsPermutation};
 ghost use Rattle.std.specs.List.Sorted.{IsNonDecreasingBy};
 ghost use Rattle.partition.specs.Journals.{room_for};
 ghost use Rattle.closed_store.specs.Counting.{AreCounted};
 ghost use Rattle.closed_store.specs.Filling.{AreFilled};
-ghost use Rattle.closed_store.specs.Joins.{AllFit, AllRise, AllSound, AreJoined, AreKnown, NoneRise};
+ghost use Rattle.closed_store.specs.Joins.{AllFit, AllRise, AllSound, AreJoined, AreKnown, JoinsIfFit, NoneRise};
 ghost use Rattle.closed_store.specs.Joins.{Fit, IsJoined, IsRowJoined, RowFits, events_of, given_for, journal_at, left_in};
 
 use crate::closed::Closed;
@@ -101,11 +101,9 @@ fn join_journal(
     tenant: u32,
     journal: Journal,
 ) -> Result<Journal, JoinFault>
-    ensures joined { IfOk result
-        (λ j. IsJoined limits.now (given_for given.now partition tenant) (left_in journal) j) }
-    ensures base { IsErrOf result JoinFault.Base
-        → Fit (room_for limits.now) (given_for given.now partition tenant) (left_in journal) → ⊥ }
-    ensures faults { IfErr result (λ f. (f ≡ JoinFault.Base) ⊎ (f ≡ JoinFault.OutOfMemory)) }
+    ensures { let epochs = given_for given.now partition tenant in
+        JoinsIfFit (λ j. IsJoined limits.now epochs (left_in journal) j)
+        (Fit (room_for limits.now) epochs (left_in journal)) result }
 {
     let left = Epoch {
         number: journal.number,
@@ -124,11 +122,9 @@ fn join_epochs(
     tenant: u32,
     left: &Epoch,
 ) -> Result<Journal, JoinFault>
-    ensures joined { IfOk result
-        (λ j. IsJoined limits.now (given_for given.now partition tenant) left.now j) }
-    ensures base { IsErrOf result JoinFault.Base
-        → Fit (room_for limits.now) (given_for given.now partition tenant) left.now → ⊥ }
-    ensures faults { IfErr result (λ f. (f ≡ JoinFault.Base) ⊎ (f ≡ JoinFault.OutOfMemory)) }
+    ensures { let epochs = given_for given.now partition tenant in
+        JoinsIfFit (λ j. IsJoined limits.now epochs left.now j)
+        (Fit (room_for limits.now) epochs left.now) result }
 {
     let mut epochs = epochs_for(alloc, given, partition, tenant)?;
     put_in_order(&mut epochs)?;
@@ -152,11 +148,9 @@ fn join_row(
     row: Vec<Journal>,
 ) -> Result<Vec<Journal>, JoinFault>
     requires { length limits.now ≤ 64 }
-    ensures joined { IfOk result
-        (λ joined. IsRowJoined limits.now given.now partition row.items joined.items) }
-    ensures base { IsErrOf result JoinFault.Base → RowFits limits.now given.now partition row.items
-        → ⊥ }
-    ensures faults { IfErr result (λ f. (f ≡ JoinFault.Base) ⊎ (f ≡ JoinFault.OutOfMemory)) }
+    ensures { JoinsIfFit
+        (λ joined. IsRowJoined limits.now given.now partition row.items joined.items)
+        (RowFits limits.now given.now partition row.items) result }
 {
     let mut joined = Vec::new(alloc);
     for journal in row {
@@ -182,10 +176,8 @@ fn join_rows(
 ) -> Result<Vec<Vec<Journal>>, JoinFault>
     requires few { length limits.now ≤ 64 }
     requires known { AreKnown given.now rows.items }
-    ensures joined { IfOk result
-        (λ joined. AreJoined limits.now given.now rows.items joined.items) }
-    ensures base { IsErrOf result JoinFault.Base → AllFit limits.now given.now rows.items → ⊥ }
-    ensures faults { IfErr result (λ f. (f ≡ JoinFault.Base) ⊎ (f ≡ JoinFault.OutOfMemory)) }
+    ensures { JoinsIfFit (λ joined. AreJoined limits.now given.now rows.items joined.items)
+        (AllFit limits.now given.now rows.items) result }
 {
     let mut joined = Vec::new(alloc);
     for row in rows {

@@ -11,11 +11,23 @@ use Rattle.world.specs.Promises.{IsPromisedAfter}
 use Rattle.world.proofs.Promised.{are_promised, each_more, calls_of_steps, ran}
 use Rattle.world.proofs.world.World.run.Goals as goal
 
-pub returns-in_err-answer-clause-ran : goal.returns-in_err-answer-clause-ran
-returns-in_err-answer-clause-ran c before stands =
-    ran (parts_of c.args.self.now) (limits_of c.args.self.now) c.answer.new.self before c.args.steps.now c.args.answers.now.items c.answer.new.answers.items (is_ok c.from_residual.result) c.loop-step.step-index
-    (c.in_err-answer.ensures.kept ∙ c.loop-step.invariant.told before stands) (c.in_err-answer.ensures.err (before ++ take c.loop-step.step-index c.args.steps.now) (c.loop-step.invariant.stands before stands))
-    (λ whole. absurd (not_ok c.from_residual.result c.from_residual.ensures.0 whole))
+pub returns-in_err-answer : goal.returns-in_err-answer
+returns-in_err-answer c = record {
+  ran = λ before stands.
+      ran (parts_of c.args.self.now) (limits_of c.args.self.now) c.answer.new.self before c.args.steps.now c.args.answers.now.items c.answer.new.answers.items (is_ok c.from_residual.result) c.loop-step.step-index
+      (c.in_err-answer.ensures.kept ∙ c.loop-step.invariant.told before stands) (c.in_err-answer.ensures.err (before ++ take c.loop-step.step-index c.args.steps.now) (c.loop-step.invariant.stands before stands))
+      (λ whole. absurd (not_ok c.from_residual.result c.from_residual.ensures.0 whole));
+  promised = λ before stands.
+      are_promised (parts_of c.args.self.now) (limits_of c.args.self.now) before c.args.steps.now c.args.answers.now.items c.answer.new.answers.items c.loop-step.step-index
+      (c.in_err-answer.ensures.kept ∙ c.loop-step.invariant.told before stands) (c.loop-step.invariant.promised before stands);
+  calls = λ before stands.
+      let stood = ran (parts_of c.args.self.now) (limits_of c.args.self.now) c.answer.new.self before c.args.steps.now c.args.answers.now.items c.answer.new.answers.items (is_ok c.from_residual.result) c.loop-step.step-index
+      (c.in_err-answer.ensures.kept ∙ c.loop-step.invariant.told before stands) (c.in_err-answer.ensures.err (before ++ take c.loop-step.step-index c.args.steps.now) (c.loop-step.invariant.stands before stands))
+      (λ whole. absurd (not_ok c.from_residual.result c.from_residual.ensures.0 whole)) in
+      calls_of_steps c.answer.new.self (before ++ steps_taken c.args.steps.now c.args.answers.now.items c.answer.new.answers.items) stood.stands;
+  parts = c.answer.ensures.parts ∙ c.loop-step.invariant.parts;
+  limits = c.answer.ensures.limits ∙ c.loop-step.invariant.limits;
+}
 
 pub loop-step-preserved : goal.loop-step-preserved
 loop-step-preserved c =
@@ -46,25 +58,18 @@ loop-step-preserved c =
           (c.in_ok-answer.ensures.promised (before ++ front) (c.loop-step.invariant.stands before stands))));
     }
 
-pub returns-clause-ran : goal.returns-clause-ran
-returns-clause-ran c before stands =
-    ran (parts_of c.args.self.now) (limits_of c.args.self.now) c.loop-step.self before c.args.steps.now c.args.answers.now.items c.loop-step.answers.items true c.loop-step.step-index
-    (c.loop-step.invariant.told before stands) (c.loop-step.invariant.stands before stands) (λ whole. take_all c.loop-step.step-index c.args.steps.now (omega (arith, c.loop-step-test.false)))
-
-pub returns-in_err-answer-clause-promised : goal.returns-in_err-answer-clause-promised
-returns-in_err-answer-clause-promised c before stands =
-    are_promised (parts_of c.args.self.now) (limits_of c.args.self.now) before c.args.steps.now c.args.answers.now.items c.answer.new.answers.items c.loop-step.step-index
-    (c.in_err-answer.ensures.kept ∙ c.loop-step.invariant.told before stands) (c.loop-step.invariant.promised before stands)
-
-pub returns-clause-promised : goal.returns-clause-promised
-returns-clause-promised c before stands =
-    are_promised (parts_of c.args.self.now) (limits_of c.args.self.now) before c.args.steps.now c.args.answers.now.items c.loop-step.answers.items c.loop-step.step-index
-    (c.loop-step.invariant.told before stands) (c.loop-step.invariant.promised before stands)
-
-pub returns-in_err-answer-clause-calls : goal.returns-in_err-answer-clause-calls
-returns-in_err-answer-clause-calls c before stands =
-    calls_of_steps c.answer.new.self (before ++ steps_taken c.args.steps.now c.args.answers.now.items c.answer.new.answers.items) (returns-in_err-answer-clause-ran c before stands).stands
-
-pub returns-clause-calls : goal.returns-clause-calls
-returns-clause-calls c before stands =
-    calls_of_steps c.loop-step.self (before ++ steps_taken c.args.steps.now c.args.answers.now.items c.loop-step.answers.items) (returns-clause-ran c before stands).stands
+pub returns : goal.returns
+returns c = record {
+  ran = λ before stands.
+      ran (parts_of c.args.self.now) (limits_of c.args.self.now) c.loop-step.self before c.args.steps.now c.args.answers.now.items c.loop-step.answers.items true c.loop-step.step-index
+      (c.loop-step.invariant.told before stands) (c.loop-step.invariant.stands before stands) (λ whole. take_all c.loop-step.step-index c.args.steps.now (omega (arith, c.loop-step-test.false)));
+  promised = λ before stands.
+      are_promised (parts_of c.args.self.now) (limits_of c.args.self.now) before c.args.steps.now c.args.answers.now.items c.loop-step.answers.items c.loop-step.step-index
+      (c.loop-step.invariant.told before stands) (c.loop-step.invariant.promised before stands);
+  calls = λ before stands.
+      let stood = ran (parts_of c.args.self.now) (limits_of c.args.self.now) c.loop-step.self before c.args.steps.now c.args.answers.now.items c.loop-step.answers.items true c.loop-step.step-index
+      (c.loop-step.invariant.told before stands) (c.loop-step.invariant.stands before stands) (λ whole. take_all c.loop-step.step-index c.args.steps.now (omega (arith, c.loop-step-test.false))) in
+      calls_of_steps c.loop-step.self (before ++ steps_taken c.args.steps.now c.args.answers.now.items c.loop-step.answers.items) stood.stands;
+  parts = c.loop-step.invariant.parts;
+  limits = c.loop-step.invariant.limits;
+}
