@@ -1,12 +1,14 @@
 -- What may follow what was seen may follow a longer history, and a legal history stays legal with it.
-use Rattle.std.proofs.Common.{◌≡◌, ◌⊎◌, ◌∙◌, ℕ, ◌+◌, true, List, [], ◌∷◌, ◌++◌, refl, ap, sym, subst, inl, inr, arith, append_assoc}
+use Rattle.std.proofs.Common.{◌≡◌, ◌⊎◌, ◌∙◌, ℕ, ◌+◌, ◌<◌, ◌==◌, true, false, Bool, List, [], ◌∷◌, ◌++◌, length, refl, ap, sym, subst, inl, inr, arith, append_assoc}
 use Rattle.std.proofs.Math.Logic.{∥∥₁_map, ∥∥₁_map₂, ∥∥₁_elim}
 use Rattle.std.specs.Coded.{Coded-set, coded_ℕ}
 use mathlib.Core.List.{IsPrefix}
 use mathlib.Core.HLevel.{⊥_prop}
 use Rattle.stamps.specs.Key.{home_of}
 use Rattle.stamps.specs.Stamp.{client_of}
-use Rattle.plain_store.specs.Words.{◌∈◌, Record}
+use Rattle.plain_store.specs.Words.{◌∈◌, Item, Key, Record, Stamp}
+use Rattle.plain_store.specs.declared.calls.Call.{Call}
+use Rattle.plain_store.specs.declared.calls.Call.TheVariants.{Prepare, Commit, Get, Found, Collect, Discard}
 use Rattle.plain_store.specs.declared.calls.Reply.{Reply}
 use Rattle.plain_store.specs.declared.calls.Reply.TheVariants.{Prepare as ToPrepare}
 use Rattle.plain_store.specs.declared.calls.PrepareReply.TheVariants.{Prepared}
@@ -18,8 +20,8 @@ use Rattle.history.specs.declared.entry.JoinedClient.{JoinedClient}
 use Rattle.history.specs.declared.entry.ServedCall.{ServedCall}
 use Rattle.history.specs.declared.entry.StoreOpening.{StoreOpening}
 use Rattle.history.specs.declared.entry.Write.{Write}
-use Rattle.history.specs.Entries.{is_of, own, parts_of, StandsInHistory}
-use Rattle.history.specs.Legal.{MayJoin, MayBegin, IsAccepted, MayDecide, MayFollow, IsLegal, HasOneWrite}
+use Rattle.history.specs.Entries.{is_of, own, count, parts_of, StandsInHistory}
+use Rattle.history.specs.Legal.{MayJoin, MayBegin, IsOfWrite, IsAccepted, MayDecide, IsDecided, IsOfPut, HasParts, IsKeyHome, IsAtHome, MayServe, MayFollow, IsLegal, HasOneWrite, AreOfTheirWrites}
 use Rattle.history.specs.Rules.{is_opening}
 use Rattle.plain_store.proofs.Members.{in_left, filter_in}
 use Rattle.history.proofs.Lists.{prefix_has, StandsBehind, StandsAfter, split_last, split_at, order}
@@ -49,6 +51,71 @@ accepted_later v log tenant partition version pre a = record {
   place = a.place;
   its = a.its;
   accepts = served_later v log a.served a.place (ToPrepare Prepared) pre a.accepts;
+}
+
+pub of_write_later : (v log : List HistoryEntry) (tenant : ℕ) (version : Record) → IsPrefix v log → IsOfWrite v tenant version → IsOfWrite log tenant version
+of_write_later v log tenant version pre w = record {
+  write = w.write;
+  began = prefix_has v log (Began w.write) pre w.began;
+  its = w.its;
+  item = w.item;
+  among = w.among;
+  is = w.is;
+}
+
+pub decided_later : (v log : List HistoryEntry) (tenant : ℕ) (stamp : Stamp) → IsPrefix v log → IsDecided v tenant stamp → IsDecided log tenant stamp
+decided_later v log tenant stamp pre d = record {
+  decision = d.decision;
+  stands = prefix_has v log (Decided d.decision) pre d.stands;
+  its = d.its;
+}
+
+pub of_put_later : (v log : List HistoryEntry) (tenant : ℕ) (call : Call) → IsPrefix v log → IsOfPut v tenant call → IsOfPut log tenant call
+of_put_later v log tenant (Prepare version) pre may = of_write_later v log tenant version pre may
+of_put_later v log tenant (Commit stamp) pre may = decided_later v log tenant stamp pre may
+of_put_later v log tenant (Get key stamp) pre may = tt
+of_put_later v log tenant (Found tag) pre may = tt
+of_put_later v log tenant (Collect keep) pre may = tt
+of_put_later v log tenant (Discard stamp) pre may = tt
+
+parts_before : (v rest : List HistoryEntry) (parts : ℕ) → HasParts v parts → HasParts (v ++ rest) parts
+parts_before [] rest parts has = absurd has
+parts_before (Opened setting ∷ v) rest parts has = has
+parts_before (Joined member ∷ v) rest parts has = absurd has
+parts_before (Arrived word ∷ v) rest parts has = absurd has
+parts_before (Began write ∷ v) rest parts has = absurd has
+parts_before (Decided decision ∷ v) rest parts has = absurd has
+parts_before (Served served ∷ v) rest parts has = absurd has
+
+pub has_parts_later : (v log : List HistoryEntry) (parts : ℕ) → IsPrefix v log → HasParts v parts → HasParts log parts
+has_parts_later v log parts pre has = subst (λ l. HasParts l parts) pre.1 (parts_before v pre.0 parts has)
+
+-- they are as many
+pub parts_as_opened : (v : List HistoryEntry) (parts : ℕ) → HasParts v parts → parts_of v ≡ parts
+parts_as_opened [] parts has = absurd has
+parts_as_opened (Opened setting ∷ v) parts has = has
+parts_as_opened (Joined member ∷ v) parts has = absurd has
+parts_as_opened (Arrived word ∷ v) parts has = absurd has
+parts_as_opened (Began write ∷ v) parts has = absurd has
+parts_as_opened (Decided decision ∷ v) parts has = absurd has
+parts_as_opened (Served served ∷ v) parts has = absurd has
+
+key_home_later : (v log : List HistoryEntry) (key : Key) (partition : ℕ) → IsPrefix v log → IsKeyHome v key partition → IsKeyHome log key partition
+key_home_later v log key partition pre h = record { parts = h.parts; there = has_parts_later v log h.parts pre h.there; home = h.home }
+
+pub at_home_later : (v log : List HistoryEntry) (partition : ℕ) (call : Call) → IsPrefix v log → IsAtHome v partition call → IsAtHome log partition call
+at_home_later v log partition (Prepare version) pre home = key_home_later v log version.key partition pre home
+at_home_later v log partition (Get key stamp) pre home = key_home_later v log key partition pre home
+at_home_later v log partition (Commit stamp) pre home = tt
+at_home_later v log partition (Found tag) pre home = tt
+at_home_later v log partition (Collect keep) pre home = tt
+at_home_later v log partition (Discard stamp) pre home = tt
+
+pub serve_later : (v log : List HistoryEntry) (partition tenant : ℕ) (call : Call) → IsPrefix v log → MayServe v partition tenant call
+    → MayServe log partition tenant call
+serve_later v log partition tenant call pre may = record {
+  put = of_put_later v log tenant call pre may.put;
+  home = at_home_later v log partition call pre may.home;
 }
 
 decide_later : (v log : List HistoryEntry) (decision : Decision) → IsLegal v → IsPrefix v log → MayDecide v decision → MayDecide log decision
@@ -81,7 +148,7 @@ may_later k mine seen log (Began write) is same legal pre may =
       above = λ other has. may.above other (subst (λ l. Began other ∈ l) (sym mine_is) has);
     }
 may_later k mine seen log (Decided decision) is same legal pre may = decide_later seen log decision legal pre may
-may_later k mine seen log (Served served) is same legal pre may = tt
+may_later k mine seen log (Served served) is same legal pre may = serve_later seen log served.partition served.tenant served.call pre may
 
 -- ---- a legal history
 
@@ -179,3 +246,11 @@ one_of_two log one other legal word stamp (inr (inr s)) = absurd (writes_apart l
 pub one_write : (log : List HistoryEntry) → IsLegal log → HasOneWrite log
 one_write log legal one other a b tenant stamp =
     one_of_two log one other legal (one_word log one other legal a b tenant stamp) stamp (order log (Began one) (Began other) a b)
+
+-- a version is of the one write of its stamp
+pub of_its_write : (log : List HistoryEntry) → IsLegal log → AreOfTheirWrites log
+of_its_write log legal tenant version write of began its stamp =
+    ∥∥₁_map of (λ w.
+    let written : version.stamp ≡ w.write.stamp = ap (λ (v : Record). v.stamp) w.is in
+    let same : w.write ≡ write = one_write log legal w.write write w.began began (w.its ∙ sym its) (sym written ∙ sym stamp) in
+    (w.item, subst (λ (x : Write). w.item ∈ x.items) same w.among, w.is ∙ ap (λ (x : Write). record_for x.stamp x.items w.item) same))

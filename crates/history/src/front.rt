@@ -6,7 +6,7 @@ ghost use Rattle.history.specs.declared.entry.HistoryEntry.TheVariants.{Joined, 
 ghost use Rattle.history.specs.declared.entry.JoinedClient.{JoinedClient as WhoJoined};
 ghost use Rattle.history.specs.Asking.{began_by, served_by};
 ghost use Rattle.history.specs.Entries.{is_of, own, count};
-ghost use Rattle.history.specs.Legal.{IsLegal, MayFollow, MayBegin, MayDecide};
+ghost use Rattle.history.specs.Legal.{IsLegal, MayFollow, MayBegin, MayDecide, MayServe};
 ghost use Rattle.history.specs.Rules.{IsHome, IsAdded, is_opening};
 
 use crate::entry::{CallToServe, Decision, HistoryEntry, JoinedClient, WriteToBegin};
@@ -122,7 +122,7 @@ impl<J: Naming> Front<J> {
     }
 
     /// Enters that a partition serves a call, and says whether it did. It did not where the partition has served other calls than
-    /// were seen here. It has seen then what the evidence has.
+    /// were seen here. The evidence shows that the call may be served.
     pub fn serve(
         &mut self,
         tally: &Tally<J>,
@@ -134,6 +134,7 @@ impl<J: Naming> Front<J> {
         requires partition { (tally.now.key ≡ asked.now.partition + 1)
             × (asked.now.partition < 64) }
         requires counted { count tally.now.key self.old ≡ entries }
+        requires may { ∥ MayServe evidence.now asked.now.partition asked.now.tenant asked.now.call.now ∥₁ }
         ensures later { IsPrefix self.old self.new }
         ensures evidence { IsPrefix evidence.now self.new }
         ensures added { MatchBool result

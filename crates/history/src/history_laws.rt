@@ -1,9 +1,29 @@
 //! What holds of every legal history. Each law is the contract of a function that does nothing.
 ghost use Rattle.std.specs.Prelude.{List};
 ghost use Rattle.history.specs.declared.entry.HistoryEntry.{HistoryEntry};
-ghost use Rattle.history.specs.Legal.{IsLegal, HasOneWrite};
+ghost use Rattle.history.specs.Legal.{IsLegal, HasOneWrite, AreOfTheirWrites, AreAtHome, ShowsWrites, ShowsDecided};
 
 /// In a legal history a stamp of a tenant is that of one put: it has one client, and one write set.
 pub fn a_stamp_has_one_write()
     ensures { (log : List HistoryEntry) → IsLegal log → HasOneWrite log }
+{}
+
+/// In a legal history a version of a write is one of the put that has its stamp: it has that put's write set.
+pub fn versions_are_of_their_writes()
+    ensures { (log : List HistoryEntry) → IsLegal log → AreOfTheirWrites log }
+{}
+
+/// In a legal history each version that a GET is reported was written, to the key that was asked, by a put that began.
+pub fn gets_show_writes()
+    ensures { (log : List HistoryEntry) → IsLegal log → ShowsWrites log }
+{}
+
+/// In a legal history each version that a GET without a stamp is reported is that of a put that was decided.
+pub fn first_gets_show_decided_writes()
+    ensures { (log : List HistoryEntry) → IsLegal log → ShowsDecided log }
+{}
+
+/// In a legal history each PREPARE and each GET was served at the home of its key.
+pub fn calls_are_at_home()
+    ensures { (log : List HistoryEntry) → IsLegal log → AreAtHome log }
 {}

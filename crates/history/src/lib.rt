@@ -13,6 +13,9 @@ pub use entry::{
     StoreToOpen, Write, WriteToBegin,
 };
 pub use front::Front;
-pub use history_laws::a_stamp_has_one_write;
+pub use history_laws::{
+    a_stamp_has_one_write, calls_are_at_home, first_gets_show_decided_writes, gets_show_writes,
+    versions_are_of_their_writes,
+};
 pub use rule::{Law, Naming};
 pub use tallies::{NewHistory, PartitionWords, Tally};

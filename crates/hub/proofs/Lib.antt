@@ -1,3 +1,4 @@
+mod Atomic
 pub mod Counted
 pub mod Entries
 pub mod Given
@@ -11,3 +12,4 @@ pub mod Rooms
 mod Behind
 mod Started
 mod Taking
+pub mod Evidence

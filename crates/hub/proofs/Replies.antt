@@ -45,7 +45,7 @@ among_more name asked (m ∷ ms) [] e is = absurd is
 among_more name asked (m ∷ ms) (x ∷ xs) e (inl is) = inl (is.0, among_more name asked ms xs e is.1)
 among_more name asked (m ∷ ms) (x ∷ xs) e (inr is) = inr (among_more name asked (m ∷ ms) xs e is)
 
-among_push : (name : SeatSight) (asked : Asked) (messages : List Message) (entries : List Entry) (message : Message) (e : Entry) → IsReplyIn name asked message e → AreAmong name asked messages entries → AreAmong name asked (messages ++ message ∷ []) (entries ++ e ∷ [])
+pub among_push : (name : SeatSight) (asked : Asked) (messages : List Message) (entries : List Entry) (message : Message) (e : Entry) → IsReplyIn name asked message e → AreAmong name asked messages entries → AreAmong name asked (messages ++ message ∷ []) (entries ++ e ∷ [])
 among_push name asked [] [] message e has is = inl (has, tt)
 among_push name asked [] (x ∷ xs) message e has is = inr (among_push name asked [] xs message e has tt)
 among_push name asked (m ∷ ms) [] message e has is = absurd is
@@ -67,7 +67,7 @@ read_more name asked start entries e Answers read = record {
   answers = read.answers;
 }
 
-if_read : (answer : Answer) (P Q : List Reading → Type 0) → ((told : List Reading) → P told → Q told) → IfRead answer P → IfRead answer Q
+pub if_read : (answer : Answer) (P Q : List Reading → Type 0) → ((told : List Reading) → P told → Q told) → IfRead answer P → IfRead answer Q
 if_read (says.Refused refusal) P Q so is = tt
 if_read (says.Ready counter) P Q so is = tt
 if_read (says.PutBegun stamp rows) P Q so is = tt
@@ -90,7 +90,7 @@ if_read (says.Sent rows) P Q so is = tt
 if_read (says.Freed count) P Q so is = tt
 if_read (says.Keeps keep) P Q so is = tt
 
-if_listed : (answer : Answer) (P Q : List Reading → Type 0) → ((told : List Reading) → P told → Q told) → IfListed answer P → IfListed answer Q
+pub if_listed : (answer : Answer) (P Q : List Reading → Type 0) → ((told : List Reading) → P told → Q told) → IfListed answer P → IfListed answer Q
 if_listed (says.Refused refusal) P Q so is = tt
 if_listed (says.Ready counter) P Q so is = tt
 if_listed (says.PutBegun stamp rows) P Q so is = tt

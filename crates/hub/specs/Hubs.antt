@@ -1,5 +1,6 @@
 -- What contracts see of a hub, and what it leaves.
-use Rattle.std.specs.Prelude.{◌≡◌, ◌⊎◌, ◌+◌, ℕ, List, [], ◌∷◌, map, slice_get, Some}
+use Rattle.std.specs.Prelude.{◌≡◌, ◌⊎◌, ◌+◌, ℕ, List, [], ◌∷◌, length, map, slice_get, Some}
+use mathlib.Core.List.{IsPrefix}
 use Rattle.std.specs.Global.{Vec}
 use Rattle.stamps.specs.declared.bounds.Limits.{Limits}
 use Rattle.partition.specs.declared.book.Counts.{Counts}
@@ -7,6 +8,9 @@ use Rattle.partition.specs.declared.journal.Journal.{Journal}
 use Rattle.partition.specs.Accounts.{Account, account_of, seat_events, collector_events, AreSound}
 use Rattle.shard.specs.Journals.{AreOf}
 use Rattle.closed_store.specs.declared.config.Config.{Config}
+use Rattle.closed_store.specs.declared.closed.Closed.{Closed}
+use Rattle.closed_store.specs.declared.transcript.Transcript.{Transcript}
+use Rattle.history.specs.Legal.{IsLegal}
 use Rattle.history.specs.declared.entry.HistoryEntry.{HistoryEntry}
 use Rattle.traced_book.specs.Traced.{IsStretch}
 
@@ -56,3 +60,15 @@ AreStretches seen at accounts =
 abbrev pub AllStretches : List HistoryEntry → ℕ → List (Vec Journal) → Type 0
 AllStretches seen at [] = Unit {0}
 AllStretches seen at (j ∷ js) = AreStretches seen at (map account_of j.items) × AllStretches seen (at + 1) js
+
+-- more was seen of the history, which is legal if what was seen before is
+pub record SeesMore (old new : List HistoryEntry) : Type 0 where
+  pub later : IsPrefix old new
+  pub legal : IsLegal old → IsLegal new
+
+-- what a hub of this config leaves, with the transcripts that it was given
+pub record IsLeftBy (hub : ConfigView) (given : List Transcript) (closed : Closed) : Type 0 where
+  pub config : config_view closed.config ≡ hub
+  pub transcripts : closed.transcripts.items ≡ given
+  pub parts : length closed.journals.items ≡ hub.parts
+  pub books : AllSoundBooks hub 0 closed.journals.items closed.counts.items

@@ -1,7 +1,7 @@
 -- Who has a session, and what is kept of the clients that had one.
-use Rattle.std.specs.Prelude.{◌≡◌, ◌≢◌, ◌⊎◌, ◌+◌, ◌<◌, ℕ, Bool, false, true, Option, None, Some, IsSome, IsSomeAnd, cond, max, min, nat_eq, nat_le, nat_lt, slice_get, ◌||◌, ◌^◌, ◌-◌}
+use Rattle.std.specs.Prelude.{◌≡◌, ◌≢◌, ◌⊎◌, ◌+◌, ◌<◌, ℕ, Bool, false, true, Option, None, Some, IsSome, IsSomeAnd, All, cond, length, max, min, nat_eq, nat_le, nat_lt, slice_get, ◌||◌, ◌^◌, ◌-◌}
 use Rattle.std.specs.Option.{option_map_or}
-use Rattle.indexmap.specs.IndexMap.{get, index_map_len, spare}
+use Rattle.indexmap.specs.IndexMap.{IsEmpty, get, index_map_len, spare}
 use Rattle.plain_store.specs.declared.refusal.Refusal.{Refusal}
 use Rattle.plain_store.specs.declared.refusal.Refusal.TheVariants.{Busy, ClientsFull, RowsUsed, OutOfMemory}
 use Rattle.hub.specs.declared.register.Register.{Register}
@@ -56,6 +56,10 @@ next_session seats known base = record {
   ticket = tickets_of known;
 }
 
+-- what is kept of a client whose session began so
+abbrev pub opened_row : Admission → KnownClient
+opened_row its = record { is_open = true; counter = its.counter; ticket = its.ticket; turn = its.turn }
+
 -- What is kept of a client once its session of this turn ended with this counter, after so many transactions. A later session of
 -- it goes on.
 abbrev pub after_session : (turn counter ticket : ℕ) → KnownClient → KnownClient
@@ -78,3 +82,19 @@ HasRoomFor register tenant client =
 -- another client, or one of another tenant
 abbrev pub IsAnother : ℕ → ℕ → ℕ → ℕ → Type 0
 IsAnother tenant client other_tenant other = (other_tenant ≢ tenant) ⊎ (other ≢ client)
+
+-- so many tenants, of which none has a client, and no seat yet
+pub record HasNoClients (count : ℕ) (register : Register) : Type 0 where
+  pub clients : All (λ rows. IsEmpty rows) register.tenants.items
+  pub tenants : length register.tenants.items ≡ count
+  pub seats : register.seats ≡ 0
+
+-- what is kept of each client stays, and so do the numbers of the seats
+pub record KeepsClients (old new : Register) : Type 0 where
+  pub kept : (of_tenant other : ℕ) → known_of new of_tenant other ≡ known_of old of_tenant other
+  pub seats : new.seats ≡ old.seats
+
+-- of this client that is kept now, and of each other what was kept before
+pub record KeepsOf (tenant client : ℕ) (row : Option KnownClient) (old new : Register) : Type 0 where
+  pub known : known_of new tenant client ≡ row
+  pub others : (of_tenant other : ℕ) → IsAnother tenant client of_tenant other → known_of new of_tenant other ≡ known_of old of_tenant other

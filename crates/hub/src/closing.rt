@@ -1,11 +1,9 @@
 //! What a hub's partitions leave.
-ghost use Rattle.std.specs.Prelude.{◌≡◌, IfSome, IsTrue, length, map};
+ghost use Rattle.std.specs.Prelude.{◌≡◌, IfSome, IsTrue, map};
 ghost use Rattle.std.specs.Arc.{arc_value};
-ghost use mathlib.Core.List.{IsPrefix};
 ghost use Rattle.partition.specs.Accounts.{account_of};
-ghost use Rattle.history.specs.Legal.{IsLegal};
 ghost use Rattle.shard.specs.Journals.{AreOf};
-ghost use Rattle.hub.specs.Hubs.{config_view, AreStretches, IsSoundBook};
+ghost use Rattle.hub.specs.Hubs.{config_view, AreStretches, IsSoundBook, SeesMore};
 ghost use Rattle.hub.specs.Shards.{IsConfigOf};
 
 use closed_store::Config;
@@ -29,8 +27,7 @@ pub fn take_out<G: Naming>(
     requires { IsConfigOf config.now partition (arc_value shard).config }
     ensures book { IsSoundBook (config_view config.now) partition result.0 result.1 }
     ensures stretches { AreStretches seen.new partition (map account_of result.0.items) }
-    ensures later { IsPrefix seen.old seen.new }
-    ensures legal { IsLegal seen.old → IsLegal seen.new }
+    ensures seen { SeesMore seen.old seen.new }
 {
     if let Some(book) = book_of(shard, seen) {
         let (journals, counts) = book.into_journals();
@@ -52,8 +49,7 @@ fn book_of<G: Naming>(shard: Arc<Shard<G>>, seen: &mut Front<G>) -> Option<Book>
         ∥ AreOf (arc_value shard).config.parts (arc_value shard).config.partition book ∥₁) }
     ensures stretches { IfSome result
         (λ book. AreStretches seen.new (arc_value shard).config.partition book) }
-    ensures later { IsPrefix seen.old seen.new }
-    ensures legal { IsLegal seen.old → IsLegal seen.new }
+    ensures seen { SeesMore seen.old seen.new }
 {
     match Arc::into_inner(shard) {
         Some(shard) => book_in(shard, seen),
@@ -66,8 +62,7 @@ fn book_in<G: Naming>(shard: Shard<G>, seen: &mut Front<G>) -> Option<Book>
     ensures journals { IfSome result
         (λ book. ∥ AreOf shard.config.parts shard.config.partition book ∥₁) }
     ensures stretches { IfSome result (λ book. AreStretches seen.new shard.config.partition book) }
-    ensures later { IsPrefix seen.old seen.new }
-    ensures legal { IsLegal seen.old → IsLegal seen.new }
+    ensures seen { SeesMore seen.old seen.new }
 {
     match shard.into_book() {
         Some((book, its)) => {

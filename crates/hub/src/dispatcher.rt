@@ -2,6 +2,7 @@
 ghost use Rattle.std.specs.Prelude.{◌≡◌, ◌<◌, ◌≤◌, ◌+◌, ◌-◌, ◌^◌, ◌↔◌, [], ℕ, None, Some, OnOk, IfOk, IsOkAnd, IfSome, IsSomeAnd, IfNone, IsTrue, cond, drop, false, is_some, length, map, min, slice_index_or, vec_len};
 ghost use Rattle.std.specs.VecDeque.{deque_capacity, deque_len};
 ghost use Rattle.stamps.specs.Bounds.{IsParts};
+ghost use Rattle.history.specs.Legal.{HasParts, IsOfPut};
 ghost use Rattle.shard.specs.Asked.{asked_by, without_reply};
 ghost use Rattle.shard.specs.Homes.{HasHome, place_of as place_for};
 ghost use Rattle.hub.specs.Limits.{max_calls};
@@ -30,6 +31,8 @@ pub struct Dispatcher<'a, G: Naming> {
     alloc: Global,
     client: Client,
     parts: u32,
+    /// What shows that the store has so many partitions.
+    opening: Front<G>,
     shards: &'a [Arc<Shard<G>>],
     gate: &'a G,
     jobs: Vec<JobSender<G>>,
@@ -51,6 +54,7 @@ pub struct Dispatcher<'a, G: Naming> {
     sent: usize,
     ghost parts_in_range: { IsParts parts },
     ghost few_sent: { sent ≤ max_calls },
+    ghost of_store: { ∥ HasParts opening parts ∥₁ },
 }
 
 impl<'a, G: Naming> Drop for Dispatcher<'a, G> {
@@ -59,6 +63,7 @@ impl<'a, G: Naming> Drop for Dispatcher<'a, G> {
             alloc: _,
             client: _,
             parts: _,
+            opening: _,
             shards: _,
             gate: _,
             jobs: _,
@@ -82,11 +87,13 @@ impl<'a, G: Naming> Dispatcher<'a, G> {
         alloc: Global,
         client: Client,
         parts: u32,
+        opening: Front<G>,
         shards: &'a [Arc<Shard<G>>],
         gate: &'a G,
         jobs: Vec<JobSender<G>>,
     ) -> Result<Dispatcher<'a, G>, AllocError>
-        requires { IsParts parts }
+        requires parts { IsParts parts }
+        requires opening { ∥ HasParts opening parts ∥₁ }
         ensures given { IfOk result (λ queues. (queues.client ≡ client) × (queues.parts ≡ parts)
             × (queues.jobs ≡ jobs) × (queues.shards.now ≡ shards.now)) }
         ensures none_staged { IfOk result (λ queues. (queues.calls.items ≡ []) × (queues.served ≡ 0)
@@ -99,6 +106,7 @@ impl<'a, G: Naming> Dispatcher<'a, G> {
             alloc,
             client,
             parts,
+            opening,
             shards,
             gate,
             jobs,
@@ -384,9 +392,10 @@ impl<'a, G: Gate + Naming> Dispatcher<'a, G> {
     ghost use Rattle.hub.specs.Rooms.{HasPlaces, HasRoom, SameRoom};
 
     /// Stages the call in this box as the seat's call of this number, for `dispatch`, once it has passed the gate, with what the
-    /// seat has seen of the history.
+    /// seat has seen of the history: that shows of which put it is.
     pub fn stage(&mut self, name: &SeatName, number: u64, message: Box<Message>, seen: &Front<G>)
-        requires { HasPlaces 1 self.old }
+        requires places { HasPlaces 1 self.old }
+        requires put { ∥ IsOfPut seen.now name.now.tenant message.value.call ∥₁ }
         ensures counted { self.new.sent ≡ self.old.sent + 1 }
         ensures calls { deque_len self.new.calls ≡ deque_len self.old.calls + 1 }
         ensures staged { IsStagedNext name.now self.old.parts number
@@ -410,6 +419,7 @@ impl<'a, G: Gate + Naming> Dispatcher<'a, G> {
         message: Box<Message>,
         seen: &Front<G>,
     ) -> SeatCall<G>
+        requires { ∥ IsOfPut seen.now name.now.tenant message.value.call ∥₁ }
         ensures owner { (result.tenant ≡ name.now.tenant) × (result.seat ≡ name.now.seat)
             × (result.number ≡ number) × (result.parts ≡ self.now.parts) }
         ensures message { result.message ≡ message }
@@ -419,6 +429,8 @@ impl<'a, G: Gate + Naming> Dispatcher<'a, G> {
             → G.has_passed self.now.gate.now result.partition result.arrival }
     {
         let partition = place_of(&message, self.parts);
+        let mut front = seen.again();
+        front.learn(&self.opening);
         SeatCall {
             partition,
             parts: self.parts,
@@ -427,11 +439,12 @@ impl<'a, G: Gate + Naming> Dispatcher<'a, G> {
             number,
             arrival: self.pass(partition),
             message,
-            front: seen.again(),
+            front,
         }
     }
 
-    /// Passes the gate for a call at this partition, and answers which arrival there it is; 0 where there is no such partition.
+    /// Passes the gate for a call at this partition, and answers which arrival there it is, 1 where arrivals are not counted; 0 where
+    /// there is no such partition.
     fn pass(&self, partition: u32) -> u64
         ensures there { partition < length self.now.shards.now → 0 < result }
         ensures passed { 0 < result → G.has_passed self.now.gate.now partition result }
@@ -439,7 +452,11 @@ impl<'a, G: Gate + Naming> Dispatcher<'a, G> {
         let Some(shard) = self.shards.get(partition as usize) else {
             return 0;
         };
-        let arrival = shard.next_arrival();
+        let arrival = if self.gate.counts() {
+            shard.next_arrival()
+        } else {
+            1
+        };
         self.gate.pass(partition, arrival);
         arrival
     }

@@ -1,6 +1,6 @@
 //! A hub: what seats share, and the threads that serve them.
 ghost use Rattle.stamps.specs.Bounds.{IsParts};
-ghost use Rattle.hub.specs.Hubs.{config_view, AllSoundBooks, AllStretches};
+ghost use Rattle.hub.specs.Hubs.{config_view, AllStretches, IsLeftBy};
 ghost use Rattle.hub.specs.Registered.{IsDeparture, is_unopened};
 ghost use Rattle.shard.specs.Queues.{unsent};
 ghost use Rattle.shard.specs.UsedAt.{AreUsagesAt, WasElsewhere};
@@ -24,6 +24,14 @@ use std::marker::Model;
 use std::sync::{Arc, Mutex, Wait};
 use std::thread::Threads;
 use tenant_sessions::ClientSession;
+use traced_client::{ClientWords, TracedClient};
+
+/// The clients of all tenants, behind one lock: who has a session, and the words of those that have none.
+#[derive(Drop)]
+struct Clients<G: Naming> {
+    register: Register,
+    words: ClientWords<G>,
+}
 
 /// The running store. Any thread may hold a `&` to it and take seats; one thread opens and closes it.
 ///
@@ -33,7 +41,7 @@ pub struct Hub<G: Naming> {
     config: Config,
     pub(crate) alloc: Global,
     queues: Mutex<Vec<JobSender<G>>>,
-    clients: Mutex<Register>,
+    clients: Mutex<Clients<G>>,
     collector: Arc<Collector>,
     gate: Arc<G>,
     shards: Vec<Arc<Shard<G>>>,
@@ -47,13 +55,14 @@ pub struct Hub<G: Naming> {
 impl<G: Naming> Model for Hub<G> {
     ghost use Rattle.std.specs.Prelude.{◌≡◌, ◌≤◌, length, vec_len, vec_capacity};
     ghost use Rattle.hub.specs.Hubs.{ConfigView, config_view};
+    ghost use Rattle.history.specs.Legal.{HasParts};
     ghost use Rattle.hub.specs.Shards.{AreShardsFrom};
 
     ghost Value = { ConfigView };
 
     ghost view = { λ h. config_view h.config };
 
-    ghost invariant = { λ h. (length h.shards.items ≡ h.config.parts) × (vec_len h.journals ≡ 0) × (vec_len h.counts ≡ 0) × (h.config.parts ≤ vec_capacity h.journals) × (h.config.parts ≤ vec_capacity h.counts) × AreShardsFrom h.config 0 h.shards.items };
+    ghost invariant = { λ h. (length h.shards.items ≡ h.config.parts) × (vec_len h.journals ≡ 0) × (vec_len h.counts ≡ 0) × (h.config.parts ≤ vec_capacity h.journals) × (h.config.parts ≤ vec_capacity h.counts) × AreShardsFrom h.config 0 h.shards.items × ∥ HasParts h.seen h.config.parts ∥₁ };
 }
 
 impl<G: Gate + Naming + Send + Sync + Drop + 'static> Hub<G> {
@@ -69,9 +78,12 @@ impl<G: Gate + Naming + Send + Sync + Drop + 'static> Hub<G> {
         ensures { IfOk result (λ h. h ≡ config_view store.config) }
     {
         let NewStore { config, history } = store;
-        let (_, mut words, seen) = history.named::<G>();
+        let (of_clients, mut words, seen) = history.named::<G>();
         let parts = config.parts as usize;
-        let clients = Mutex::new(Register::new(alloc, config.limits.len())?);
+        let clients = Mutex::new(Clients {
+            register: Register::new(alloc, config.limits.len())?,
+            words: ClientWords::new(alloc, of_clients, &seen),
+        });
         let collector = collector_of(alloc, &config)?;
         let gate = share(alloc, gate)?;
         let sink = share(alloc, sink)?;
@@ -109,10 +121,7 @@ impl<G: Gate + Naming + Send + Sync + Drop + 'static> Hub<G> {
     /// Ends and joins the threads, and takes each book out of its lock. The seats have ended, since they borrow the hub. A
     /// book that is not there, which no proof excludes, gives no journals and counts of 0. Takes no memory.
     pub fn close<R: Threads + Wait>(self, rt: &R, transcripts: Vec<Transcript>) -> Closed
-        ensures config { config_view result.config ≡ self }
-        ensures transcripts { result.transcripts.items ≡ transcripts.items }
-        ensures parts { length result.journals.items ≡ self.parts }
-        ensures books { AllSoundBooks self 0 result.journals.items result.counts.items }
+        ensures { IsLeftBy self transcripts.items result }
     {
         let (closed, _) = self.close_with_history(rt, transcripts);
         closed
@@ -125,10 +134,7 @@ impl<G: Gate + Naming + Send + Sync + Drop + 'static> Hub<G> {
         rt: &R,
         transcripts: Vec<Transcript>,
     ) -> (Closed, Front<G>)
-        ensures config { config_view result.0.config ≡ self }
-        ensures transcripts { result.0.transcripts.items ≡ transcripts.items }
-        ensures parts { length result.0.journals.items ≡ self.parts }
-        ensures books { AllSoundBooks self 0 result.0.journals.items result.0.counts.items }
+        ensures left { IsLeftBy self transcripts.items result.0 }
         ensures history { AllStretches result.1 0 result.0.journals.items }
     {
         let Hub {
@@ -179,24 +185,24 @@ impl<G: Naming> Hub<G> {
         self.config.parts
     }
 
-    /// Ends this session of a client. A later one of that client goes on.
+    /// Ends this session of a client, whose word comes back with it. A later one of that client goes on.
     pub(crate) fn leave<R: Wait>(
         &self,
         rt: &R,
         name: &SeatName,
         counter: Counter,
         ticket: u64,
+        client: Option<TracedClient<G>>,
     ) -> Departure
         ensures { IsDeparture name.now counter ticket result }
     {
-        let SeatName {
-            tenant,
-            client,
-            turn,
-            ..
-        } = *name;
         let mut clients = self.clients.lock(rt);
-        clients.leave(tenant, client, turn, counter, ticket)
+        if let Some(its) = client {
+            clients.words.give_back(its);
+        }
+        clients
+            .register
+            .leave(name.tenant, name.client, name.turn, counter, ticket)
     }
 }
 
@@ -239,6 +245,7 @@ impl<G: Gate + Naming> Hub<G> {
             Some(its) => self
                 .clients
                 .lock(rt)
+                .register
                 .clients(tenant)
                 .min(its.clients as usize),
             None => 0,
@@ -270,12 +277,13 @@ impl<G: Gate + Naming> Hub<G> {
         };
         let mut guard = self.clients.lock(rt);
         let clients = &mut *guard;
-        let admission = clients.offer(tenant, client, base, limits)?;
+        let admission = clients.register.offer(tenant, client, base, limits)?;
         let ends = match self.ends(rt, client, admission.counter) {
             Ok(ends) => ends,
             Err(_) => return Err(Refusal::OutOfMemory),
         };
-        clients.admit(tenant, client, &admission);
+        let word = clients.words.take(tenant, client)?;
+        clients.register.admit(tenant, client, &admission);
         let name = SeatName {
             tenant,
             client,
@@ -284,7 +292,9 @@ impl<G: Gate + Naming> Hub<G> {
             base,
             counter: admission.counter,
         };
-        Ok(Seat::new(self, name, admission.ticket, ends, self.seen.again()))
+        let mut seen = self.seen.again();
+        seen.learn(&word.seen());
+        Ok(Seat::new(self, name, admission.ticket, ends, seen, word))
     }
 
     /// From now on each collection of this tenant keeps so many committed versions of an item. It begins with as many as its
@@ -314,7 +324,16 @@ impl<G: Gate + Naming> Hub<G> {
         let parts = self.config.parts;
         let jobs = ends_of(self.alloc, &mut *self.queues.lock(rt))?;
         let shards = self.shards.as_slice();
-        let queues = Dispatcher::new(self.alloc, client, parts, shards, &*self.gate, jobs)?;
+        let opening = self.seen.again();
+        let queues = Dispatcher::new(
+            self.alloc,
+            client,
+            parts,
+            opening,
+            shards,
+            &*self.gate,
+            jobs,
+        )?;
         let Ok(session) = ClientSession::hello(self.alloc, counter) else {
             return Err(AllocError);
         };

@@ -13,11 +13,10 @@ use std::alloc::{AllocError, Global};
 use std::sync::Wait;
 
 impl<'a, G: Gate + Naming> Seat<'a, G> {
-    ghost use Rattle.std.specs.Prelude.{◌≡◌, ◌<◌, ◌-◌, ◌*◌, ◌^◌, ◌↔◌, true, false, Some};
+    ghost use Rattle.std.specs.Prelude.{◌≡◌, ◌<◌, ◌-◌, ◌^◌, ◌↔◌, true, false, Some};
     ghost use Rattle.hub.specs.Limits.{max_calls};
-    ghost use Rattle.hub.specs.ReadsFirst.{IsReadAndWritten, IsReadBy};
+    ghost use Rattle.hub.specs.ReadsFirst.{IsReadBy, PutsNewest};
     ghost use Rattle.hub.specs.Operations.{IsLater};
-    ghost use Rattle.hub.specs.Seats.{is_unrecorded, last_answer};
     ghost use Rattle.plain_store.specs.Writing.{keys_written};
 
     /// Reads the keys of the items, and then writes the items, whatever it read: so its stamp is above that of each write to
@@ -28,15 +27,7 @@ impl<'a, G: Gate + Naming> Seat<'a, G> {
     /// write. Where the read was refused without an entry, that refusal is the answer, and nothing is written; so it is where
     /// room for the keys was refused (30). A read that is answered by a Restart is enough.
     pub fn put_newest<R: Wait>(&mut self, rt: &R, items: &[Item]) -> Answer
-        ensures answered { is_unrecorded result ≡ false
-            → last_answer self.new.entries ≡ Some result }
-        ensures both { IsReadAndWritten items.now self.old result self.new }
-        ensures goes_on { is_unrecorded result ≡ false → self.new.stopped ≡ false }
-        ensures stopped { (result ≡ Answer.Refused Refusal.Stopped) ↔ (self.old.stopped ≡ true) }
-        ensures past { result ≡ Answer.Refused Refusal.RowsUsed → 2 ^ 62 - 128 < self.new.sent }
-        ensures used_up { (self.old.stopped ≡ false) × (2 ^ 62 - 128 < self.old.sent)
-            → result ≡ Answer.Refused Refusal.RowsUsed }
-        ensures later { IsLater (2 * max_calls) self.old self.new }
+        ensures { PutsNewest items.now self.old result self.new }
     {
         let mut answer = Answer::Ignored;
         self.put_newest_into(rt, items, &mut answer);
@@ -45,16 +36,7 @@ impl<'a, G: Gate + Naming> Seat<'a, G> {
 
     /// As `put_newest`, with the answer written into the caller's buffer.
     pub fn put_newest_into<R: Wait>(&mut self, rt: &R, items: &[Item], answer: &mut Answer)
-        ensures answered { is_unrecorded answer.new ≡ false
-            → last_answer self.new.entries ≡ Some answer.new }
-        ensures both { IsReadAndWritten items.now self.old answer.new self.new }
-        ensures goes_on { is_unrecorded answer.new ≡ false → self.new.stopped ≡ false }
-        ensures stopped { (answer.new ≡ Answer.Refused Refusal.Stopped)
-            ↔ (self.old.stopped ≡ true) }
-        ensures past { answer.new ≡ Answer.Refused Refusal.RowsUsed → 2 ^ 62 - 128 < self.new.sent }
-        ensures used_up { (self.old.stopped ≡ false) × (2 ^ 62 - 128 < self.old.sent)
-            → answer.new ≡ Answer.Refused Refusal.RowsUsed }
-        ensures later { IsLater (2 * max_calls) self.old self.new }
+        ensures { PutsNewest items.now self.old answer.new self.new }
     {
         self.read_first(rt, items, answer);
         if has_no_entry(answer) {

@@ -1,5 +1,10 @@
 //! One operation of a seat: its calls go out, and their replies come in until each is answered.
-ghost use Rattle.std.specs.Prelude.{◌≡◌, ◌<◌, ◌≤◌, ◌+◌, ◌^◌, ◌↔◌, true, None, IsTrue};
+ghost use Rattle.std.specs.Prelude.{◌≡◌, ◌<◌, ◌≤◌, ◌+◌, ◌^◌, ◌↔◌, ℕ, true, None, IsTrue};
+ghost use mathlib.Core.List.{IsPrefix};
+ghost use Rattle.history.specs.Legal.{IsDecided, IsLegal};
+ghost use Rattle.hub.specs.Evidence.{HasBegunIn, IsOfTenant, MayBeDecided};
+ghost use Rattle.hub.specs.Requests.{intent_of};
+ghost use Rattle.tenant_sessions.specs.declared.moves.MoveKind.TheVariants.{Decided as Decides};
 ghost use Rattle.hub.specs.Replies.{IsUnder};
 ghost use Rattle.hub.specs.Rooms.{has_commits};
 ghost use Rattle.plain_store.specs.declared.answer.Rows.{Rows as Told};
@@ -16,6 +21,7 @@ use stamps::Stamp;
 use std::alloc::{AllocError, Global};
 use std::sync::Wait;
 use tenant_sessions::{ClientSession, MoveKind};
+use traced_client::TracedClient;
 
 /// The room that an operation needs in the list of entries: for the replies to its calls, and for its answer, which takes
 /// that of 5.
@@ -34,6 +40,8 @@ pub(crate) struct RunningOperation<'a, G: Naming> {
     pub(crate) entries: EntryList,
     /// What it has seen of the history: each call of it that was answered.
     pub(crate) seen: Front<G>,
+    /// Its client's word, until the session has ended.
+    pub(crate) client: Option<TracedClient<G>>,
     /// How many calls were sent before this operation: its own are numbered on from there.
     pub(crate) first: u64,
     /// The room in which its answer is entered, until it is.
@@ -44,6 +52,8 @@ pub(crate) struct RunningOperation<'a, G: Naming> {
     readings: Box<Readings>,
     ghost numbers: { first ≤ 2 ^ 62 },
     ghost opened: { session.is_open ≡ true },
+    ghost of_tenant: { IsOfTenant name.tenant client },
+    ghost legal: { ∥ IsLegal seen ∥₁ },
 }
 
 /// Whether a call is not a PREPARE or COMMIT under another stamp.
@@ -96,6 +106,64 @@ fn tell_end(taken: &MoveKind, readings: &Readings, answer: &mut Answer)
     }
 }
 
+/// Enters that what has begun under this stamp is a put of this tenant's client, if it is one, and says whether that was done. It
+/// was not where the word is not here, or has other entries than were seen.
+fn enter_begun<G: Naming>(
+    client: &mut Option<TracedClient<G>>,
+    seen: &mut Front<G>,
+    tenant: u32,
+    own: Stamp,
+    request: &SeatRequest<'_>,
+) -> bool
+    requires { IsOfTenant tenant client.old }
+    ensures began { IsTrue result → HasBegunIn seen.new tenant (intent_of own request.now) }
+    ensures later { IsPrefix seen.old seen.new }
+    ensures legal { ∥ IsLegal seen.old ∥₁ → ∥ IsLegal seen.new ∥₁ }
+    ensures of_tenant { IsOfTenant tenant client.new }
+{
+    let SeatRequest::Put(items) = request else {
+        return true;
+    };
+    let Some(its) = client else {
+        return false;
+    };
+    if !its.begin(own, items) {
+        return false;
+    }
+    seen.learn(&its.seen());
+    true
+}
+
+/// Enters that a put of this tenant's client is decided, if the move says so, and says whether that was done. It was not where the
+/// word is not here, or has other entries than were seen.
+fn enter_decided<G: Naming>(
+    client: &mut Option<TracedClient<G>>,
+    seen: &mut Front<G>,
+    tenant: u32,
+    taken: &MoveKind,
+) -> bool
+    requires of_tenant { IsOfTenant tenant client.old }
+    requires decided { (stamp : ℕ) → taken.now ≡ Decides stamp
+        → ∥ MayBeDecided seen.old tenant stamp ∥₁ }
+    ensures decided { IsTrue result → (stamp : ℕ) → taken.now ≡ Decides stamp
+        → IsDecided seen.new tenant stamp }
+    ensures later { IsPrefix seen.old seen.new }
+    ensures legal { ∥ IsLegal seen.old ∥₁ → ∥ IsLegal seen.new ∥₁ }
+    ensures of_tenant { IsOfTenant tenant client.new }
+{
+    let MoveKind::Decided(stamp) = taken else {
+        return true;
+    };
+    let Some(its) = client else {
+        return false;
+    };
+    if !its.decide(*stamp, seen) {
+        return false;
+    }
+    seen.learn(&its.seen());
+    true
+}
+
 impl<'a, G: Gate + Naming> RunningOperation<'a, G> {
     ghost use Rattle.std.specs.Prelude.{◌≡◌, ◌<◌, ◌≤◌, ◌+◌, ◌^◌, ℕ, [], ◌∷◌, ◌++◌, List, Option, true, false, None, Some, Ok, Err, OnOk, OnErr, IfOk, IfErr, IsSome, IsNone, IsTrue, ◌↔◌, cond, length, map, slice_get};
     ghost use Rattle.stamps.specs.Bounds.{IsParts};
@@ -127,6 +195,11 @@ impl<'a, G: Gate + Naming> RunningOperation<'a, G> {
     ghost use Rattle.tenant_sessions.specs.declared.running.Running.{Running};
     ghost use Rattle.hub.specs.Taken.{replies_in};
     ghost use Rattle.hub.specs.Staging.{AreStagedBehind, IsStagedNext};
+    ghost use Rattle.history.specs.Legal.{IsLegal, IsOfPut};
+    ghost use Rattle.hub.specs.Evidence.{AreOfPuts, IsUnderWay, MayBeDecided};
+    ghost use Rattle.tenant_sessions.specs.Moves.{sends_calls};
+    ghost use Rattle.tenant_sessions.specs.Sending.{SendsSo, waiting_of};
+    ghost use Rattle.tenant_sessions.specs.declared.moves.MoveKind.TheVariants.{Decided as Decides};
 
     /// What a seat that has just begun has: no call sent and no entry.
     pub(crate) fn new(
@@ -136,8 +209,11 @@ impl<'a, G: Gate + Naming> RunningOperation<'a, G> {
         session: ClientSession,
         readings: Box<Readings>,
         seen: Front<G>,
+        client: TracedClient<G>,
     ) -> RunningOperation<'a, G>
-        requires { session.is_open ≡ true }
+        requires open { session.is_open ≡ true }
+        requires of_tenant { client.tenant ≡ name.tenant }
+        requires legal { ∥ IsLegal seen ∥₁ }
         ensures given { (result.name ≡ name) × (result.queues ≡ queues.entry)
             × (result.session ≡ session) × (result.readings ≡ readings) × (result.seen ≡ seen) }
         ensures begun { (result.first ≡ 0) × (result.entries.items ≡ []) × (result.place ≡ None)
@@ -149,6 +225,7 @@ impl<'a, G: Gate + Naming> RunningOperation<'a, G> {
             session,
             entries: EntryList::new(alloc),
             seen,
+            client: Some(client),
             first: 0,
             place: None,
             fault: None,
@@ -211,7 +288,8 @@ impl<'a, G: Gate + Naming> RunningOperation<'a, G> {
         ensures recorded { OnOk result (is_unrecorded answer.new ≡ false) }
         ensures read { OnOk result
             (IsToldFor (sight_of self.old.name self.new.seen) parts
-            (IsDrawn self.old.name.client self.old.session.counter self.new.session.counter) request.now answer.new self.old.entries.items self.new.entries.items) }
+            (IsDrawn self.old.name.client self.old.session.counter self.new.session.counter)
+            request.now answer.new self.old.entries.items self.new.entries.items) }
         ensures counter { self.old.session.counter ≤ self.new.session.counter }
         ensures served { (start : List Entered)
             → AreServed (sight_of self.old.name self.old.seen) self.old.first (self.old.first
@@ -231,7 +309,15 @@ impl<'a, G: Gate + Naming> RunningOperation<'a, G> {
     {
         let client = self.name.client;
         match request.start(&mut self.session, client, parts) {
-            Ok(()) => self.exchange(rt, self.last_stamp(), takes, answer),
+            Ok(()) => {
+                let own = self.last_stamp();
+                let tenant = self.name.tenant;
+                if !enter_begun(&mut self.client, &mut self.seen, tenant, own, request) {
+                    self.fault = Some(Fault::NoTenant);
+                    return Err(Fault::NoTenant);
+                }
+                self.exchange(rt, own, takes, answer)
+            }
             Err(refusal) => {
                 tell_refusal(refusal, answer);
                 self.enter_answer(answer);
@@ -294,6 +380,11 @@ impl<'a, G: Gate + Naming> RunningOperation<'a, G> {
         requires room { max_calls + 5 ≤ self.old.entries.room }
         requires calls { HasRoom (calls_waiting self.old.session.running
             + calls_left self.old.session.running) self.old.queues }
+        requires puts { ∥ AreOfPuts
+            self.old.seen self.old.name.tenant (waiting_of self.old.session.running) ∥₁ }
+        requires under_way { ∥ IsUnderWay
+            (sight_of self.old.name self.old.seen) own self.old.entries.items
+            self.old.session.running (told_by self.old.place answer.old) ∥₁ }
         ensures outcome { result ≡ outcome_of self.new.fault self.new.place }
         ensures few { replies_in self.new.entries.items
             ≤ replies_in self.old.entries.items + takes }
@@ -305,9 +396,11 @@ impl<'a, G: Gate + Naming> RunningOperation<'a, G> {
             → Follows start (told_by self.new.place answer.new) self.new.entries.items }
         ensures read { (setup : Setup) (asked : Asked) (start : List Entered) → IsStampOf own asked
             → Reads
-            (sight_of self.old.name self.old.seen) setup asked start self.old.entries.items self.old.session.running (told_by self.old.place answer.old)
+            (sight_of self.old.name self.old.seen) setup asked start self.old.entries.items
+            self.old.session.running (told_by self.old.place answer.old)
             → Reads
-            (sight_of self.old.name self.new.seen) setup asked start self.new.entries.items self.new.session.running (told_by self.new.place answer.new) }
+            (sight_of self.old.name self.new.seen) setup asked start self.new.entries.items
+            self.new.session.running (told_by self.new.place answer.new) }
         ensures served { (start : List Entered)
             → AreServed (sight_of self.old.name self.old.seen) self.old.first (self.old.first
             + self.old.queues.sent) start self.old.entries.items
@@ -336,6 +429,9 @@ impl<'a, G: Gate + Naming> RunningOperation<'a, G> {
     fn take_replies<R: Wait>(&mut self, rt: &R, own: Stamp, takes: usize, answer: &mut Answer)
         requires room { max_calls + spare self.old.place ≤ self.old.entries.room }
         requires calls { HasRoom (calls_left self.old.session.running) self.old.queues }
+        requires under_way { ∥ IsUnderWay
+            (sight_of self.old.name self.old.seen) own self.old.entries.items
+            self.old.session.running (told_by self.old.place answer.old) ∥₁ }
         ensures over { IsSome self.old.fault
             → (self.new.fault ≡ self.old.fault) × (self.new.entries ≡ self.old.entries) }
         ensures awaited { IsNone self.new.fault → awaited self.new.queues ≡ 0 }
@@ -347,9 +443,11 @@ impl<'a, G: Gate + Naming> RunningOperation<'a, G> {
             → Follows start (told_by self.new.place answer.new) self.new.entries.items }
         ensures read { (setup : Setup) (asked : Asked) (start : List Entered) → IsStampOf own asked
             → Reads
-            (sight_of self.old.name self.old.seen) setup asked start self.old.entries.items self.old.session.running (told_by self.old.place answer.old)
+            (sight_of self.old.name self.old.seen) setup asked start self.old.entries.items
+            self.old.session.running (told_by self.old.place answer.old)
             → Reads
-            (sight_of self.old.name self.new.seen) setup asked start self.new.entries.items self.new.session.running (told_by self.new.place answer.new) }
+            (sight_of self.old.name self.new.seen) setup asked start self.new.entries.items
+            self.new.session.running (told_by self.new.place answer.new) }
         ensures served { (start : List Entered)
             → AreServed (sight_of self.old.name self.old.seen) self.old.first (self.old.first
             + self.old.queues.sent) start self.old.entries.items
@@ -389,7 +487,16 @@ impl<'a, G: Gate + Naming> RunningOperation<'a, G> {
     )
         requires room { 1 + spare self.old.place ≤ self.old.entries.room }
         requires calls { HasRoom (calls_left self.old.session.running) self.old.queues }
+        requires own { (reply.now.tenant ≡ self.old.name.tenant)
+            × (reply.now.seat ≡ self.old.name.seat) }
+        requires front { IsPrefix reply.now.front self.old.seen }
+        requires under_way { ∥ IsUnderWay
+            (sight_of self.old.name self.old.seen) own self.old.entries.items
+            self.old.session.running (told_by self.old.place answer.old) ∥₁ }
         ensures calls { HasRoom (calls_left self.new.session.running) self.new.queues }
+        ensures under_way { ∥ IsUnderWay
+            (sight_of self.old.name self.new.seen) own self.new.entries.items
+            self.new.session.running (told_by self.new.place answer.new) ∥₁ }
         ensures took { (place : ℕ) (told : Served) → IsNone self.old.fault
             → reply.now.outcome ≡ Ok place → reply.now.message.value.reply ≡ Some told
             → IsUnder own reply.now.message.value.call
@@ -425,7 +532,7 @@ impl<'a, G: Gate + Naming> RunningOperation<'a, G> {
             (sight_of self.old.name self.new.seen) first last start self.new.entries.items }
         ensures sent { self.old.queues.sent ≤ self.new.queues.sent }
         ensures counter { self.old.session.counter ≤ self.new.session.counter }
-        ensures seen { self.new.seen ≡ self.old.seen }
+        ensures seen { IsPrefix self.old.seen self.new.seen }
         ensures name { self.new.name ≡ self.old.name }
         ensures first { self.new.first ≡ self.old.first }
     {
@@ -450,7 +557,17 @@ impl<'a, G: Gate + Naming> RunningOperation<'a, G> {
     )
         requires room { 1 + spare self.old.place ≤ self.old.entries.room }
         requires calls { HasRoom (calls_left self.old.session.running) self.old.queues }
+        requires served { reply.now.outcome ≡ Ok place }
+        requires own { (reply.now.tenant ≡ self.old.name.tenant)
+            × (reply.now.seat ≡ self.old.name.seat) }
+        requires front { IsPrefix reply.now.front self.old.seen }
+        requires under_way { ∥ IsUnderWay
+            (sight_of self.old.name self.old.seen) own self.old.entries.items
+            self.old.session.running (told_by self.old.place answer.old) ∥₁ }
         ensures calls { HasRoom (calls_left self.new.session.running) self.new.queues }
+        ensures under_way { ∥ IsUnderWay
+            (sight_of self.old.name self.new.seen) own self.new.entries.items
+            self.new.session.running (told_by self.new.place answer.new) ∥₁ }
         ensures took { (told : Served) → reply.now.message.value.reply ≡ Some told
             → IsUnder own reply.now.message.value.call
             → Extends (self.old.entries.items
@@ -481,7 +598,7 @@ impl<'a, G: Gate + Naming> RunningOperation<'a, G> {
             (sight_of self.old.name self.new.seen) first last start self.new.entries.items }
         ensures sent { self.old.queues.sent ≤ self.new.queues.sent }
         ensures counter { self.old.session.counter ≤ self.new.session.counter }
-        ensures seen { self.new.seen ≡ self.old.seen }
+        ensures seen { IsPrefix self.old.seen self.new.seen }
         ensures name { self.new.name ≡ self.old.name }
         ensures first { self.new.first ≡ self.old.first }
     {
@@ -509,6 +626,10 @@ impl<'a, G: Gate + Naming> RunningOperation<'a, G> {
             (calls_sent (moved taken.now self.old.readings.value)
             (calls_waiting self.old.session.running)
             + calls_left self.old.session.running) self.old.queues }
+        requires asks { SendsSo (moved taken.now self.old.readings.value)
+            (waiting_of self.old.session.running) }
+        requires decided { (stamp : ℕ) → taken.now ≡ Decides stamp
+            → ∥ MayBeDecided self.old.seen self.old.name.tenant stamp ∥₁ }
         ensures calls { HasRoom (calls_left self.old.session.running) self.new.queues }
         ensures answered { is_last (moved taken.now self.old.readings.value) ≡ true
             → IsNone self.new.place }
@@ -518,7 +639,9 @@ impl<'a, G: Gate + Naming> RunningOperation<'a, G> {
         ensures goes_on { is_last (moved taken.now self.old.readings.value) ≡ false
             → self.new.entries ≡ self.old.entries }
         ensures replies { replies_in self.new.entries.items ≡ replies_in self.old.entries.items }
-        ensures sent { self.new.queues.sent
+        ensures counted { self.old.queues.sent ≤ self.new.queues.sent }
+        ensures sent { IsNone self.new.fault
+            → self.new.queues.sent
             ≡ self.old.queues.sent
             + calls_sent (moved taken.now self.old.readings.value)
             (calls_waiting self.old.session.running) }
@@ -542,7 +665,7 @@ impl<'a, G: Gate + Naming> RunningOperation<'a, G> {
             → AreServed
             (sight_of self.old.name self.new.seen) first last start self.new.entries.items }
         ensures session { self.new.session ≡ self.old.session }
-        ensures seen { self.new.seen ≡ self.old.seen }
+        ensures seen { IsPrefix self.old.seen self.new.seen }
         ensures name { self.new.name ≡ self.old.name }
         ensures first { self.new.first ≡ self.old.first }
     {
@@ -551,9 +674,36 @@ impl<'a, G: Gate + Naming> RunningOperation<'a, G> {
             if !self.send_ending(rt, taken, ticket) {
                 self.fault = Some(Fault::NoTenant);
             }
-        } else if taken.sends() && !self.send_calls(rt, sends_commits(taken)) {
+        } else if taken.sends() && !self.send_asked(rt, taken) {
             self.fault = Some(Fault::NoTenant);
         }
+    }
+
+    /// Sends the calls that a move asks for, and says whether all went out. Where a put is decided by it, that is entered first.
+    fn send_asked<R: Wait>(&mut self, rt: &R, taken: &MoveKind) -> bool
+        requires room { HasRoom (calls_waiting self.old.session.running) self.old.queues }
+        requires sends { sends_calls (moved taken.now self.old.readings.value) ≡ true }
+        requires asks { SendsSo (moved taken.now self.old.readings.value)
+            (waiting_of self.old.session.running) }
+        requires decided { (stamp : ℕ) → taken.now ≡ Decides stamp
+            → ∥ MayBeDecided self.old.seen self.old.name.tenant stamp ∥₁ }
+        ensures room { (calls : ℕ)
+            → HasRoom (calls_waiting self.old.session.running + calls) self.old.queues
+            → HasRoom calls self.new.queues }
+        ensures counted { self.old.queues.sent ≤ self.new.queues.sent }
+        ensures sent { IsTrue result
+            → self.new.queues.sent ≡ self.old.queues.sent + calls_waiting self.old.session.running }
+        ensures seen { IsPrefix self.old.seen self.new.seen }
+        ensures rest { (self.new.name ≡ self.old.name) × (self.new.session ≡ self.old.session)
+            × (self.new.entries ≡ self.old.entries) × (self.new.first ≡ self.old.first)
+            × (self.new.place ≡ self.old.place) × (self.new.fault ≡ self.old.fault)
+            × (self.new.readings ≡ self.old.readings) }
+    {
+        let tenant = self.name.tenant;
+        if !enter_decided(&mut self.client, &mut self.seen, tenant, taken) {
+            return false;
+        }
+        self.send_calls(rt, sends_commits(taken))
     }
 
     /// Enters the answer that a move ends the operation with, once.
@@ -643,7 +793,9 @@ impl<'a, G: Gate + Naming> RunningOperation<'a, G> {
 
     /// Sends the calls that the session waits for, COMMITs or others, and says whether all went out.
     fn send_calls<R: Wait>(&mut self, rt: &R, commits: bool) -> bool
-        requires { HasRoom (calls_waiting self.old.session.running) self.old.queues }
+        requires room { HasRoom (calls_waiting self.old.session.running) self.old.queues }
+        requires puts { ∥ AreOfPuts self.old.seen self.old.name.tenant
+            (waiting_of self.old.session.running) ∥₁ }
         ensures room { (calls : ℕ)
             → HasRoom (calls_waiting self.old.session.running + calls) self.old.queues
             → HasRoom calls self.new.queues }
@@ -660,7 +812,9 @@ impl<'a, G: Gate + Naming> RunningOperation<'a, G> {
 
     /// Stages the calls that the session waits for, in boxes for COMMITs or for others.
     fn stage_calls(&mut self, commits: bool)
-        requires { HasRoom (calls_waiting self.old.session.running) self.old.queues }
+        requires room { HasRoom (calls_waiting self.old.session.running) self.old.queues }
+        requires puts { ∥ AreOfPuts self.old.seen self.old.name.tenant
+            (waiting_of self.old.session.running) ∥₁ }
         ensures room { (calls : ℕ)
             → HasRoom (calls_waiting self.old.session.running + calls) self.old.queues
             → HasRoom calls self.new.queues }
@@ -688,6 +842,8 @@ impl<'a, G: Gate + Naming> RunningOperation<'a, G> {
     fn stage_call(&mut self, nth: u32, commits: bool)
         requires there { nth < calls_waiting self.old.session.running }
         requires room { HasRoom 1 self.old.queues }
+        requires puts { ∥ AreOfPuts self.old.seen self.old.name.tenant
+            (waiting_of self.old.session.running) ∥₁ }
         ensures room { (calls : ℕ) → HasRoom (1 + calls) self.old.queues
             → HasRoom calls self.new.queues }
         ensures counted { self.new.queues.sent ≡ self.old.queues.sent + 1 }
@@ -788,7 +944,8 @@ impl<'a, G: Gate + Naming> RunningOperation<'a, G> {
 
     /// Stages what was made in a box as the next call of the operation's.
     fn stage(&mut self, message: Box<Message>)
-        requires { HasPlaces 1 self.old.queues }
+        requires places { HasPlaces 1 self.old.queues }
+        requires put { ∥ IsOfPut self.old.seen self.old.name.tenant message.value.call ∥₁ }
         ensures room { (calls : ℕ) → HasPlaces (1 + calls) self.old.queues
             → HasPlaces calls self.new.queues }
         ensures boxes { self.new.queues.boxes ≡ self.old.queues.boxes }

@@ -1,9 +1,9 @@
 //! The clients of all tenants: who has a session, and what is kept of it.
-ghost use Rattle.std.specs.Prelude.{◌≡◌, ◌≢◌, ◌≤◌, ◌<◌, ◌^◌, ℕ, All, length, IfOk, IfErr, OnOk, IsSomeAnd, Some, None, Err, slice_get, true};
-ghost use Rattle.indexmap.specs.IndexMap.{IsEmpty, spare};
+ghost use Rattle.std.specs.Prelude.{◌≡◌, ◌<◌, ◌^◌, IfOk, IfErr, OnOk, IsSomeAnd, Some, None, Err, slice_get, true};
+ghost use Rattle.indexmap.specs.IndexMap.{spare};
 ghost use Rattle.std.specs.Option.{option_map};
 ghost use Rattle.plain_store.specs.declared.refusal.Refusal.{Refusal as Why};
-ghost use Rattle.hub.specs.Registered.{known_of, clients_of, tickets_of, admission_test, next_session, after_session, HasRoomFor, IsAnother, is_unopened};
+ghost use Rattle.hub.specs.Registered.{known_of, clients_of, tickets_of, admission_test, next_session, after_session, HasNoClients, HasRoomFor, KeepsClients, KeepsOf, is_unopened, opened_row};
 
 use indexmap::IndexMap;
 use plain_store::Refusal;
@@ -77,10 +77,7 @@ fn tickets(known: &Option<KnownClient>) -> u64
 impl Register {
     /// A register of no client, for so many tenants.
     pub fn new(alloc: Global, tenants: usize) -> Result<Register, AllocError>
-        ensures clients { IfOk result
-            (λ register. All (λ rows. IsEmpty rows) register.tenants.items) }
-        ensures tenants { IfOk result (λ register. length register.tenants.items ≡ tenants) }
-        ensures seats { IfOk result (λ register. register.seats ≡ 0) }
+        ensures { IfOk result (HasNoClients tenants) }
     {
         let mut rows = Vec::with_capacity(alloc, tenants)?;
         for _tenant in 0..tenants {
@@ -103,10 +100,7 @@ impl Register {
         base: Counter,
         limits: &Limits,
     ) -> Result<Admission, Refusal>
-        // What is kept of each client stays, and so do the numbers of the seats.
-        ensures kept { (of_tenant : ℕ) (other : ℕ)
-            → known_of self.new of_tenant other ≡ known_of self.old of_tenant other }
-        ensures seats { self.new.seats ≡ self.old.seats }
+        ensures keeps { KeepsClients self.old self.new }
         ensures next { IfOk result (λ admission. admission
             ≡ next_session self.old.seats (known_of self.old tenant client) base) }
         ensures room { OnOk result (HasRoomFor self.new tenant client) }
@@ -191,9 +185,7 @@ impl Register {
 
     /// Makes room for one client more of a tenant.
     fn make_room(&mut self, tenant: u32) -> Result<(), AllocError>
-        ensures kept { (of_tenant : ℕ) (other : ℕ)
-            → known_of self.new of_tenant other ≡ known_of self.old of_tenant other }
-        ensures seats { self.new.seats ≡ self.old.seats }
+        ensures keeps { KeepsClients self.old self.new }
         ensures room { OnOk result
             (IsSomeAnd (slice_get self.new.tenants.items tenant) (λ rows. 0 < spare rows)) }
     {
@@ -209,11 +201,7 @@ impl Register {
     /// Begins the session that was offered, for which there is room.
     pub fn admit(&mut self, tenant: u32, client: Client, admission: &Admission)
         requires room { HasRoomFor self.old tenant client }
-        ensures known { known_of self.new tenant client
-            ≡ Some
-            (record { is_open = true; counter = admission.now.counter; ticket = admission.now.ticket; turn = admission.now.turn }) }
-        ensures others { (of_tenant : ℕ) (other : ℕ) → IsAnother tenant client of_tenant other
-            → known_of self.new of_tenant other ≡ known_of self.old of_tenant other }
+        ensures known { KeepsOf tenant client (Some (opened_row admission.now)) self.old self.new }
         ensures seats { self.new.seats ≡ admission.now.seat }
     {
         if let Some(rows) = self.tenants.get_mut(tenant as usize) {
@@ -239,10 +227,9 @@ impl Register {
     ) -> Departure
         ensures told { (result.tenant ≡ tenant) × (result.client ≡ client) × (result.turn ≡ turn)
             × (result.counter ≡ counter) × (result.ticket ≡ ticket) }
-        ensures known { known_of self.new tenant client
-            ≡ option_map (after_session turn counter ticket) (known_of self.old tenant client) }
-        ensures others { (of_tenant : ℕ) (other : ℕ) → IsAnother tenant client of_tenant other
-            → known_of self.new of_tenant other ≡ known_of self.old of_tenant other }
+        ensures known { KeepsOf tenant client
+            (option_map (after_session turn counter ticket) (known_of self.old tenant client))
+            self.old self.new }
         ensures seats { self.new.seats ≡ self.old.seats }
     {
         if let Some(rows) = self.tenants.get_mut(tenant as usize)

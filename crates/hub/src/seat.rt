@@ -1,10 +1,12 @@
 //! A client's session.
 ghost use Rattle.std.specs.Prelude.{◌≡◌, ◌<◌, ◌≤◌, ◌+◌, ◌-◌, ◌^◌, ◌↔◌, ◌⊎◌, [], ◌∷◌, ◌++◌, true, false, Some, OnOk, IfErr, IfSome, IfNone};
 ghost use Rattle.plain_store.specs.declared.step.Act.TheVariants.{Put, Get as GetAll, Find};
+ghost use Rattle.history.specs.Legal.{IsLegal};
 ghost use Rattle.hub.specs.Rooms.{awaited};
 ghost use Rattle.hub.specs.Limits.{max_calls};
 ghost use Rattle.hub.specs.Operations.{IsLater, IsOperation, ReportsList, ReportsRead, ReportsWrite};
-ghost use Rattle.hub.specs.Replies.{IfDone, IsDrawn, IsToldFor};
+ghost use Rattle.hub.specs.Atomic.{IsReadAtomic};
+ghost use Rattle.hub.specs.Replies.{IfDone, IfListed, IfRead, IsDrawn, IsToldFor};
 ghost use Rattle.hub.specs.Requests.{act_of};
 ghost use Rattle.hub.specs.Seats.{SeatView, Extends, IsEntered, IsNamed, begun_entries, is_unbegun, sight};
 ghost use Rattle.hub.specs.Taken.{replies_in};
@@ -24,6 +26,7 @@ use std::alloc::Global;
 use std::marker::Model;
 use std::sync::Wait;
 use tenant_sessions::ClientSession;
+use traced_client::TracedClient;
 
 /// A seat that has sent more calls begins no operation.
 const LAST_CALL: u64 = (1 << 62) - 128;
@@ -66,7 +69,10 @@ impl<'a, G: Gate + Naming> Seat<'a, G> {
         ticket: u64,
         ends: Ends<'a, G>,
         seen: Front<G>,
+        client: TracedClient<G>,
     ) -> Seat<'a, G>
+        requires of_tenant { client.tenant ≡ name.tenant }
+        requires legal { ∥ IsLegal seen ∥₁ }
         ensures seen { result.seen ≡ seen }
         ensures rest { (result.name ≡ name) × (result.stopped ≡ false) × (result.sent ≡ 0)
             × (result.counter ≡ ends.entry.session.counter) × (result.parts ≡ hub.now.parts)
@@ -79,7 +85,9 @@ impl<'a, G: Gate + Naming> Seat<'a, G> {
         } = ends;
         Seat {
             hub,
-            operation: RunningOperation::new(hub.alloc, name, queues, session, readings, seen),
+            operation: RunningOperation::new(
+                hub.alloc, name, queues, session, readings, seen, client,
+            ),
             ticket,
             stopped: false,
         }
@@ -97,6 +105,14 @@ impl<'a, G: Gate + Naming> Seat<'a, G> {
         ensures { result ≡ self.now.name.tenant }
     {
         self.operation.name.tenant
+    }
+
+    /// What it has seen of the store's history, in which each call of it that was answered has its place.
+    pub fn seen(&self) -> Front<G>
+        ensures same { result ≡ self.now.seen }
+        ensures legal { IsLegal result }
+    {
+        self.operation.seen.again()
     }
 
     /// Hands out the entries so far. What it does from then on is entered after them, in a list that begins with nothing.
@@ -143,11 +159,14 @@ impl<'a, G: Gate + Naming> Seat<'a, G> {
     ///
     /// What it reports is the reader's answer to replies that this operation entered, whatever they are, each given to just the
     /// call that was answered by it: each version that it reports was in one of them, and it shows no write in part among those
-    /// whose write sets they told.
+    /// whose write sets they told. So it is read atomic, by the puts of the store's one history: what it reports is what decided puts
+    /// wrote, and none of them is shown in part.
     pub fn get_all<R: Wait>(&mut self, rt: &R, keys: &[Key]) -> Answer
         ensures operated { IsOperation
             (GetAll self.old.name.client keys.now) self.old result self.new }
         ensures read { ReportsRead keys.now self.old result self.new }
+        ensures atomic { IfRead result
+            (λ told. ∥ IsReadAtomic self.new.seen self.new.name.tenant told ∥₁) }
     {
         let mut answer = Answer::Ignored;
         self.get_all_into(rt, keys, &mut answer);
@@ -159,6 +178,8 @@ impl<'a, G: Gate + Naming> Seat<'a, G> {
         ensures operated { IsOperation
             (GetAll self.old.name.client keys.now) self.old answer.new self.new }
         ensures read { ReportsRead keys.now self.old answer.new self.new }
+        ensures atomic { IfRead answer.new
+            (λ told. ∥ IsReadAtomic self.new.seen self.new.name.tenant told ∥₁) }
     {
         self.run(rt, &SeatRequest::Get(keys), usize::MAX, answer);
     }
@@ -167,10 +188,12 @@ impl<'a, G: Gate + Naming> Seat<'a, G> {
     ///
     /// What it lists is the finder's answer to replies that this operation entered, whatever they are, each given to just the
     /// call that was answered by it: each version that it lists was in one of them, and it shows no write in part among those
-    /// whose write sets they told.
+    /// whose write sets they told. So it is read atomic, as `get_all` says.
     pub fn find<R: Wait>(&mut self, rt: &R, tag: Tag) -> Answer
         ensures operated { IsOperation (Find self.old.name.client tag) self.old result self.new }
         ensures listed { ReportsList tag self.old result self.new }
+        ensures atomic { IfListed result
+            (λ told. ∥ IsReadAtomic self.new.seen self.new.name.tenant told ∥₁) }
     {
         let mut answer = Answer::Ignored;
         self.find_into(rt, tag, &mut answer);
@@ -182,6 +205,8 @@ impl<'a, G: Gate + Naming> Seat<'a, G> {
         ensures operated { IsOperation
             (Find self.old.name.client tag) self.old answer.new self.new }
         ensures listed { ReportsList tag self.old answer.new self.new }
+        ensures atomic { IfListed answer.new
+            (λ told. ∥ IsReadAtomic self.new.seen self.new.name.tenant told ∥₁) }
     {
         self.run(rt, &SeatRequest::Find(tag), usize::MAX, answer);
     }
@@ -237,6 +262,7 @@ impl<'a, G: Gate + Naming> Seat<'a, G> {
             (IsDrawn self.old.name.client self.old.counter self.new.counter) request.now answer.new
             (begun_entries self.old (act_of self.old.name.client request.now)) self.new.entries }
         ensures few { replies_in self.new.entries ≤ replies_in self.old.entries + takes }
+        ensures legal { ∥ IsLegal self.new.seen ∥₁ }
     {
         if let Some(refusal) = self.refuses() {
             tell_refusal(refusal, answer);
@@ -292,14 +318,17 @@ impl<'a, G: Gate + Naming> Seat<'a, G> {
         }
     }
 
-    /// Ends the client's session, with the counter that it has come to.
-    fn leave<R: Wait>(&self, rt: &R) -> Departure
-        ensures session { (result.tenant ≡ self.now.name.tenant)
-            × (result.client ≡ self.now.name.client) × (result.turn ≡ self.now.name.turn) }
-        ensures counter { result.counter ≡ self.now.counter }
+    /// Ends the client's session, with the counter that it has come to, and gives its word back.
+    fn leave<R: Wait>(&mut self, rt: &R) -> Departure
+        ensures session { (result.tenant ≡ self.old.name.tenant)
+            × (result.client ≡ self.old.name.client) × (result.turn ≡ self.old.name.turn) }
+        ensures counter { result.counter ≡ self.old.counter }
+        ensures same { self.new ≡ self.old }
     {
-        let name = self.operation.name;
-        let counter = self.operation.session.counter();
-        self.hub.leave(rt, &name, counter, self.ticket)
+        let operation = &mut self.operation;
+        let name = operation.name;
+        let counter = operation.session.counter();
+        let client = operation.client.take();
+        self.hub.leave(rt, &name, counter, self.ticket, client)
     }
 }

@@ -1,7 +1,8 @@
 //! The threads of a hub, and how they are started.
-ghost use Rattle.std.specs.Prelude.{◌≡◌, ◌≤◌, ◌<◌, ◌+◌, ◌-◌, ◌^◌, [], All, length, map, vec_len, vec_capacity, IfErr, IfOk, OnOk};
+ghost use Rattle.std.specs.Prelude.{◌≡◌, ◌≤◌, ◌<◌, ◌+◌, ◌-◌, ◌^◌, vec_len, vec_capacity, IfErr, IfOk, OnOk};
 ghost use Rattle.std.specs.Arc.{arc_value};
-ghost use Rattle.hub.specs.Shards.{IsConfigOf, IsOpeningOf, AreShardsFrom, partition_of};
+ghost use Rattle.hub.specs.Shards.{IsConfigOf, IsOpeningOf, partition_of};
+ghost use Rattle.hub.specs.Starting.{AreEmptyFor, AreStarted};
 
 use closed_store::Config;
 use history::{Front, Naming, PartitionWords, Tally};
@@ -101,16 +102,7 @@ pub struct PartitionLists<G: Naming> {
 impl<G: Naming> PartitionLists<G> {
     /// Empty lists with room for so many partitions. The one error is that an allocation failed.
     pub fn of(alloc: Global, parts: usize) -> Result<PartitionLists<G>, AllocError>
-        ensures shards { IfOk result (λ lists. (lists.shards.items ≡ [])
-            × (vec_len lists.shards ≡ 0) × (parts ≤ vec_capacity lists.shards)) }
-        ensures queues { IfOk result (λ lists. (lists.queues.items ≡ [])
-            × (vec_len lists.queues ≡ 0) × (parts ≤ vec_capacity lists.queues)) }
-        ensures threads { IfOk result (λ lists. (vec_len lists.threads ≡ 0)
-            × (parts ≤ vec_capacity lists.threads)) }
-        ensures journals { IfOk result (λ lists. (vec_len lists.journals ≡ 0)
-            × (parts ≤ vec_capacity lists.journals)) }
-        ensures counts { IfOk result (λ lists. (vec_len lists.counts ≡ 0)
-            × (parts ≤ vec_capacity lists.counts)) }
+        ensures { IfOk result (λ lists. AreEmptyFor parts lists) }
     {
         Ok(PartitionLists {
             shards: Vec::with_capacity(alloc, parts)?,
@@ -156,18 +148,7 @@ pub fn start_all<
         ≤ vec_capacity lists.old.threads }
     requires words { words.old.next ≡ 0 }
     requires opened { IsOpeningOf config.now seen.now }
-    ensures started { OnOk result (length lists.new.shards.items
-        ≡ length lists.old.shards.items + config.now.parts) }
-    ensures shards { OnOk result (lists.old.shards.items ≡ []
-        → AreShardsFrom config.now 0 lists.new.shards.items) }
-    ensures queues { OnOk result (lists.old.queues.items ≡ []
-        → All (λ queue. (queue.capacity ≡ config.now.queue)
-        × (queue.count ≡ 0)) lists.new.queues.items) }
-    // Each worker is that of the shard in its place.
-    ensures workers { OnOk result (map (λ thread. thread.promise.partition) lists.old.threads.items
-        ≡ map partition_of lists.old.shards.items
-        → map (λ thread. thread.promise.partition) lists.new.threads.items
-        ≡ map partition_of lists.new.shards.items) }
+    ensures started { OnOk result (AreStarted config.now lists.old lists.new) }
     ensures rest { (lists.new.journals ≡ lists.old.journals)
         × (lists.new.counts ≡ lists.old.counts) }
 {

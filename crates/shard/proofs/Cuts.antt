@@ -5,6 +5,7 @@ use Rattle.std.proofs.lemmas.Option.{slice_get_cases}
 use Rattle.partition.specs.declared.journal.Epoch.{Epoch}
 use Rattle.partition.specs.Accounts.{Account, IsCut, events_at, events_in}
 use Rattle.history.specs.declared.rule.Naming.{Ghosts}
+use Rattle.shard.specs.Cutting.{IsCutOff}
 use Rattle.shard.specs.declared.epoch_cut.CutEpoch.{CutEpoch}
 use Rattle.shard.specs.declared.epoch_cut.Uncut.{Uncut}
 
@@ -16,9 +17,10 @@ cut_events old new tenant epoch there cut =
     ⊎_elim (λ h. (cut.given h.0 h.2).2 ∙ sym (ap events_in h.2)) (λ h. absurd (omega (arith, h.0, there))) (slice_get_cases old tenant).1
 
 -- an epoch that is cut from a full journal is a full one
-pub full_cut : {J : Type 0} {naming : Ghosts J} (old new : List Account) (tenant epoch : ℕ) (found : Result (CutEpoch J naming) Uncut) → (0 < epoch) × (tenant < length old) × (2 * epoch ≤ length (events_at old tenant))
-    → IfOk found (λ cut. IsCut old new tenant cut.epoch) → IfOk found (λ cut. (0 < epoch) × (2 * epoch ≤ length cut.epoch.events.items))
-full_cut old new tenant epoch (Err why) full none = none
-full_cut old new tenant epoch (Ok found) (some, there, full) cut =
-    let events = cut_events old new tenant found.epoch there cut in
-    (some, omega (arith, ap length events, full))
+pub full_cut : {J : Type 0} {naming : Ghosts J} (old new : List Account) (partition tenant epoch : ℕ) (found : Result (CutEpoch J naming) Uncut) → (0 < epoch) × (tenant < length old) × (2 * epoch ≤ length (events_at old tenant))
+    → IfOk found (λ cut. IsCutOff old new partition tenant epoch cut.partition cut.tenant cut.epoch)
+    → IfOk found (λ cut. (0 < epoch) × IsCutOff old new partition tenant (2 * epoch) cut.partition cut.tenant cut.epoch)
+full_cut old new partition tenant epoch (Err why) full none = none
+full_cut old new partition tenant epoch (Ok found) (some, there, full) off =
+    let events = cut_events old new tenant found.epoch there off.cut in
+    (some, record { cut = off.cut; partition = off.partition; tenant = off.tenant; long = omega (arith, ap length events, full) })

@@ -1,6 +1,6 @@
 -- Events of seats that are counted, one after the other.
-use Rattle.std.proofs.Common.{◌≡◌, ℕ, zero, suc, ◌+◌, ◌<◌, ◌≤◌, ◌↔◌, Bool, true, false, List, [], ◌∷◌, length, Option, Some, None, Result, Ok, Err, refl, ap, sym, ◌∙◌, ⊎_elim, add-zero, add-suc, arith, length-append, subst}
-use Rattle.std.specs.Prelude.{◌||◌, slice_get, sum_by, IfOk, OnOk, OnErr, IsErrOf, IsSomeAnd}
+use Rattle.std.proofs.Common.{◌≡◌, ℕ, zero, suc, ◌+◌, ◌<◌, ◌≤◌, ◌↔◌, Bool, true, List, [], ◌∷◌, length, Option, Some, None, Result, Ok, Err, refl, ap, sym, ◌∙◌, ⊎_elim, add-zero, add-suc, arith, length-append, subst}
+use Rattle.std.specs.Prelude.{◌||◌, slice_get, IfOk, OnOk, OnErr, IsErrOf, IsSomeAnd}
 use Rattle.std.proofs.Math.Bool.{or-false, or_assoc}
 use Rattle.std.proofs.lemmas.Bool.{cases_lt}
 use Rattle.std.proofs.lemmas.Bool.Decides.{eqb_tells}
@@ -11,7 +11,7 @@ use Rattle.partition.specs.Accounts.{Account, IsEntered, events_at, places, with
 use Rattle.shard.specs.declared.jobs.Fault.{Fault}
 use Rattle.shard.specs.declared.jobs.Fault.TheVariants.{NoTenant}
 use Rattle.shard.specs.declared.shard.FollowUp.{FollowUp}
-use Rattle.shard.specs.Counted.{AreCounted, IsCounted, NotesLong, events_after, is_due, is_due_among, one_event, places_given}
+use Rattle.shard.specs.Counted.{AreCounted, IsCounted, NotesEvents, NotesLong, events_after, is_due, is_due_among, one_event, places_given}
 use Rattle.shard.proofs.Short.{events_other, events_own}
 
 -- ---- places that were given
@@ -83,7 +83,7 @@ due_on every events n (suc m) =
     ∙ ap (is_due_among every events) (sym (add-suc n m))
 
 -- some, and then some more
-pub counted_on : (every : ℕ) (old mid new : List Account) (before between after : ℕ) (was is now : Bool) → AreCounted every old mid before between was is
+counted_on : (every : ℕ) (old mid new : List Account) (before between after : ℕ) (was is now : Bool) → AreCounted every old mid before between was is
     → AreCounted every mid new between after is now → AreCounted every old new before after was now
 counted_on every old mid new before between after was is now first then =
     record {
@@ -127,7 +127,7 @@ one_long epoch old new tenant (Err f) reply e was now there entered same cuts st
     }
 
 -- what was noted first is noted still
-pub long_on : (epoch : ℕ) (old mid new : List Account) (was is now : Bool) → NotesLong epoch old mid was is → NotesLong epoch mid new is now → NotesLong epoch old new was now
+long_on : (epoch : ℕ) (old mid new : List Account) (was is now : Bool) → NotesLong epoch old mid was is → NotesLong epoch mid new is now → NotesLong epoch old new was now
 long_on epoch old mid new was is now first then =
     record {
       before = λ cut. then.before (first.before cut);
@@ -136,4 +136,13 @@ long_on epoch old mid new was is now first then =
           (λ still. then.long some tenant still many)
           (λ got. then.before (first.long some tenant few got))
           (cases_lt (length (events_at mid tenant)) epoch);
+    }
+
+-- what is due after some calls, and then some more
+pub notes_on : (every epoch : ℕ) (old mid new : List Account) (before between after : ℕ) (was is now : FollowUp) → NotesEvents every epoch old mid before between was is
+    → NotesEvents every epoch mid new between after is now → NotesEvents every epoch old new before after was now
+notes_on every epoch old mid new before between after was is now first then =
+    record {
+      counted = counted_on every old mid new before between after was.collects is.collects now.collects first.counted then.counted;
+      cuts = long_on epoch old mid new was.cuts is.cuts now.cuts first.cuts then.cuts;
     }

@@ -200,10 +200,6 @@ pub stays_as : {X E A B : Type 0} (f : A → B) (x y : A) (result : Result X E) 
 stays_as f x y (Ok value) same = tt
 stays_as f x y (Err e) same = ap f same
 
-pub stays_first : {X E : Type 0} (P Q : Type 0) (result : Result X E) → OnErr result (P × Q) → OnErr result P
-stays_first P Q (Ok value) both = tt
-stays_first P Q (Err e) both = both.0
-
 -- ---- a journal that is cut
 
 pub cut-of : (parts partition : ℕ) (old new : List Account) (tenant : ℕ) (epoch : Epoch) → tenant < length old → IsCut old new tenant epoch

@@ -1,9 +1,11 @@
 -- The calls of a round, of which each that is for the partition was served or left.
-use Rattle.std.proofs.Common.{◌<◌, ◌+◌, ℕ, List, length, get_or, set, sym, subst, ⊎_elim, arith}
+use Rattle.std.proofs.Common.{◌∙◌, ◌<◌, ◌+◌, ℕ, List, length, get_or, set, sym, subst, ⊎_elim, arith}
 use Rattle.std.proofs.lemmas.Bool.Decides.{eqb_tells}
 use Rattle.std.proofs.lemmas.List.{get_or-set_same, get_or-set_other}
 use Rattle.history.specs.declared.rule.Naming.{Ghosts}
 use Rattle.shard.specs.Asked.{IsOpenAt}
+use Rattle.shard.specs.Held.{StaysAt}
+use Rattle.shard.specs.declared.shard.ShardState.{ShardState}
 use Rattle.shard.specs.declared.shard.Staged.{Staged}
 
 -- the call is not left open for this partition
@@ -26,3 +28,12 @@ said_next P xs at x before within here k d low =
 pub passed_next : {J : Type 0} {naming : Ghosts J} (partition parts : ℕ) (calls : List (Staged J naming)) (at : ℕ) (after : Staged J naming) → ArePassed partition parts calls at → at < length calls → IsPassed partition parts after
     → ArePassed partition parts (set calls at after) (at + 1)
 passed_next partition parts calls at after so_far within is = said_next (IsPassed partition parts) calls at after so_far within is
+
+-- a partition stays what it is from call to call
+pub stays_on : {J : Type 0} {naming : Ghosts J} {old mid new : ShardState J naming} → StaysAt old mid → StaysAt mid new → StaysAt old new
+stays_on first then =
+    record {
+      partition = then.partition ∙ first.partition;
+      parts = then.parts ∙ first.parts;
+      collections = then.collections ∙ first.collections;
+    }

@@ -1,6 +1,8 @@
 -- How many events of seats came since a collection was due, and what is left to be done then.
-use Rattle.std.specs.Prelude.{◌≡◌, ◌<◌, ◌≤◌, ◌+◌, ◌-◌, ◌^◌, ◌||◌, ℕ, zero, suc, Bool, true, false, List, cond, length, min, nat_le, sum_by}
+use Rattle.std.specs.Prelude.{◌≡◌, ◌<◌, ◌≤◌, ◌+◌, ◌-◌, ◌^◌, ◌||◌, ℕ, zero, suc, Bool, true, false, List, Result, IfOk, OnOk, OnErr, cond, length, min, nat_le, sum_by}
 use Rattle.partition.specs.Accounts.{Account, events_at, places}
+use Rattle.shard.specs.declared.jobs.Fault.{Fault}
+use Rattle.shard.specs.declared.shard.FollowUp.{FollowUp}
 
 -- a collection is due with the next event, where so many came since one was
 abbrev pub is_due : ℕ → ℕ → Bool
@@ -41,3 +43,20 @@ pub record NotesLong (epoch : ℕ) (old new : List Account) (was is : Bool) : Ty
   pub before : was ≡ true → is ≡ true
   pub long : 0 < epoch → (tenant : ℕ) → length (events_at old tenant) < epoch → epoch ≤ length (events_at new tenant)
       → is ≡ true
+
+abbrev pub nothing_due : FollowUp
+nothing_due = record { collects = false; cuts = false }
+
+-- What is due after a call of this tenant. Where it was served, one event more was counted, and a cut is to be made if the journal came
+-- to have as many events as an epoch. A cut that was to be made is to be made still.
+pub record NotesEvent {A : Type 0} (every epoch : ℕ) (accounts : List Account) (tenant before after : ℕ) (was is : FollowUp)
+    (result : Result A Fault) : Type 0 where
+  pub cuts : IfOk result (λ _. 0 < epoch → length (events_at accounts tenant) ≡ epoch → is.cuts ≡ true)
+  pub still_cuts : was.cuts ≡ true → is.cuts ≡ true
+  pub counted : OnOk result (IsCounted every before after was.collects is.collects)
+  pub uncounted : OnErr result ((after ≡ before) × (is ≡ was))
+
+-- what is due after any number of calls: each event that came into the journals was counted, and each journal that got long was noted
+pub record NotesEvents (every epoch : ℕ) (old new : List Account) (before after : ℕ) (was is : FollowUp) : Type 0 where
+  pub counted : AreCounted every old new before after was.collects is.collects
+  pub cuts : NotesLong epoch old new was.cuts is.cuts

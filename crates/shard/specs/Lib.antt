@@ -8,3 +8,6 @@ pub mod Collected
 pub mod Counted
 pub mod UsedAt
 pub mod Held
+pub mod Serving
+pub mod Cutting
+pub mod Turns

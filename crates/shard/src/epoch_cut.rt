@@ -1,9 +1,10 @@
 //! Epochs that a worker cuts.
-ghost use Rattle.std.specs.Prelude.{◌≡◌, ◌<◌, ◌≤◌, ◌+◌, ◌-◌, ◌*◌, ◌^◌, false, true, length, IfErr, IfOk, IfSome, IfNone, IsErrOf, IsTrue, OnErr};
-ghost use Rattle.partition.specs.Accounts.{IsCut, events_at};
+ghost use Rattle.std.specs.Prelude.{◌≡◌, ◌<◌, ◌≤◌, ◌+◌, ◌-◌, ◌*◌, false, true, length, IfOk, IfSome, IfNone, IsErrOf, OnErr};
+ghost use Rattle.partition.specs.Accounts.{events_at};
 ghost use Rattle.traced_book.specs.Traced.{IsStretch};
 ghost use Rattle.shard.specs.Journals.{WasCut};
-ghost use Rattle.shard.specs.Rounds.{AreFewer, long_among};
+ghost use Rattle.shard.specs.Cutting.{GoesOn, IsCutOff, IsOver};
+ghost use Rattle.shard.specs.Held.{StaysAt};
 
 use crate::shard::{ShardState, is_full};
 use crate::sink::Sink;
@@ -50,17 +51,14 @@ fn cut_long<J: Naming>(
 ) -> Result<CutEpoch<J>, Uncut>
     requires { tenant < length state.old.book.accounts }
     ensures cut { IfOk result
-        (λ cut. IsCut state.old.book.accounts state.new.book.accounts tenant cut.epoch) }
-    ensures of_journal { IfOk result (λ cut. (cut.partition ≡ state.old.partition)
-        × (cut.tenant ≡ tenant)) }
-    ensures long { IfOk result (λ cut. least ≤ length cut.epoch.events.items) }
+        (λ cut. IsCutOff state.old.book.accounts state.new.book.accounts state.old.partition tenant
+        least cut.partition cut.tenant cut.epoch) }
     ensures short { IsErrOf result Uncut.Short
         → length (events_at state.old.book.accounts tenant) < least }
     ensures refused { IsErrOf result Uncut.Refused
         → least ≤ length (events_at state.old.book.accounts tenant) }
     ensures unchanged { OnErr result (state.new.book.accounts ≡ state.old.book.accounts) }
-    ensures partition { state.new.partition ≡ state.old.partition }
-    ensures collections { state.new.collections ≡ state.old.collections }
+    ensures stays { StaysAt state.old state.new }
 {
     if state.book.book().events(tenant) < least as u64 {
         return Err(Uncut::Short);
@@ -83,17 +81,15 @@ pub fn cut_full<J: Naming>(
     epoch: u32,
 ) -> Result<CutEpoch<J>, Uncut>
     ensures cut { IfOk result
-        (λ cut. IsCut state.old.book.accounts state.new.book.accounts tenant cut.epoch) }
-    ensures full { IfOk result (λ cut. (0 < epoch) × (2 * epoch ≤ length cut.epoch.events.items)) }
+        (λ cut. (0 < epoch)
+        × IsCutOff state.old.book.accounts state.new.book.accounts state.old.partition tenant
+        (2 * epoch) cut.partition cut.tenant cut.epoch) }
     ensures short { IsErrOf result Uncut.Short → 0 < epoch
         → length (events_at state.old.book.accounts tenant) < 2 * epoch }
     ensures refused { IsErrOf result Uncut.Refused
         → (0 < epoch) × (2 * epoch ≤ length (events_at state.old.book.accounts tenant)) }
-    ensures of_journal { IfOk result (λ cut. (cut.partition ≡ state.old.partition)
-        × (cut.tenant ≡ tenant)) }
     ensures unchanged { OnErr result (state.new.book.accounts ≡ state.old.book.accounts) }
-    ensures partition { state.new.partition ≡ state.old.partition }
-    ensures collections { state.new.collections ≡ state.old.collections }
+    ensures stays { StaysAt state.old state.new }
 {
     if is_full(state.book.book(), epoch, tenant) {
         cut_long(state, tenant, epoch)
@@ -124,26 +120,13 @@ impl Search {
     ) -> Option<CutEpoch<J>>
         requires { 0 < least }
         ensures cut { IfSome result
-            (λ cut. IsCut state.old.book.accounts state.new.book.accounts cut.tenant cut.epoch) }
-        ensures of_partition { IfSome result (λ cut. cut.partition ≡ state.old.partition) }
-        ensures long { IfSome result (λ cut. least ≤ length cut.epoch.events.items) }
-        ensures later { IfSome result (λ cut. (self.old.from ≤ cut.tenant)
-            × (self.new.from ≡ cut.tenant + 1)) }
-        // A journal that it passed over is short, where all could be cut; and it counts each that could not.
-        ensures passed { IfSome result (λ cut. self.new.refused ≡ 0
-            → AreFewer least state.old.book.accounts self.old.from cut.tenant) }
-        ensures none { IfNone result (self.new.refused ≡ 0
-            → AreFewer least state.old.book.accounts self.old.from
-            (length state.old.book.accounts)) }
-        ensures counted { IfSome result (λ cut. self.new.refused
-            ≡ long_among least state.old.book.accounts self.old.from (cut.tenant - self.old.from)) }
-        ensures all { IfNone result (self.new.refused
-            ≡ long_among least state.old.book.accounts self.old.from
-            (length state.old.book.accounts - self.old.from)) }
+            (λ cut. IsCutOff state.old.book.accounts state.new.book.accounts state.old.partition
+            cut.tenant least cut.partition cut.tenant cut.epoch) }
+        ensures going { IfSome result
+            (λ cut. GoesOn least state.old.book.accounts cut.tenant self.old self.new) }
+        ensures over { IfNone result (IsOver least state.old.book.accounts self.old self.new) }
         ensures unchanged { IfNone result (state.new.book.accounts ≡ state.old.book.accounts) }
-        ensures over { IfNone result (self.new.is_over ≡ true) }
-        ensures going { IfSome result (λ _. self.new.is_over ≡ self.old.is_over) }
-        ensures collections { state.new.collections ≡ state.old.collections }
+        ensures stays { StaysAt state.old state.new }
     {
         let mut refused = 0;
         for tenant in self.from..state.book.book().tenants() {

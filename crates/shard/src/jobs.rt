@@ -1,6 +1,6 @@
 //! The queues of tasks, one for each partition. One rule serves all of them: the key of a job has as its home the partition
 //! that the job carries.
-ghost use Rattle.std.specs.Prelude.{◌≡◌, ◌<◌, ⊤, ℕ, IfOk};
+ghost use Rattle.std.specs.Prelude.{◌≡◌, ◌<◌, ⊤, IfOk};
 ghost use Rattle.crossbeam_channel.specs.Claims.{IsSeatAt, view as tally};
 ghost use Rattle.crossbeam_channel.specs.Ends.{sends_on, receives_on, ruled_capacity};
 ghost use Rattle.shard.specs.Queues.{QueueEnd, unsent};

@@ -1,5 +1,5 @@
 //! How many versions a collection keeps, tenant by tenant.
-ghost use Rattle.std.specs.Prelude.{◌≡◌, ◌<◌, ◌≤◌, IfOk, OnOk, Some, length, map, set, slice_get, take, vec_capacity, vec_len};
+ghost use Rattle.std.specs.Prelude.{◌≡◌, ◌<◌, ◌≤◌, IfOk, Some, length, map, set, slice_get, take, vec_capacity, vec_len};
 ghost use Rattle.stamps.specs.Limits.{max_tenants};
 
 use stamps::limits::MAX_TENANTS;

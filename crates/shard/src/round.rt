@@ -1,8 +1,8 @@
 //! A round of collections at a partition: each tenant in turn.
-ghost use Rattle.std.specs.Prelude.{◌≡◌, ◌⊎◌, ◌+◌, ◌*◌, ◌<◌, ◌≤◌, ◌↔◌, ◌^◌, length, false, IsErrOf, IsTrue, OnErr, OnOk};
+ghost use Rattle.std.specs.Prelude.{◌≡◌, ◌+◌, ◌*◌, ◌<◌, ◌≤◌, length, false, IsErrOf, OnErr, OnOk};
 ghost use Rattle.partition.specs.Accounts.{events_at};
-ghost use Rattle.shard.specs.Collected.{one_more};
-ghost use Rattle.shard.specs.Rounds.{AreShort, IsCollected, IsLongAt};
+ghost use Rattle.shard.specs.Rounds.{AreShort};
+ghost use Rattle.shard.specs.Turns.{HasCollected, HasSkipped};
 
 use crate::collector::Collector;
 use crate::jobs::Fault;
@@ -64,20 +64,13 @@ impl Round {
         requires { its.now.tenant ≡ self.old.next }
         ensures next { self.new.next ≡ self.old.next + 1 }
         ensures collected { OnOk result
-            (IsCollected state.old.book.accounts state.new.book.accounts self.old.next its.now.keep) }
+            (HasCollected config.now.epoch its.now.keep state.old state.new self.old self.new) }
+        ensures skipped { OnErr result (HasSkipped state.old state.new self.old self.new) }
         ensures full { IsErrOf result Skipped.Full
             → (0 < config.now.epoch)
             × (2 * config.now.epoch ≤ length (events_at state.old.book.accounts self.old.next)) }
         ensures no_tenant { IsErrOf result (Skipped.Refused Fault.NoTenant)
             → length state.old.book.accounts ≤ self.old.next }
-        ensures unchanged { OnErr result ((state.new.book.accounts ≡ state.old.book.accounts)
-            × (self.new.cuts ≡ self.old.cuts)) }
-        ensures counted { OnOk result (state.new.collections
-            ≡ one_more state.old.collections self.old.next) }
-        ensures uncounted { OnErr result (state.new.collections ≡ state.old.collections) }
-        ensures cuts { OnOk result (IsTrue self.new.cuts
-            ↔ (IsTrue self.old.cuts
-            ⊎ IsLongAt config.now.epoch state.new.book.accounts self.old.next)) }
         ensures short { AreShort config.now.epoch state.old.book.accounts
             → AreShort config.now.epoch state.new.book.accounts }
     {

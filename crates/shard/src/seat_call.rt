@@ -1,5 +1,6 @@
 //! A seat's call on its way.
 ghost use Rattle.std.specs.Prelude.{◌≡◌};
+ghost use Rattle.history.specs.Legal.{MayServe};
 ghost use Rattle.shard.specs.Homes.{HasHome};
 
 use history::{Front, Naming};
@@ -17,7 +18,8 @@ pub struct SeatCall<J: Naming> {
     /// Its number among the calls that arrive at the partition.
     pub arrival: u64,
     pub message: Box<Message>,
-    /// What its seat has seen of the history and, once it was served, that it was.
+    /// What its seat has seen of the history, which shows that it may be served, and, once it was served, that it was.
     pub front: Front<J>,
     ghost at_home: { HasHome message.value.call parts partition },
+    ghost may: { ∥ MayServe front partition tenant message.value.call ∥₁ },
 }

@@ -1,17 +1,15 @@
 //! One partition, as all that serve there reach it: its book behind a lock, and the numbers of its calls.
-ghost use Rattle.std.specs.Prelude.{◌≡◌, ◌⊎◌, ◌<◌, ◌≤◌, ◌+◌, ◌*◌, ◌^◌, ◌↔◌, false, true, All, map, length, replicate, IfOk, IfSome, OnErr, OnOk, IsErrOf, IsSomeAnd, IsTrue};
+ghost use Rattle.std.specs.Prelude.{◌≡◌, ◌<◌, ◌≤◌, ◌*◌, ◌^◌, ◌↔◌, Some, false, true, All, map, length, replicate, IfOk, IfSome, OnErr, IsSomeAnd, IsTrue};
 ghost use Rattle.std.specs.Sync.Mutex.{mutex_guard_value};
 ghost use Rattle.std.specs.VecDeque.{deque_capacity, deque_len};
-ghost use Rattle.partition.specs.Events.{event};
-ghost use Rattle.partition.specs.Journals.{IsLate};
-ghost use Rattle.partition.specs.Accounts.{before_at, events_at, IsEntered, IsReplyInEpoch};
+ghost use Rattle.partition.specs.Accounts.{events_at};
 ghost use mathlib.Core.List.{IsPrefix};
 ghost use Rattle.history.specs.Entries.{StandsInHistory};
-ghost use Rattle.history.specs.Legal.{IsLegal};
-ghost use Rattle.traced_book.specs.Traced.{AreTraced};
-ghost use Rattle.shard.specs.Counted.{AreCounted, IsCounted, NotesLong};
+ghost use Rattle.history.specs.Legal.{MayServe};
+ghost use Rattle.shard.specs.Counted.{IsCounted, NotesEvent, NotesEvents, nothing_due};
 ghost use Rattle.shard.specs.Journals.{AreOf, CameSo, came_to};
 ghost use Rattle.shard.specs.Rounds.{AreShort, IsLongAt};
+ghost use Rattle.shard.specs.Serving.{EntersCall, RefusesSo};
 ghost use Rattle.stamps.specs.Limits.{max_tenants};
 
 use crate::collections::CollectionCounts;
@@ -136,7 +134,7 @@ impl FollowUp {
 }
 
 impl<J: Naming> Shard<J> {
-    ghost use Rattle.shard.specs.Held.{HasItsJournals};
+    ghost use Rattle.shard.specs.Held.{HasItsJournals, IsHandedOut};
 
     /// A partition with this book, whose journals are its own. What it begins with behind its lock is that of `ShardState::new`.
     pub fn new(config: ShardConfig, collector: Arc<Collector>, book: TracedBook<J>) -> Shard<J>
@@ -209,12 +207,7 @@ impl<J: Naming> Shard<J> {
     /// The book, which no thread has any more. None where it is not this partition's, or has not so many tenants: what lies
     /// behind a lock is known only by its type.
     pub fn into_book(self) -> Option<(Book, Front<J>)>
-        ensures journals { IfSome result
-            (λ parts. ∥ AreOf self.config.parts self.config.partition parts.0 ∥₁) }
-        ensures tenants { IfSome result (λ parts. length parts.0 ≡ self.config.tenants) }
-        // The book has what the history has of each tenant there.
-        ensures traced { IfSome result (λ parts. AreTraced parts.1 self.config.partition parts.0) }
-        ensures legal { IfSome result (λ parts. IsLegal parts.1) }
+        ensures { IfSome result (λ parts. IsHandedOut self.config parts.0 parts.1) }
     {
         let Shard {
             config,
@@ -241,6 +234,7 @@ impl<J: Naming> Shard<J> {
 
 impl<J: Naming> ShardState<J> {
     ghost use Rattle.shard.specs.Asked.{asked_by, asked_of, IsOpenAt};
+    ghost use Rattle.shard.specs.Held.{StaysAt};
 
     /// That of a partition with this book: no event of a seat came since a collection was due, and no tenant was collected.
     fn new(config: &ShardConfig, book: TracedBook<J>) -> ShardState<J>
@@ -279,14 +273,9 @@ impl<J: Naming> ShardState<J> {
         // None that is for this partition is as it was staged.
         ensures all { All (λ staged. IsOpenAt self.old.partition self.old.parts staged
             → ⊥) calls.new.items }
-        // Each event that came into the journals is counted.
-        ensures counted { AreCounted config.now.every self.old.book.accounts
-            self.new.book.accounts self.old.events self.new.events false result.collects }
-        ensures cuts { NotesLong config.now.epoch self.old.book.accounts
-            self.new.book.accounts false result.cuts }
-        ensures partition { (self.new.partition ≡ self.old.partition)
-            × (self.new.parts ≡ self.old.parts) }
-        ensures collections { self.new.collections ≡ self.old.collections }
+        ensures notes { NotesEvents config.now.every config.now.epoch self.old.book.accounts
+            self.new.book.accounts self.old.events self.new.events nothing_due result }
+        ensures stays { StaysAt self.old self.new }
     {
         let mut follow_up = FollowUp::nothing();
         for at in 0..calls.len() {
@@ -327,14 +316,9 @@ impl<J: Naming> ShardState<J> {
             ≤ length (events_at self.old.book.accounts staged.old.call.tenant))
             × (self.new.book.accounts ≡ self.old.book.accounts) }
         ensures served { staged.new.stage ≡ CallState.Pending → ⊥ }
-        ensures counted { AreCounted config.now.every self.old.book.accounts
-            self.new.book.accounts self.old.events self.new.events
-            follow_up.old.collects follow_up.new.collects }
-        ensures cuts { NotesLong config.now.epoch self.old.book.accounts
-            self.new.book.accounts follow_up.old.cuts follow_up.new.cuts }
-        ensures partition { (self.new.partition ≡ self.old.partition)
-            × (self.new.parts ≡ self.old.parts) }
-        ensures collections { self.new.collections ≡ self.old.collections }
+        ensures notes { NotesEvents config.now.every config.now.epoch self.old.book.accounts
+            self.new.book.accounts self.old.events self.new.events follow_up.old follow_up.new }
+        ensures stays { StaysAt self.old self.new }
     {
         if is_full(self.book.book(), config.epoch, staged.call.tenant) {
             staged.stage = CallState::Deferred;
@@ -352,40 +336,17 @@ impl<J: Naming> ShardState<J> {
         call: &mut SeatCall<J>,
         follow_up: &mut FollowUp,
     ) -> Result<u64, Fault>
-        ensures came { CameSo call.new.front call.new.partition call.new.tenant call.new.seat call.new.number call.new.message.value result }
-        ensures call { (call.new.partition ≡ call.old.partition)
-            × (call.new.tenant ≡ call.old.tenant) × (call.new.seat ≡ call.old.seat)
-            × (call.new.number ≡ call.old.number) }
+        ensures came { CameSo call.new.front call.new.partition call.new.tenant call.new.seat
+            call.new.number call.new.message.value result }
         ensures asked { asked_of call.new ≡ asked_of call.old }
-        ensures entered { IfOk result
-            (λ _.
-            IsSomeAnd call.new.message.value.reply
-            (λ r.
-            IsEntered self.old.book.accounts self.new.book.accounts call.old.tenant
-            (event call.old.seat call.old.number call.old.message.value.call r))) }
-        ensures no_tenant { call.old.partition ≡ self.old.partition
-            → call.old.parts ≡ self.old.parts
-            → (IsErrOf result Fault.NoTenant ↔ (length self.old.book.accounts ≤ call.old.tenant)) }
-        ensures place { IfOk result (λ place. place
-            ≡ before_at self.old.book.accounts call.old.tenant
-            + length (events_at self.old.book.accounts call.old.tenant) + 1) }
-        ensures late { call.old.partition ≡ self.old.partition → call.old.parts ≡ self.old.parts
-            → call.old.tenant < length self.old.book.accounts
-            → (IsErrOf result Fault.Late
-            ↔ IsLate
-            (events_at self.old.book.accounts call.old.tenant) call.old.seat call.old.number) }
-        ensures cuts { IfOk result (λ _. 0 < config.now.epoch
-            → length (events_at self.new.book.accounts call.old.tenant) ≡ config.now.epoch
-            → follow_up.new.cuts ≡ true) }
-        ensures still_cuts { follow_up.old.cuts ≡ true → follow_up.new.cuts ≡ true }
-        ensures counted { OnOk result (IsCounted config.now.every self.old.events self.new.events
-            follow_up.old.collects follow_up.new.collects) }
-        ensures uncounted { OnErr result ((self.new.events ≡ self.old.events)
-            × (follow_up.new ≡ follow_up.old)) }
-        ensures unchanged { OnErr result (self.new.book.accounts ≡ self.old.book.accounts) }
-        ensures partition { (self.new.partition ≡ self.old.partition)
-            × (self.new.parts ≡ self.old.parts) }
-        ensures collections { self.new.collections ≡ self.old.collections }
+        ensures enters { EntersCall self.old.book.accounts self.new.book.accounts call.old.tenant
+            call.old.seat call.old.number call.old.message.value.call (λ place. place)
+            (λ _. call.new.message.value.reply) result }
+        ensures refuses { call.old.partition ≡ self.old.partition → call.old.parts ≡ self.old.parts
+            → RefusesSo self.old.book.accounts call.old.tenant call.old.seat call.old.number result }
+        ensures notes { NotesEvent config.now.every config.now.epoch self.new.book.accounts
+            call.old.tenant self.old.events self.new.events follow_up.old follow_up.new result }
+        ensures stays { StaysAt self.old self.new }
     {
         if !self.is_home_of(call) {
             return Err(Fault::NoTenant);
@@ -403,38 +364,17 @@ impl<J: Naming> ShardState<J> {
         follow_up: &mut FollowUp,
     ) -> Result<u64, Fault>
         requires { (call.old.partition ≡ self.old.partition) × (call.old.parts ≡ self.old.parts) }
-        ensures came { CameSo call.new.front call.new.partition call.new.tenant call.new.seat call.new.number call.new.message.value result }
-        ensures no_tenant { IsErrOf result Fault.NoTenant
-            ↔ (length self.old.book.accounts ≤ call.old.tenant) }
-        ensures entered { IfOk result
-            (λ _.
-            IsSomeAnd call.new.message.value.reply
-            (λ r.
-            IsEntered self.old.book.accounts self.new.book.accounts call.old.tenant
-            (event call.old.seat call.old.number call.old.message.value.call r))) }
-        ensures place { IfOk result (λ place. place
-            ≡ before_at self.old.book.accounts call.old.tenant
-            + length (events_at self.old.book.accounts call.old.tenant) + 1) }
-        ensures late { call.old.tenant < length self.old.book.accounts
-            → (IsErrOf result Fault.Late
-            ↔ IsLate
-            (events_at self.old.book.accounts call.old.tenant) call.old.seat call.old.number) }
-        ensures unchanged { OnErr result (self.new.book.accounts ≡ self.old.book.accounts) }
-        ensures partition { (self.new.partition ≡ self.old.partition)
-            × (self.new.parts ≡ self.old.parts) }
-        ensures collections { self.new.collections ≡ self.old.collections }
-        ensures call { (call.new.partition ≡ call.old.partition)
-            × (call.new.tenant ≡ call.old.tenant) × (call.new.seat ≡ call.old.seat)
-            × (call.new.number ≡ call.old.number) }
+        ensures came { CameSo call.new.front call.new.partition call.new.tenant call.new.seat
+            call.new.number call.new.message.value result }
         ensures asked { asked_of call.new ≡ asked_of call.old }
-        ensures cuts { IfOk result (λ _. 0 < config.now.epoch
-            → length (events_at self.new.book.accounts call.old.tenant) ≡ config.now.epoch
-            → follow_up.new.cuts ≡ true) }
-        ensures still_cuts { follow_up.old.cuts ≡ true → follow_up.new.cuts ≡ true }
-        ensures counted { OnOk result (IsCounted config.now.every self.old.events self.new.events
-            follow_up.old.collects follow_up.new.collects) }
-        ensures uncounted { OnErr result ((self.new.events ≡ self.old.events)
-            × (follow_up.new ≡ follow_up.old)) }
+        ensures enters { EntersCall self.old.book.accounts self.new.book.accounts call.old.tenant
+            call.old.seat call.old.number call.old.message.value.call (λ place. place)
+            (λ _. call.new.message.value.reply) result }
+        ensures refuses { RefusesSo self.old.book.accounts call.old.tenant call.old.seat
+            call.old.number result }
+        ensures notes { NotesEvent config.now.every config.now.epoch self.new.book.accounts
+            call.old.tenant self.old.events self.new.events follow_up.old follow_up.new result }
+        ensures stays { StaysAt self.old self.new }
         // where its journal was not full
         ensures short { (0 < config.now.epoch
             → length (events_at self.old.book.accounts call.old.tenant) < 2 * config.now.epoch)
@@ -465,9 +405,7 @@ impl<J: Naming> ShardState<J> {
     /// Counts an event of a seat.
     fn count(&mut self, config: &ShardConfig, follow_up: &mut FollowUp)
         ensures book { self.new.book.accounts ≡ self.old.book.accounts }
-        ensures partition { (self.new.partition ≡ self.old.partition)
-            × (self.new.parts ≡ self.old.parts) }
-        ensures collections { self.new.collections ≡ self.old.collections }
+        ensures stays { StaysAt self.old self.new }
         ensures cuts { follow_up.new.cuts ≡ follow_up.old.cuts }
         ensures counted { IsCounted config.now.every self.old.events self.new.events
             follow_up.old.collects follow_up.new.collects }
@@ -500,7 +438,7 @@ pub fn is_long(book: &Book, epoch: u32, tenant: u32) -> bool
     epoch > 0 && tenant < book.tenants() && book.events(tenant) == u64::from(epoch)
 }
 
-/// Serves a call of a tenant that may not be there.
+/// Serves a call of a tenant that may not be there, if what the book has seen shows that it may be served.
 pub fn answer<J: Naming>(
     book: &mut TracedBook<J>,
     seat: u64,
@@ -508,17 +446,11 @@ pub fn answer<J: Naming>(
     tenant: u32,
     call: &Call,
 ) -> Result<PlacedReply, Fault>
-    ensures no_tenant { IsErrOf result Fault.NoTenant ↔ (length book.old.accounts ≤ tenant) }
-    ensures entered { IfOk result
-        (λ r.
-        IsEntered book.old.accounts book.new.accounts tenant (event seat number call.now r.reply)) }
-    ensures place { IfOk result (λ r. r.place
-        ≡ before_at book.old.accounts tenant + length (events_at book.old.accounts tenant) + 1) }
-    ensures reply { IfOk result (λ r. IsReplyInEpoch book.old.accounts tenant call.now r.reply) }
-    ensures late { tenant < length book.old.accounts
-        → (IsErrOf result Fault.Late ↔ IsLate (events_at book.old.accounts tenant) seat number) }
+    requires { ∥ MayServe book.old.seen book.old.partition tenant call.now ∥₁ }
+    ensures enters { EntersCall book.old.accounts book.new.accounts tenant seat number call.now
+        (λ told. told.place) (λ told. Some told.reply) result }
+    ensures refuses { RefusesSo book.old.accounts tenant seat number result }
     ensures partition { book.new.partition ≡ book.old.partition }
-    ensures unchanged { OnErr result (book.new.accounts ≡ book.old.accounts) }
 {
     if tenant >= book.book().tenants() {
         return Err(Fault::NoTenant);
@@ -537,7 +469,8 @@ pub fn answer<J: Naming>(
 }
 
 /// Serves a message's call, of which the gate knows as call `nth` of its partition, with the reply written into the message where
-/// the last one lies. Answers its event's place in the journal. The evidence has seen then that it was served.
+/// the last one lies. Answers its event's place in the journal. The evidence shows that it may be served, and has seen then that it
+/// was.
 fn serve_message<G: Gate, J: Naming>(
     _gate: &G,
     _partition: u32,
@@ -549,35 +482,20 @@ fn serve_message<G: Gate, J: Naming>(
     evidence: &mut Front<J>,
 ) -> Result<u64, Fault>
     requires inside { G.is_inside _gate.now _partition _nth }
-    ensures no_tenant { IsErrOf result Fault.NoTenant ↔ (length book.old.accounts ≤ tenant) }
-    ensures entered { IfOk result
-        (λ _.
-        IsSomeAnd message.new.reply
-        (λ r.
-        IsEntered book.old.accounts book.new.accounts tenant
-        (event caller.seat caller.number message.old.call r))) }
-    ensures place { IfOk result (λ place. place
-        ≡ before_at book.old.accounts tenant + length (events_at book.old.accounts tenant) + 1) }
-    ensures reply { IfOk result
-        (λ _.
-        IsSomeAnd message.new.reply
-        (λ r. IsReplyInEpoch book.old.accounts tenant message.old.call r)) }
+    requires may { ∥ MayServe evidence.old book.old.partition tenant message.old.call ∥₁ }
+    ensures enters { EntersCall book.old.accounts book.new.accounts tenant caller.seat
+        caller.number message.old.call (λ place. place) (λ _. message.new.reply) result }
+    ensures refuses { RefusesSo book.old.accounts tenant caller.seat caller.number result }
     ensures served { IfOk result
         (λ place.
         IsSomeAnd message.new.reply
         (λ r.
         StandsInHistory evidence.new
         (record { partition = book.old.partition; tenant = tenant; seat = caller.seat; number = caller.number; call = message.old.call }) place r)) }
-    ensures message { IfOk result (λ _. message.new
-        ≡ record message.old { reply = message.new.reply }) }
-    ensures asks { message.new.call ≡ message.old.call }
+    ensures message { message.new ≡ record message.old { reply = message.new.reply } }
+    ensures unwritten { OnErr result (message.new ≡ message.old) }
     ensures evidence { IsPrefix evidence.old evidence.new }
     ensures partition { book.new.partition ≡ book.old.partition }
-    ensures late { tenant < length book.old.accounts
-        → (IsErrOf result Fault.Late
-        ↔ IsLate (events_at book.old.accounts tenant) caller.seat caller.number) }
-    ensures unchanged { OnErr result ((book.new.accounts ≡ book.old.accounts)
-        × (message.new ≡ message.old)) }
 {
     if tenant >= book.book().tenants() {
         return Err(Fault::NoTenant);

@@ -1,5 +1,5 @@
 //! How much the tenants use of a partition.
-ghost use Rattle.std.specs.Prelude.{◌≡◌, ◌≤◌, ◌↔◌, false, length, IfOk, IsTrue, OnOk};
+ghost use Rattle.std.specs.Prelude.{◌≡◌, ◌≤◌, ◌↔◌, false, length, IfOk, IsTrue};
 ghost use Rattle.shard.specs.UsedAt.{AreUsagesAt, AreUsagesOf, IsAt, WasElsewhere};
 ghost use Rattle.stamps.specs.Limits.{max_tenants};
 

@@ -23,3 +23,4 @@ pub mod Delivered
 pub mod Listed
 pub mod Shown
 pub mod HasBegun
+mod Sent

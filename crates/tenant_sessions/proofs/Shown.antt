@@ -12,7 +12,7 @@ use Rattle.plain_store.specs.declared.message.Message.{Message}
 use Rattle.plain_store.specs.Words.{Key, Tag, Stamp, Item, Record, Setup}
 use Rattle.plain_store.specs.History.{Intent, Writes, Gets, Finds}
 use Rattle.plain_store.specs.Moves.{Waits, Decides, Finishes, Reads, write_move, read_move, find_move}
-use Rattle.plain_store.specs.Writing.{Outgoing, all_prepared, all_committed}
+use Rattle.plain_store.specs.Writing.{Outgoing, all_prepared, all_committed, commit_calls}
 use Rattle.plain_store.specs.Rounds.{needed, round_of}
 use Rattle.plain_store.specs.Finding.{keys_found, count_found, all_keys_found}
 use Rattle.put_all.specs.declared.writer.Writer.{Writer}
@@ -32,7 +32,7 @@ use Rattle.get_all.specs.Reader.{StandsFor, TakesRead, IfRead, told}
 use Rattle.get_all.specs.Reading.{ReadsWhole, is_wanted, read_answer, IsFirst, IsSecond}
 use Rattle.tenant_sessions.specs.Holding.{Machine, Write as MachineWrite, Read as MachineRead, Find as MachineFind}
 use Rattle.tenant_sessions.specs.Running.{RunningStands, RunsAs}
-use Rattle.tenant_sessions.specs.Showing.{IsReadersAnswer, IsFindersAnswer, IsShown, HasTaken, TellsStamp, IfLists, found_move, IfWritten, IsCallFor, IsTakenFor, IsWritersAnswer, Offers, OffersWrite, Shows}
+use Rattle.tenant_sessions.specs.Showing.{IsReadersAnswer, IsFindersAnswer, IsShown, HasTaken, TellsStamp, IfLists, found_move, IfWritten, IfDecides, IfPrepared, IsCallFor, IsTakenFor, IsWritersAnswer, Offers, OffersWrite, Shows}
 use Rattle.tenant_sessions.specs.Moves.{Move}
 use Rattle.tenant_sessions.specs.Moves.{Ignored as Ignores}
 use Rattle.tenant_sessions.specs.declared.running.Running.{Running}
@@ -107,7 +107,7 @@ offered keys taken message key reply answer reader (Some s) call to first second
 pub shows_so : (setup : Setup) (request : Intent) (taken : List Message) (message : Message) (move : Move) (Stands Other : List Message → Type 0)
     → ((replies : List Message) → Stands replies → Other replies) → Shows setup request taken message move Stands → Shows setup request taken message move Other
 shows_so setup request taken message move Stands Other so (inl passed) = inl (passed.0, so taken passed.1)
-shows_so setup request taken message move Stands Other so (inr took) = inr (record { meant = took.meant; same = took.same; stands = so _ took.stands; told = took.told })
+shows_so setup request taken message move Stands Other so (inr took) = inr (record { meant = took.meant; same = took.same; stands = so _ took.stands; told = took.told; decided = took.decided })
 
 -- ---- a write
 
@@ -124,6 +124,10 @@ no_decision stamp s outs true e = cc
 no_decision stamp s outs false e = cc
 
 -- a write finishes by the reply to a COMMIT, once each item is prepared
+no_end : (stamp : Stamp) (outs : List Outgoing) (b : Bool) → Some (Decides stamp outs) ≡ Some (cond b (Finishes stamp) Waits) → ⊥
+no_end stamp outs true e = cc
+no_end stamp outs false e = cc
+
 finished : (setup : Setup) (stamp : Stamp) (items : List Item) (taken : List Message) (last : Message) (s : Stamp) → write_answer setup stamp items taken last ≡ Some (Finishes s)
     → IsWritersAnswer setup stamp items taken last
 finished setup stamp items taken last s answers =
@@ -140,6 +144,23 @@ finished setup stamp items taken last s answers =
     go (Prepare version) (Some (ToPrepare Prepared)) true wants is = absurd (no_decision stamp s _ (all_prepared stamp items (taken ++ last ∷ [])) is)
     go _ _ true wants is = cc
 
+-- and is decided by the reply to a PREPARE, once each item is prepared
+is_decided : (stamp : Stamp) (outs : List Outgoing) (calls : List Outgoing) (b : Bool) → Some (Decides stamp outs) ≡ Some (cond b (Decides stamp calls) Waits) → b ≡ true
+is_decided stamp outs calls true e = refl
+is_decided stamp outs calls false e = cc
+
+decided_by : (setup : Setup) (stamp : Stamp) (items : List Item) (taken : List Message) (last : Message) (outs : List Outgoing)
+    → Some (Decides stamp outs) ≡ write_answer setup stamp items taken last → all_prepared stamp items (taken ++ last ∷ []) ≡ true
+decided_by setup stamp items taken last outs answers =
+    go last.call last.reply (is_wanted_written setup stamp items taken last.partition last.call) answers
+  where
+    go : (call : Call) (reply : Option Reply) (wanted : Bool) → Some (Decides stamp outs) ≡ cond wanted (Some (write_move setup stamp items (taken ++ last ∷ []) call reply)) None
+        → all_prepared stamp items (taken ++ last ∷ []) ≡ true
+    go call reply false is = cc
+    go (Prepare version) (Some (ToPrepare Prepared)) true is = is_decided stamp outs (commit_calls setup stamp items) (all_prepared stamp items (taken ++ last ∷ [])) is
+    go (Commit t) (Some (ToCommit count)) true is = absurd (no_end stamp outs (all_committed setup stamp items (taken ++ last ∷ [])) is)
+    go _ _ true is = cc
+
 pub wrote_as : (setup : Setup) (stamp : Stamp) (items : List Item) (taken : List Message) (message meant : Message) (answer : WriteMove) (writer : Writer) → IsTakenFor message meant
     → TakesWrite setup stamp items taken meant answer writer → OffersWrite setup stamp items taken message answer writer
 wrote_as setup stamp items taken message meant answer writer same takes = go (is_wanted_written setup stamp items taken meant.partition meant.call) takes.answered takes.stands
@@ -148,10 +169,14 @@ wrote_as setup stamp items taken message meant answer writer same takes = go (is
     done (wrote.Done s) answered = finished setup stamp items taken meant s (sym answered)
     done _ answered = tt
 
+    decides : (a : WriteMove) → told_written setup stamp items a ≡ write_answer setup stamp items taken meant → IfDecides a (all_prepared stamp items (taken ++ meant ∷ []) ≡ true)
+    decides wrote.Decide answered = decided_by setup stamp items taken meant (commit_calls setup stamp items) answered
+    decides _ answered = tt
+
     go : (b : Bool) → told_written setup stamp items answer ≡ cond b (Some (write_move setup stamp items (taken ++ meant ∷ []) meant.call meant.reply)) None → StandsForWrite setup stamp items writer (cond b (taken ++ meant ∷ []) taken)
         → OffersWrite setup stamp items taken message answer writer
     go false none stands = inl (none_told_written setup stamp items answer none, stands)
-    go true some stands = inr (meant, same, stands, done answer takes.answered)
+    go true some stands = inr (meant, same, stands, done answer takes.answered, decides answer takes.answered)
 
 -- a reply to a PREPARE of this key, as one to that of the write
 pub prepared_as : (setup : Setup) (stamp : Stamp) (items : List Item) (taken : List Message) (message : Message) (version : Record) (key : Key) (reply : PrepareReply) (answer : WriteMove) (writer : Writer)
@@ -176,15 +201,27 @@ committed_as setup stamp items taken message asked count answer writer call to t
 
 -- and what is offered is shown by the move
 pub shows_written : (setup : Setup) (stamp : Stamp) (items : List Item) (taken : List Message) (message : Message) (answer : WriteMove) (move : Move) (writer : Writer) → (answer ≡ wrote.Ignored → move ≡ Ignores)
-    → ((P : Type 0) → IfWritten answer P → TellsStamp stamp move P) → OffersWrite setup stamp items taken message answer writer → Shows setup (Writes stamp items) taken message move (StandsForWrite setup stamp items writer)
-shows_written setup stamp items taken message answer move writer ignores tells (inl passed) = inl (ignores passed.0, passed.1)
-shows_written setup stamp items taken message answer move writer ignores tells (inr (meant, same, stands, told)) = inr (record { meant = meant; same = same; stands = stands; told = tells _ told })
+    → ((P : Type 0) → IfWritten answer P → TellsStamp stamp move P) → ((P : Type 0) → IfDecides answer P → IfPrepared move P) → OffersWrite setup stamp items taken message answer writer → Shows setup (Writes stamp items) taken message move (StandsForWrite setup stamp items writer)
+shows_written setup stamp items taken message answer move writer ignores tells decides (inl passed) = inl (ignores passed.0, passed.1)
+shows_written setup stamp items taken message answer move writer ignores tells decides (inr (meant, same, stands, told, decided)) =
+    inr (record { meant = meant; same = same; stands = stands; told = tells _ told; decided = decides _ decided })
 
 -- ---- a search
 
 none_told_found : (setup : Setup) (answer : FindMove) → told_found setup answer ≡ None → answer ≡ found.Ignored
 none_told_found setup found.Ignored e = refl
 none_told_found setup _ e = cc
+
+-- a search decides nothing
+decides_none : (answer : FindMove) → IfPrepared (found_move answer) ⊥
+decides_none found.Wait = tt
+decides_none (found.Begin keys) = tt
+decides_none (found.Ask late) = tt
+decides_none (found.List items) = tt
+decides_none (found.Restart key floor) = tt
+decides_none found.TooMany = tt
+decides_none found.Torn = tt
+decides_none found.Ignored = tt
 
 module _ (setup : Setup) (tag : Tag) (taken : List Message) (message : Message) (before finder : Finder) (answer : FindMove) (s : StandsForFind setup tag before taken) (few : length (keys_found message.reply) ≤ count_found message.reply) where
   pub found_as : (meant : Message) → IsTakenFor message meant → TakesFind setup tag taken meant answer finder → Shows setup (Finds tag) taken message (found_move answer) (StandsForFind setup tag finder)
@@ -199,7 +236,7 @@ module _ (setup : Setup) (tag : Tag) (taken : List Message) (message : Message) 
       go : (b : Bool) → told_found setup answer ≡ cond b (Some (find_move setup tag (taken ++ meant ∷ []) meant.partition meant.call meant.reply)) None → StandsForFind setup tag finder (cond b (taken ++ meant ∷ []) taken)
           → Shows setup (Finds tag) taken message (found_move answer) (StandsForFind setup tag finder)
       go false none stands = inl (ap found_move (none_told_found setup answer none), stands)
-      go true some stands = inr (record { meant = meant; same = same; stands = stands; told = lists answer takes.answered })
+      go true some stands = inr (record { meant = meant; same = same; stands = stands; told = lists answer takes.answered; decided = decides_none answer })
 
   -- a reply to a GET of its read, in round one or in round two
   pub offered_found : (key : Key) (reply : ReadReply) (at : Option Stamp) → message.call ≡ Get key at → message.reply ≡ Some (ToGet reply)

@@ -1,6 +1,6 @@
 -- What the calls that begin a transaction, put a call and take a reply ask for, and what they promise.
 use Rattle.std.specs.Prelude.{◌≡◌, ◌≢◌, ℕ, ◌+◌, ◌<◌, ◌≤◌, Bool, false, List, [], Option, Some, None, Result, Ok, Err, IfOk, IfErr, OnOk, OnErr, IsSome}
-use Rattle.std.specs.Prelude.{cond, slice_get}
+use Rattle.std.specs.Prelude.{cond, length, slice_get}
 use Rattle.stamps.specs.Key.{IsTransactionKeys, sorted_keys}
 use Rattle.stamps.specs.declared.record.Item.{Item}
 use Rattle.plain_store.specs.declared.answer.Answer.TheVariants.{Refused}
@@ -25,6 +25,7 @@ use Rattle.tenant_sessions.specs.Moves.{Move, moved}
 use Rattle.tenant_sessions.specs.Parts.{outgoing_of}
 use Rattle.tenant_sessions.specs.Running.{IsReplyTo, RunningStands}
 use Rattle.tenant_sessions.specs.Sessions.{IsBegin, IsBeginOf, IsRun, IsTaken, StandsFor}
+use Rattle.tenant_sessions.specs.Sending.{SendsSo, waiting_of}
 use Rattle.tenant_sessions.specs.Showing.{IsShown, Shows}
 
 -- ---- what they ask for
@@ -44,6 +45,11 @@ pub record PutsCall (calls : List Outgoing) (place : ℕ) (is_put : Bool) (old n
   pub rest : new ≡ record old { partition = new.partition; call = new.call }
   pub unchanged : is_put ≡ false → new ≡ old
 
+-- These calls are waited for, where they are as many as there may be; whatever they are, no more than so many.
+pub record Awaits (sent : List Outgoing) (most : ℕ) (waiting : List Outgoing) : Type 0 where
+  pub calls : length sent ≤ 64 → waiting ≡ sent
+  pub few : length waiting ≤ most
+
 -- what may begin is this request's transaction, which sends so many calls first; it is refused for what the test reports
 pub record BeginsIf (test : Result (Unit {0}) Refusal) (client : ℕ) (request : Intent) (calls : ℕ) (result : Result Begin Refusal)
     : Type 0 where
@@ -62,8 +68,8 @@ pub record StartsIf (test : Result (Unit {0}) Refusal) (parts : ℕ) (request : 
 
 -- What a session does when a message comes. Where no transaction runs, and where the message's ticket is another one, it
 -- ignores it, and nothing changes. A reply to what runs is taken as the plain store takes it. Whatever the message is: what is
--- answered was shown by the replies, and what is sent with it and may be asked for after it is no more than what might be
--- before.
+-- answered was shown by the replies, what is sent with it and may be asked for after it is no more than what might be
+-- before, and a write that is decided sends COMMITs of its stamp and a read GETs.
 pub record TakesIn (message : Message) (old : ClientSession) (kind : MoveKind) (readings : List Reading) (new : ClientSession)
     : Type 0 where
   pub idle : old.running ≡ None → (kind ≡ Ignored) × (new ≡ old)
@@ -74,6 +80,7 @@ pub record TakesIn (message : Message) (old : ClientSession) (kind : MoveKind) (
   pub shown : (setup : Setup) (request : Intent) (taken : List Message) → IsShown setup request taken old.running
       → Shows setup request taken message (moved kind readings) (λ replies. IsShown setup request replies new.running)
   pub calls : calls_sent (moved kind readings) (calls_waiting new.running) + calls_left new.running ≤ calls_left old.running
+  pub sent : SendsSo (moved kind readings) (waiting_of new.running)
   pub counter : old.counter ≤ new.counter
   pub still_open : new.is_open ≡ old.is_open
 

@@ -9,3 +9,4 @@ pub mod CallsLeft
 pub mod Begins
 pub mod Sessions
 pub mod Asking
+pub mod Sending

@@ -14,7 +14,7 @@ use Rattle.plain_store.specs.Words.{Key, Stamp, Tag, Setup}
 use Rattle.plain_store.specs.Writing.{all_prepared, all_committed}
 use Rattle.put_all.specs.declared.writer.Writer.{Writer}
 use Rattle.put_all.specs.declared.writer.WriteMove.{WriteMove}
-use Rattle.put_all.specs.declared.writer.WriteMove.TheVariants.{Done as DoneWrite, Ignored as IgnoredWrite}
+use Rattle.put_all.specs.declared.writer.WriteMove.TheVariants.{Decide as DecideWrite, Done as DoneWrite, Ignored as IgnoredWrite}
 use Rattle.put_all.specs.Writer.{StandsFor as StandsForWrite}
 use Rattle.put_all.specs.Writing.{write_answer}
 use Rattle.get_all.specs.declared.finder.FindMove.{FindMove}
@@ -113,12 +113,18 @@ abbrev pub IfWritten : WriteMove → Type 0 → Type 0
 IfWritten (DoneWrite stamp) P = P
 IfWritten answer P = Unit {0}
 
+-- and where it is that the write is decided
+abbrev pub IfDecides : WriteMove → Type 0 → Type 0
+IfDecides DecideWrite P = P
+IfDecides answer P = Unit {0}
+
 -- The writer ignores a message, or takes its reply as that to one of its calls, whatever the message is.
 abbrev pub OffersWrite : Setup → Stamp → List Item → List Message → Message → WriteMove → Writer → Type 0
 OffersWrite setup stamp items taken message answer writer =
     ((answer ≡ IgnoredWrite) × StandsForWrite setup stamp items writer taken)
     ⊎ ((meant : Message) × IsTakenFor message meant × StandsForWrite setup stamp items writer (taken ++ meant ∷ [])
-    × IfWritten answer (IsWritersAnswer setup stamp items taken meant))
+    × IfWritten answer (IsWritersAnswer setup stamp items taken meant)
+    × IfDecides answer (all_prepared stamp items (taken ++ meant ∷ []) ≡ true))
 
 -- The reader ignores a message, or takes its reply as that to one of its calls, whatever the message is.
 abbrev pub Offers : List Key → List Message → Message → ReadMove → Reader → Type 0
@@ -183,6 +189,25 @@ IfTells (Writes stamp items) answer P = TellsStamp stamp answer (P [])
 IfTells (Gets keys) answer P = IfReads answer P
 IfTells (Finds tag) answer P = IfLists answer P
 
+-- what is said of a move by which a write is decided
+abbrev pub IfPrepared : Move → Type 0 → Type 0
+IfPrepared Wait P = Unit {0}
+IfPrepared (Decided stamp) P = P
+IfPrepared (Done stamp) P = Unit {0}
+IfPrepared Ask P = Unit {0}
+IfPrepared Begins P = Unit {0}
+IfPrepared (Read told) P = Unit {0}
+IfPrepared (Listed told) P = Unit {0}
+IfPrepared (Restart key floor) P = Unit {0}
+IfPrepared (Ended refusal calls) P = Unit {0}
+IfPrepared Ignored P = Unit {0}
+
+-- a write is decided once each of its items is prepared, by the replies that it took; a read or a search decides nothing
+abbrev pub IfDecided : Intent → Move → List Message → Type 0
+IfDecided (Writes stamp items) answer replies = IfPrepared answer (all_prepared stamp items replies ≡ true)
+IfDecided (Gets keys) answer replies = IfPrepared answer ⊥
+IfDecided (Finds tag) answer replies = IfPrepared answer ⊥
+
 -- The message's reply was taken, as one to the call in whose place it came. Stands: which replies are then taken
 pub record IsTakenAs (setup : Setup) (request : Intent) (taken : List Message) (message : Message) (answer : Move)
     (Stands : List Message → Type 0) : Type 0 where
@@ -190,6 +215,7 @@ pub record IsTakenAs (setup : Setup) (request : Intent) (taken : List Message) (
   pub same : IsTakenFor message meant
   pub stands : Stands (taken ++ meant ∷ [])
   pub told : IfTells request answer (IsAnswerTo setup request taken meant)
+  pub decided : IfDecided request answer (taken ++ meant ∷ [])
 
 -- whatever the message is, it is ignored, or its reply is taken
 abbrev pub Shows : Setup → Intent → List Message → Message → Move → (List Message → Type 0) → Type 0

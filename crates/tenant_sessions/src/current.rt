@@ -39,6 +39,7 @@ impl Current {
     ghost use Rattle.tenant_sessions.specs.CallsLeft.{calls_left, calls_sent, calls_waiting};
     ghost use Rattle.tenant_sessions.specs.Moves.{moved};
     ghost use Rattle.tenant_sessions.specs.Running.{MayBegin, IsReplyTo, RunningStands, Starts, TakesMessage};
+    ghost use Rattle.tenant_sessions.specs.Sending.{SendsSo, waiting_of};
     ghost use Rattle.tenant_sessions.specs.Showing.{IsShown, Shows};
 
     /// None runs. It fails where memory for its place was refused.
@@ -137,6 +138,7 @@ impl Current {
             → RunningStands setup request taken running → IsReplyTo setup request taken message.now
             → TakesMessage setup request taken message.now (moved kind.new readings.new)
             (λ replies. GoesOn setup request replies self.new) }
+        ensures sent { SendsSo (moved kind.new readings.new) (waiting_of self.new) }
         ensures calls { calls_sent (moved kind.new readings.new) (calls_waiting self.new)
             + calls_left self.new ≤ calls_left self.old }
     {

@@ -28,6 +28,7 @@ impl Discards {
     ghost use Rattle.std.specs.Prelude.{ℕ, [], true, false, Some, None, if◌then◌else◌};
     ghost use Rattle.plain_store.specs.declared.calls.Call.TheVariants.{Discard};
     ghost use Rattle.plain_store.specs.Writing.{Outgoing as Sent};
+    ghost use Rattle.tenant_sessions.specs.Sending.{IsDiscard};
 
     /// No DISCARD.
     pub(crate) fn none() -> Discards
@@ -67,6 +68,7 @@ impl Discards {
     pub fn message_into(&self, client: Client, ticket: u64, nth: u32, place: &mut Message) -> bool
         ensures told { (if result then Some place.new else None)
             ≡ slice_get (map (call_message client ticket) self.now) nth }
+        ensures discard { result ≡ true → IsDiscard place.new.call }
         ensures reply { result ≡ true → place.new.reply ≡ None }
         ensures unchanged { result ≡ false → place.new ≡ place.old }
     {

@@ -167,6 +167,7 @@ impl MoveKind {
     ghost use Rattle.plain_store.specs.declared.reading.Reading.{Reading};
     ghost use Rattle.plain_store.specs.Run.{call_message};
     ghost use Rattle.tenant_sessions.specs.Moves.{moved, answer_of, sends_calls, ending, is_last, is_ignored};
+    ghost use Rattle.tenant_sessions.specs.Sending.{IsDiscard};
 
     /// The move that it is with these readings, where something was read.
     pub fn told(self, readings: &Readings) -> Move
@@ -248,6 +249,7 @@ impl MoveKind {
     pub fn ending_into(&self, client: Client, ticket: u64, nth: u32, place: &mut Message) -> bool
         ensures told { (readings : List Reading) → (if result then Some place.new else None)
             ≡ slice_get (map (call_message client ticket) (ending (moved self.now readings))) nth }
+        ensures discard { result ≡ true → IsDiscard place.new.call }
         ensures reply { result ≡ true → place.new.reply ≡ None }
         ensures unchanged { result ≡ false → place.new ≡ place.old }
     {

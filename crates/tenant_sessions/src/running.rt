@@ -61,6 +61,7 @@ impl Running {
     ghost use Rattle.tenant_sessions.specs.CallsLeft.{calls_sent, machine_left};
     ghost use Rattle.tenant_sessions.specs.Moves.{moved};
     ghost use Rattle.tenant_sessions.specs.Running.{MayBegin, IsReplyTo, RunningStands, Starts, TakesMessage, waiting_calls};
+    ghost use Rattle.tenant_sessions.specs.Sending.{SendsSo};
     ghost use Rattle.tenant_sessions.specs.Showing.{HasTaken, Shows};
 
     /// A transaction that nobody began, and that waits for no reply.
@@ -143,6 +144,7 @@ impl Running {
             (λ replies. RunningStands setup request replies self.new) }
         ensures calls { calls_sent (moved kind.new readings.new) (length self.new.waiting)
             + machine_left self.new.machine ≤ machine_left self.old.machine }
+        ensures sent { SendsSo (moved kind.new readings.new) self.new.waiting }
     {
         match self.kind {
             TransactionKind::Put => take_written(
@@ -191,6 +193,8 @@ impl Running {
             → RunningStands setup request taken self.now
             → (if result then Some (outgoing_of message.new) else None)
             ≡ slice_get (waiting_calls setup request taken) nth }
+        ensures there { (if result then Some (outgoing_of message.new) else None)
+            ≡ slice_get self.now.waiting nth }
         ensures rest { message.new
             ≡ record message.old { partition = message.new.partition; call = message.new.call } }
         ensures unchanged { result ≡ false → message.new ≡ message.old }

@@ -1,15 +1,17 @@
 //! Running reads.
-ghost use Rattle.std.specs.Prelude.{◌≡◌, ◌+◌, ◌≤◌, List, length};
+ghost use Rattle.std.specs.Prelude.{◌≡◌, ◌+◌, ◌≤◌, All, List, length};
 ghost use Rattle.stamps.specs.Bounds.{IsParts};
 ghost use Rattle.plain_store.specs.declared.message.Message.{Message};
 ghost use Rattle.plain_store.specs.History.{Gets};
 ghost use Rattle.plain_store.specs.Words.{Key, Setup};
 ghost use Rattle.get_all.specs.Reader.{StandsFor, TakesRead, told_by, calls_left, calls_asked};
 ghost use Rattle.get_all.specs.ReadProgress.{late_by};
+ghost use Rattle.tenant_sessions.specs.Asking.{Awaits};
 ghost use Rattle.tenant_sessions.specs.CallsLeft.{calls_sent};
 ghost use Rattle.tenant_sessions.specs.Moves.{moved};
 ghost use Rattle.tenant_sessions.specs.Parts.{Second, batch_calls};
 ghost use Rattle.tenant_sessions.specs.Running.{IsReplyTo, IsReading, TakesMessage};
+ghost use Rattle.tenant_sessions.specs.Sending.{IsGet, SendsSo};
 ghost use Rattle.tenant_sessions.specs.Showing.{Offers, Shows};
 
 use crate::waiting::Waiting;
@@ -65,9 +67,9 @@ fn offer_reply(finder: &mut Finder, message: &Message, reply: &Reply) -> ReadMov
 #[inline(never)]
 fn await_late(finder: &Finder, waiting: &mut Waiting, parts: u32)
     requires { IsParts parts }
-    ensures calls { length (batch_calls parts (Second (late_by finder.now.reader.slots))) ≤ 64
-        → waiting.new ≡ batch_calls parts (Second (late_by finder.now.reader.slots)) }
-    ensures few { length waiting.new ≤ length (late_by finder.now.reader.slots) }
+    ensures awaits { let late = late_by finder.now.reader.slots in
+        Awaits (batch_calls parts (Second late)) (length late) waiting.new }
+    ensures gets { All (λ out. IsGet out.call) waiting.new }
 {
     let late = finder.late_keys_alone();
     waiting.read_late(late, parts);
@@ -95,6 +97,7 @@ pub(crate) fn take_read(
         (λ replies. IsReading setup keys replies finder.new.reader waiting.new) }
     ensures calls { calls_sent (moved kind.new readings.new) (length waiting.new)
         + calls_left finder.new.reader ≤ calls_left finder.old.reader }
+    ensures sent { SendsSo (moved kind.new readings.new) waiting.new }
 {
     match offer(finder, message) {
         ReadMoveKind::Wait => {

@@ -9,6 +9,7 @@ ghost use Rattle.get_all.specs.Finder.{StandsFor, TakesFind, calls_left, calls_a
 ghost use Rattle.tenant_sessions.specs.CallsLeft.{calls_sent};
 ghost use Rattle.tenant_sessions.specs.Moves.{moved};
 ghost use Rattle.tenant_sessions.specs.Running.{IsReplyTo, IsFinding, TakesMessage};
+ghost use Rattle.tenant_sessions.specs.Sending.{SendsSo};
 ghost use Rattle.tenant_sessions.specs.Showing.{found_move, Shows};
 
 use crate::waiting::Waiting;
@@ -88,6 +89,7 @@ pub(crate) fn take_found(
         (λ replies. IsFinding setup tag replies finder.new waiting.new) }
     ensures calls { calls_sent (moved kind.new readings.new) (length waiting.new)
         + calls_left finder.new ≤ calls_left finder.old }
+    ensures sent { SendsSo (moved kind.new readings.new) waiting.new }
 {
     match offer(finder, message) {
         FindMove::Wait => {

@@ -1,5 +1,6 @@
 //! Running writes.
-ghost use Rattle.std.specs.Prelude.{◌≡◌, ◌+◌, ◌≤◌, List, length};
+ghost use Rattle.std.specs.Prelude.{◌≡◌, ◌+◌, ◌≤◌, All, List, length};
+ghost use Rattle.plain_store.specs.declared.calls.Call.TheVariants.{Commit};
 ghost use Rattle.stamps.specs.Bounds.{IsParts};
 ghost use Rattle.stamps.specs.declared.record.Item.{Item};
 ghost use Rattle.plain_store.specs.declared.message.Message.{Message};
@@ -7,10 +8,12 @@ ghost use Rattle.plain_store.specs.History.{Writes};
 ghost use Rattle.plain_store.specs.Words.{Setup};
 ghost use Rattle.put_all.specs.Writer.{StandsFor, TakesWrite, ending_calls, calls_left, calls_asked};
 ghost use Rattle.plain_store.specs.declared.reading.Reading.{Reading};
+ghost use Rattle.tenant_sessions.specs.Asking.{Awaits};
 ghost use Rattle.tenant_sessions.specs.CallsLeft.{calls_sent};
 ghost use Rattle.tenant_sessions.specs.Moves.{moved};
 ghost use Rattle.tenant_sessions.specs.Parts.{Commits, batch_calls};
 ghost use Rattle.tenant_sessions.specs.Running.{IsReplyTo, IsWriting, TakesMessage};
+ghost use Rattle.tenant_sessions.specs.Sending.{SendsSo};
 ghost use Rattle.tenant_sessions.specs.Showing.{OffersWrite, Shows};
 
 use crate::waiting::Waiting;
@@ -74,9 +77,8 @@ fn discards_of(refusal: Refusal, stamp: Stamp, writer: &Writer) -> Discards
 /// Waits for the COMMITs of this stamp at these partitions. It stands alone, so that no other reply has room for a part.
 fn await_commits(stamp: Stamp, partitions: Partitions, waiting: &mut Waiting, parts: u32)
     requires { IsParts parts }
-    ensures calls { length (batch_calls parts (Commits stamp partitions)) ≤ 64
-        → waiting.new ≡ batch_calls parts (Commits stamp partitions) }
-    ensures few { length waiting.new ≤ length partitions }
+    ensures awaits { Awaits (batch_calls parts (Commits stamp partitions)) (length partitions) waiting.new }
+    ensures commits { All (λ out. out.call ≡ Commit stamp) waiting.new }
 {
     waiting.commit(stamp, partitions, parts);
 }
@@ -100,6 +102,7 @@ pub(crate) fn take_written(
     ensures calls { (readings : List Reading)
         → calls_sent (moved kind.new readings) (length waiting.new) + calls_left writer.new
         ≤ calls_left writer.old }
+    ensures sent { (readings : List Reading) → SendsSo (moved kind.new readings) waiting.new }
     // Whatever the message is.
     ensures shown { (setup : Setup) (items : List Item) (taken : List Message)
         (readings : List Reading) → StandsFor setup stamp items writer.old taken

@@ -66,6 +66,8 @@ impl ClientSession {
     ghost use Rattle.stamps.specs.Stamp.{stamp};
     ghost use Rattle.tenant_sessions.specs.Running.{MayBegin, RunningStands, waiting_calls};
     ghost use Rattle.tenant_sessions.specs.CallsLeft.{calls_waiting};
+    ghost use Rattle.tenant_sessions.specs.Parts.{outgoing_of};
+    ghost use Rattle.tenant_sessions.specs.Sending.{waiting_of};
     ghost use Rattle.tenant_sessions.specs.Held.{request_begun, drawn_counter, next_ticket, test_open, test_idle, test_put, test_get};
     ghost use Rattle.tenant_sessions.specs.Begins.{HasBegun};
     ghost use Rattle.tenant_sessions.specs.Asking.{BeginsIf, StartsIf, TakesIn};
@@ -365,6 +367,8 @@ impl ClientSession {
             ≡ slice_get
             (map (call_message client self.now.ticket)
             (waiting_calls setup request taken)) nth }
+        ensures there { (if result then Some (outgoing_of place.new) else None)
+            ≡ slice_get (waiting_of self.now.running) nth }
         ensures reply { place.new.reply ≡ place.old.reply }
         ensures unchanged { result ≡ false → place.new ≡ place.old }
     {

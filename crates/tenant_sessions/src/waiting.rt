@@ -2,7 +2,7 @@
 ghost use Rattle.std.specs.Prelude.{◌≡◌, ◌<◌, ◌≤◌, [], ◌∷◌, ◌++◌, true, nat_lt, min, map, not, filter, length, slice_get};
 ghost use Rattle.std.specs.List.{filter_map, list_all};
 ghost use Rattle.stamps.specs.Bounds.{IsParts};
-ghost use Rattle.tenant_sessions.specs.Asking.{MayWrite, PutsCall};
+ghost use Rattle.tenant_sessions.specs.Asking.{Awaits, MayWrite, PutsCall};
 ghost use Rattle.plain_store.specs.Finding.{below};
 ghost use Rattle.plain_store.specs.Writing.{record_for};
 ghost use Rattle.tenant_sessions.specs.Parts.{Prepares, Commits, First, Second, Founds, batch_calls, is_answered_at};
@@ -140,6 +140,9 @@ impl Model for Waiting {
 impl Waiting {
     ghost use Rattle.std.specs.Prelude.{false, Some};
     ghost use Rattle.tenant_sessions.specs.Parts.{batch_calls, is_replaced_by};
+    ghost use Rattle.std.specs.Prelude.{All};
+    ghost use Rattle.plain_store.specs.declared.calls.Call.TheVariants.{Commit};
+    ghost use Rattle.tenant_sessions.specs.Sending.{IsGet};
 
     /// No calls.
     pub(crate) fn none(tag: Tag) -> Waiting {
@@ -166,9 +169,8 @@ impl Waiting {
     /// The COMMITs of this stamp at these partitions.
     pub(crate) fn commit(&mut self, stamp: Stamp, partitions: Partitions, parts: u32)
         requires parts { IsParts parts }
-        ensures calls { length (batch_calls parts (Commits stamp partitions)) ≤ 64
-            → self.new ≡ batch_calls parts (Commits stamp partitions) }
-        ensures few { length self.new ≤ length partitions }
+        ensures awaits { Awaits (batch_calls parts (Commits stamp partitions)) (length partitions) self.new }
+        ensures commits { All (λ out. out.call ≡ Commit stamp) self.new }
     {
         self.part.commit(stamp, partitions);
         fill_all(&mut self.places, &self.part, parts);
@@ -179,9 +181,8 @@ impl Waiting {
     pub(crate) fn read(&mut self, keys: &[Key], parts: u32)
         requires few { length keys.now ≤ 16 }
         requires parts { IsParts parts }
-        ensures calls { length (batch_calls parts (First keys.now)) ≤ 64
-            → self.new ≡ batch_calls parts (First keys.now) }
-        ensures few { length self.new ≤ length keys.now }
+        ensures awaits { Awaits (batch_calls parts (First keys.now)) (length keys.now) self.new }
+        ensures gets { All (λ out. IsGet out.call) self.new }
     {
         self.part.read(keys);
         fill_all(&mut self.places, &self.part, parts);
@@ -191,9 +192,8 @@ impl Waiting {
     /// The GETs of these late versions.
     pub(crate) fn read_late(&mut self, late: LateKeys, parts: u32)
         requires parts { IsParts parts }
-        ensures calls { length (batch_calls parts (Second late)) ≤ 64
-            → self.new ≡ batch_calls parts (Second late) }
-        ensures few { length self.new ≤ length late }
+        ensures awaits { Awaits (batch_calls parts (Second late)) (length late) self.new }
+        ensures gets { All (λ out. IsGet out.call) self.new }
     {
         self.part.read_late(late);
         fill_all(&mut self.places, &self.part, parts);

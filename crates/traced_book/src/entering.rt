@@ -1,6 +1,7 @@
 //! The step at which a call is entered into the history.
 ghost use Rattle.std.specs.Prelude.{◌≡◌, ◌+◌, ◌<◌};
 ghost use Rattle.history.specs.Entries.{count};
+ghost use Rattle.history.specs.Legal.{MayServe};
 
 use history::{CallToServe, Front, Naming, Tally};
 use partition::CallAdmission;
@@ -15,7 +16,7 @@ pub(crate) struct Entering<'t, 'm, 'e, 'c, J: Naming> {
     /// How many entries the word has, by what the partition has seen.
     pub entries: u64,
     pub mine: &'m Front<J>,
-    /// What whoever sent the call has seen.
+    /// What shows that the call may be served.
     pub evidence: &'e Front<J>,
     pub asked: CallToServe<'c>,
     /// What was seen once it was entered.
@@ -23,6 +24,7 @@ pub(crate) struct Entering<'t, 'm, 'e, 'c, J: Naming> {
     ghost key: { tally.now.key ≡ asked.partition + 1 },
     ghost here: { asked.partition < 64 },
     ghost counted: { count tally.now.key mine.now ≡ entries },
+    ghost may: { ∥ MayServe evidence.now asked.partition asked.tenant asked.call.now ∥₁ },
 }
 
 impl<'t, 'm, 'e, 'c, J: Naming> CallAdmission for Entering<'t, 'm, 'e, 'c, J> {

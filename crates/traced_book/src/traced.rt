@@ -5,7 +5,7 @@ ghost use Rattle.partition.specs.Accounts.{before_at, events_at, new_account, Is
 ghost use Rattle.partition.specs.Events.{event};
 ghost use Rattle.partition.specs.Journals.{IsLate};
 ghost use Rattle.history.specs.Entries.{limits_of, StandsInHistory};
-ghost use Rattle.history.specs.Legal.{IsLegal};
+ghost use Rattle.history.specs.Legal.{IsLegal, MayServe};
 ghost use Rattle.history.specs.Rules.{is_opening};
 ghost use Rattle.traced_book.specs.Traced.{AreTraced, IsStretch};
 
@@ -88,8 +88,8 @@ impl<J: Naming> TracedBook<J> {
     }
 
     /// Has a tenant's cell serve a call, enters its event, and enters the call into the history. Writes the reply
-    /// into the caller's buffer, and answers the event's place in the tenant's journal. The evidence has seen then that the call
-    /// was served.
+    /// into the caller's buffer, and answers the event's place in the tenant's journal. The evidence shows that the call may be
+    /// served, and has seen then that it was.
     ///
     /// It fails where the number is not above the seat's last one in this epoch (25), where an allocation failed (30), and where the
     /// history has other calls of the partition than were seen here (10). Then nothing has changed.
@@ -102,6 +102,7 @@ impl<J: Naming> TracedBook<J> {
         evidence: &mut Front<J>,
     ) -> Result<u64, Refusal>
         requires tenant { tenant < length self.old.accounts }
+        requires may { ∥ MayServe evidence.old self.old.partition tenant call.now ∥₁ }
 
         ensures entered { IfOk result
             (λ _.

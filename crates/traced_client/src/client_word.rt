@@ -1,7 +1,6 @@
 //! A client's word beside what the client has seen of the history.
 ghost use Rattle.std.specs.Prelude.{◌≡◌, ◌<◌, [], ◌∷◌, cond, IsTrue};
 ghost use mathlib.Core.List.{IsPrefix};
-ghost use Rattle.stamps.specs.Stamp.{client_of};
 ghost use Rattle.plain_store.specs.Words.{◌∈◌};
 ghost use Rattle.history.specs.declared.entry.HistoryEntry.TheVariants.{Joined, Arrived, Began, Decided};
 ghost use Rattle.history.specs.Entries.{own};
@@ -19,8 +18,8 @@ const MOST: u64 = 1 << 62;
 /// first), and what was seen of the history: it has each write of the client, none above that stamp.
 #[derive(Drop)]
 pub struct TracedClient<J: Naming> {
-    tenant: u32,
-    client: Client,
+    pub(crate) tenant: u32,
+    pub(crate) client: Client,
     last: Stamp,
     tally: Tally<J>,
     entries: u64,
@@ -66,11 +65,17 @@ impl<J: Naming> TracedClient<J> {
         self.front.again()
     }
 
-    /// Enters that a write of the client began under this stamp, and says whether it did. It did not where the client has other
-    /// entries than were seen here, or 2^62. Then nothing has changed.
+    /// Whether it is this client of this tenant.
+    pub fn is_of(&self, tenant: u32, client: Client) -> bool
+        ensures { IsTrue result → (self.now.tenant ≡ tenant) × (self.now.client ≡ client) }
+    {
+        self.tenant == tenant && self.client == client
+    }
+
+    /// Enters that a write of the client began under this stamp, and says whether it did. It did not where the stamp is another
+    /// client's, or not above that of the client's last write, and where the client has other entries than were seen here, or 2^62.
+    /// Then nothing has changed.
     pub fn begin(&mut self, stamp: Stamp, items: &[Item]) -> bool
-        requires client { client_of stamp ≡ self.old.client }
-        requires above { self.old.last < stamp }
         ensures began { IsTrue result
             → Began
             (record { word = self.old.word; tenant = self.old.tenant; stamp = stamp; items = items.now }) ∈ self.new.seen }
@@ -78,6 +83,9 @@ impl<J: Naming> TracedClient<J> {
         ensures later { IsPrefix self.old.seen self.new.seen }
         ensures whose { IsSameClient self.old self.new }
     {
+        if stamp.client() != self.client.get() || stamp.number() <= self.last.number() {
+            return false;
+        }
         if self.entries >= MOST {
             return false;
         }

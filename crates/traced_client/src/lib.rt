@@ -2,5 +2,7 @@
 #![tactic(auto)]
 
 mod client_word;
+mod client_words;
 
 pub use client_word::TracedClient;
+pub use client_words::ClientWords;

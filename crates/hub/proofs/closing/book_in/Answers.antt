@@ -8,5 +8,5 @@ returns-in-Some-clause-stretches g c =
     let told = c.in-Some.ensures in
     stretches_of c.in-Some.its c.learn.new.self c.args.shard.config.partition c.in-Some.book told.legal c.learn.ensures.that told.traced
 
-pub returns-in-None-clause-later : goal.returns-in-None-clause-later
-returns-in-None-clause-later g c = prefix_of_itself c.args.seen.now
+pub returns-in-None-clause-seen : goal.returns-in-None-clause-seen
+returns-in-None-clause-seen g c = record { later = prefix_of_itself c.args.seen.now; legal = λ legal. legal }

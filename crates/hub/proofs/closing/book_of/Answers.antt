@@ -17,5 +17,5 @@ returns-in-Some-clause-stretches g c =
     let P : Shard g.row.G.Denot g.G.Naming → Type 0 = λ d. IfSome c.book_in.result (λ book. AreStretches c.book_in.new.seen d.config.partition book) in
     subst P c.in-Some.ensures c.book_in.ensures.stretches
 
-pub returns-in-None-clause-later : goal.returns-in-None-clause-later
-returns-in-None-clause-later g c = prefix_of_itself c.args.seen.now
+pub returns-in-None-clause-seen : goal.returns-in-None-clause-seen
+returns-in-None-clause-seen g c = record { later = prefix_of_itself c.args.seen.now; legal = λ legal. legal }

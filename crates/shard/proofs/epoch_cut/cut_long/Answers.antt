@@ -1,4 +1,4 @@
-use Rattle.std.proofs.Common.{ℕ, List, ap, length, arith, subst, sym, ◌∙◌}
+use Rattle.std.proofs.Common.{ℕ, List, ap, length, arith, refl, subst, sym, ◌∙◌}
 use Rattle.history.specs.declared.entry.HistoryEntry.{HistoryEntry}
 use Rattle.traced_book.specs.Traced.{IsStretch, Tracing}
 use Rattle.partition.specs.Accounts.{Account, events_at}
@@ -7,11 +7,16 @@ use Rattle.shard.proofs.Journals.{cut-or-not, epoch-of, stays_as}
 use Rattle.shard.proofs.epoch_cut.cut_long.Goals as goal
 
 -- what is cut is the journal whose length was read
-pub returns-in-Ok-clause-long : goal.returns-in-Ok-clause-long
-returns-in-Ok-clause-long g c =
+pub returns-in-Ok-clause-cut : goal.returns-in-Ok-clause-cut
+returns-in-Ok-clause-cut g c =
     let events = cut_events _ _ _ _ c.requires c.in-Ok.ensures.cut in
     let counted = ap (λ (accounts : List Account). length (events_at accounts c.args.tenant)) c.book.ensures in
-    omega (arith, ap length events, c.events.ensures, counted)
+    record {
+      cut = c.in-Ok.ensures.cut;
+      partition = refl;
+      tenant = refl;
+      long = omega (arith, ap length events, c.events.ensures, counted);
+    }
 
 pub invariant_of-state : goal.invariant_of-state
 invariant_of-state g c =

@@ -11,7 +11,7 @@ pub returns-in-Ask-clause-takes : goal.returns-in-Ask-clause-takes
 returns-in-Ask-clause-takes c = λ setup keys taken parts s is.
     let after = c.offer.new.finder.reader in
     read_asks setup keys taken c.args.message.now is c.args.finder.now.reader c.args.waiting.now s after c.args.parts c.await_late.new.waiting (late_by after.slots) parts
-    (c.in-Ask.ensures.takes setup keys taken s.stands is) c.await_late.ensures.calls
+    (c.in-Ask.ensures.takes setup keys taken s.stands is) c.await_late.ensures.awaits.calls
 
 pub returns-in-Ignored-clause-takes : goal.returns-in-Ignored-clause-takes
 returns-in-Ignored-clause-takes c = λ setup keys taken parts s is.

@@ -11,12 +11,12 @@ pub returns-in-Begin-clause-takes : goal.returns-in-Begin-clause-takes
 returns-in-Begin-clause-takes c = λ setup tag taken parts s is.
     find_begins setup tag taken c.args.message.now is c.args.finder.now c.args.waiting.now s c.offer.new.finder c.args.parts c.read.new.self c.in-Begin.keys c.as_slice.result.now parts
     (c.in-Begin.ensures.takes setup tag taken s.stands is) c.in-Begin.ensures.few
-    (λ few. c.as_slice.ensures.value) c.read.ensures.calls
+    (λ few. c.as_slice.ensures.value) c.read.ensures.awaits.calls
 
 pub returns-in-Ask-clause-takes : goal.returns-in-Ask-clause-takes
 returns-in-Ask-clause-takes c = λ setup tag taken parts s is.
     find_asks setup tag taken c.args.message.now is c.args.finder.now c.args.waiting.now s c.offer.new.finder c.args.parts c.read_late.new.self c.in-Ask.late parts
-    (c.in-Ask.ensures.takes setup tag taken s.stands is) c.read_late.ensures.calls
+    (c.in-Ask.ensures.takes setup tag taken s.stands is) c.read_late.ensures.awaits.calls
 
 pub returns-in-List-clause-takes : goal.returns-in-List-clause-takes
 returns-in-List-clause-takes c = λ setup tag taken parts s is.

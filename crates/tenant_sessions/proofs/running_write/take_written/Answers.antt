@@ -12,7 +12,7 @@ returns-in-Wait-clause-takes c = λ setup items taken readings parts s is.
 pub returns-in-Decide-clause-takes : goal.returns-in-Decide-clause-takes
 returns-in-Decide-clause-takes c = λ setup items taken readings parts s is.
     write_decides setup c.args.stamp items taken c.args.message.now is c.args.writer.now c.args.waiting.now s c.offer.new.writer c.await_commits.new.waiting c.partitions.result
-    (c.in-Decide.ensures.takes setup c.args.stamp items taken s.stands is) (λ replies stands. c.partitions.ensures.written setup c.args.stamp items replies stands) c.await_commits.ensures.calls
+    (c.in-Decide.ensures.takes setup c.args.stamp items taken s.stands is) (λ replies stands. c.partitions.ensures.written setup c.args.stamp items replies stands) c.await_commits.ensures.awaits.calls
 
 pub returns-in-Done-clause-takes : goal.returns-in-Done-clause-takes
 returns-in-Done-clause-takes c = λ setup items taken readings parts s is.
@@ -31,20 +31,20 @@ returns-in-Ignored-clause-takes c = λ setup items taken readings parts s is.
 
 pub returns-in-Wait-clause-shown : goal.returns-in-Wait-clause-shown
 returns-in-Wait-clause-shown c = λ setup items taken readings s.
-    shows_written setup c.args.stamp items taken c.args.message.now wrote.Wait _ c.offer.new.writer (λ no. cc) (λ P told. tt) (c.in-Wait.ensures.shown setup c.args.stamp items taken s)
+    shows_written setup c.args.stamp items taken c.args.message.now wrote.Wait _ c.offer.new.writer (λ no. cc) (λ P told. tt) (λ P decided. tt) (c.in-Wait.ensures.shown setup c.args.stamp items taken s)
 
 pub returns-in-Decide-clause-shown : goal.returns-in-Decide-clause-shown
 returns-in-Decide-clause-shown c = λ setup items taken readings s.
-    shows_written setup c.args.stamp items taken c.args.message.now wrote.Decide _ c.offer.new.writer (λ no. cc) (λ P told. refl) (c.in-Decide.ensures.shown setup c.args.stamp items taken s)
+    shows_written setup c.args.stamp items taken c.args.message.now wrote.Decide _ c.offer.new.writer (λ no. cc) (λ P told. refl) (λ P decided. decided) (c.in-Decide.ensures.shown setup c.args.stamp items taken s)
 
 pub returns-in-Done-clause-shown : goal.returns-in-Done-clause-shown
 returns-in-Done-clause-shown c = λ setup items taken readings s.
-    shows_written setup c.args.stamp items taken c.args.message.now (wrote.Done _) _ c.offer.new.writer (λ no. cc) (λ P told. (refl, told)) (c.in-Done.ensures.shown setup c.args.stamp items taken s)
+    shows_written setup c.args.stamp items taken c.args.message.now (wrote.Done _) _ c.offer.new.writer (λ no. cc) (λ P told. (refl, told)) (λ P decided. tt) (c.in-Done.ensures.shown setup c.args.stamp items taken s)
 
 pub returns-in-Refused-clause-shown : goal.returns-in-Refused-clause-shown
 returns-in-Refused-clause-shown c = λ setup items taken readings s.
-    shows_written setup c.args.stamp items taken c.args.message.now (wrote.Refused c.in-Refused.refusal) _ c.offer.new.writer (λ no. cc) (λ P told. tt) (c.in-Refused.ensures.shown setup c.args.stamp items taken s)
+    shows_written setup c.args.stamp items taken c.args.message.now (wrote.Refused c.in-Refused.refusal) _ c.offer.new.writer (λ no. cc) (λ P told. tt) (λ P decided. tt) (c.in-Refused.ensures.shown setup c.args.stamp items taken s)
 
 pub returns-in-Ignored-clause-shown : goal.returns-in-Ignored-clause-shown
 returns-in-Ignored-clause-shown c = λ setup items taken readings s.
-    shows_written setup c.args.stamp items taken c.args.message.now wrote.Ignored _ c.offer.new.writer (λ no. refl) (λ P told. tt) (c.in-Ignored.ensures.shown setup c.args.stamp items taken s)
+    shows_written setup c.args.stamp items taken c.args.message.now wrote.Ignored _ c.offer.new.writer (λ no. refl) (λ P told. tt) (λ P decided. tt) (c.in-Ignored.ensures.shown setup c.args.stamp items taken s)

@@ -1,4 +1,14 @@
-use Rattle.std.proofs.Common.{◌≡◌, Some, refl, sym, ap, arith, subst}
+use Rattle.std.proofs.Common.{◌≡◌, ◌∙◌, ℕ, List, Some, refl, sym, ap, arith, subst}
+use Rattle.std.proofs.Math.Logic.{∥∥₁_map, ∥∥₁_map₂}
+use Rattle.plain_store.specs.History.{Intent as Asked}
+use Rattle.history.specs.declared.entry.HistoryEntry.{HistoryEntry}
+use Rattle.history.proofs.Lists.{prefix_join}
+use Rattle.shard.specs.declared.seat_name.SeatName.{SeatName}
+use Rattle.tenant_sessions.specs.Moves.{moved}
+use Rattle.hub.specs.Evidence.{IsUnderWay, MayBeDecided}
+use Rattle.hub.specs.Seats.{told_by}
+use Rattle.entry_list.specs.declared.kinds.Entry.TheVariants.{Took}
+use Rattle.hub.proofs.Evidence.{under_way_decided, under_way_on}
 use Rattle.plain_store.specs.declared.message.Message.{Message}
 use Rattle.tenant_sessions.specs.CallsLeft.{calls_left}
 use Rattle.tenant_sessions.specs.Showing.{IsTakenFor}
@@ -6,9 +16,9 @@ use Rattle.hub.proofs.Rooms.{room_stays}
 use Rattle.tenant_sessions.specs.declared.session.ClientSession.{ClientSession}
 use Rattle.hub.proofs.Entries.{follows-took, told-same, follows-told, follows-same}
 use Rattle.hub.proofs.Taking.{replies-more}
-use Rattle.hub.proofs.Given.{came-taken, served-same, served-took, sights}
+use Rattle.hub.proofs.Given.{came-taken, prefix_is, served-same, served-took, sights}
 use Rattle.hub.specs.Sights.{sight_of}
-use Rattle.hub.specs.Replies.{IsUnder, IsOf}
+use Rattle.hub.specs.Replies.{IsUnder, IsOf, IsStampOf}
 use Rattle.hub.proofs.Replies.{reads-served, under-asked}
 use Rattle.hub.proofs.operation.RunningOperation.enter_served.Goals as goal
 
@@ -30,6 +40,38 @@ returns-clause-read g c name setup asked start stamped is its own pre reads =
     let served = reads-served name setup asked start c.args.self.now.entries.items c.push_took.new.self.entries.items c.args.self.now.session c.push_took.new.self.session c.move_into.new.self c.args.self.now.place c.push_took.new.self.place c.args.answer.now _ _ _ _ _ _
     c.push_took.ensures.took c.push_took.ensures.session c.push_took.ensures.place enters c.move_into.ensures.shown reads in
     c.follow.ensures.read name setup asked start served.0 served.1
+
+-- what was under way is, with what is seen now
+pub returns-clause-under_way : goal.returns-clause-under_way
+returns-clause-under_way g c =
+    let before = c.args.self.now in
+    let seen = prefix_join _ _ _ (prefix_is _ _ (sym c.push_took.ensures.seen)) c.follow.ensures.seen in
+    let now = sight_of before.name c.follow.new.self.seen in
+    ∥∥₁_map c.requires.under_way
+    (under_way_on (sight_of before.name before.seen) now c.args.own _ _ _ _ _ _ (record { tenant = refl; seat = refl; seen = seen })
+    (λ setup asked start stamped reads.
+    returns-clause-read g c now setup asked start stamped c.requires.served c.requires.own.0 c.requires.own.1 (prefix_join _ _ _ c.requires.front seen) reads))
+
+-- where the move is that the put is decided, it may be
+pub follow-requires-clause-decided : goal.follow-requires-clause-decided
+follow-requires-clause-decided g c stamp is =
+    let before = c.args.self.now in
+    let reply = c.args.reply.now in
+    let kept = c.push_took.new.self in
+    let sight = sight_of before.name before.seen in
+    let has : reply.message.value.reply ≡ Some c.in-Some.told = cc in
+    let under : IsUnder c.args.own c.deref-message.result.now.call = c.is_under.ensures.0 c.if-not-is_under.false in
+    let under_own : IsUnder c.args.own reply.message.value.call = subst (λ (m : Message). IsUnder c.args.own m.call) c.deref-message.ensures under in
+    let enters = λ (asked : Asked) (stamped : IsStampOf c.args.own asked) (m : Message) (same : IsTakenFor c.deref-message.result.now m).
+    came-taken sight reply.front asked reply.partition reply.tenant reply.seat reply.number c.args.place reply.message.value m reply.outcome _ c.requires.front c.requires.served has c.requires.own.0 c.requires.own.1 reply.came
+    (under-asked c.args.own asked _ stamped under_own) (subst (λ (from : Message). IsTakenFor from m) c.deref-message.ensures same) in
+    let Q : ClientSession → Type 0 = λ s. IsUnderWay sight c.args.own before.entries.items s.running (told_by before.place c.args.answer.now) in
+    let P : ℕ → Type 0 = λ t. MayBeDecided before.seen t stamp in
+    let R : List HistoryEntry → Type 0 = λ l. MayBeDecided l kept.name.tenant stamp in
+    ∥∥₁_map₂ c.requires.under_way before.legal (λ u legal.
+    subst R (sym c.push_took.ensures.seen) (subst P (sym (ap (λ (n : SeatName). n.tenant) c.push_took.ensures.name))
+    (under_way_decided sight c.args.own before.entries.items kept.session.running _ _ c.deref-message.result.now _ (Took reply.number reply.partition c.args.place c.in-Some.told) stamp legal enters c.move_into.ensures.shown (ap (λ k. moved k c.move_into.new.readings) is)
+    (subst Q (sym c.push_took.ensures.session) u))))
 
 pub returns-clause-served : goal.returns-clause-served
 returns-clause-served g c first last start is its own pre behind up_to are =
@@ -61,4 +103,4 @@ returns-clause-replies g c =
 
 -- the calls that the move asks for are sent after those before
 pub returns-clause-sent : goal.returns-clause-sent
-returns-clause-sent g c = omega (arith, ap (λ q. q.sent) c.push_took.ensures.queues, c.follow.ensures.sent)
+returns-clause-sent g c = omega (arith, ap (λ q. q.sent) c.push_took.ensures.queues, c.follow.ensures.counted)

@@ -1,8 +1,13 @@
 use Rattle.std.proofs.Common.{ap, refl, sym, subst, arith}
+use Rattle.std.proofs.Math.Logic.{∥∥₁_map}
 use Rattle.tenant_sessions.specs.CallsLeft.{calls_left}
 use Rattle.tenant_sessions.specs.declared.session.ClientSession.{ClientSession}
 use Rattle.hub.specs.Rooms.{HasRoom}
 use Rattle.hub.specs.declared.operation.RunningOperation.{RunningOperation}
+use Rattle.hub.specs.Evidence.{IsUnderWay}
+use Rattle.hub.specs.Seats.{told_by}
+use Rattle.hub.specs.Sights.{sight_of}
+use Rattle.hub.proofs.Evidence.{under_way_same}
 use Rattle.hub.proofs.Given.{IsStagedOn, served-on, sights}
 use Rattle.hub.proofs.operation.RunningOperation.exchange.Goals as goal
 use Rattle.hub.proofs.operation.RunningOperation.exchange.Goals.{then-not-send_calls, else-not-send_calls}
@@ -40,3 +45,13 @@ returns-clause-served g c start are =
     let all : P c.send_calls.new.self = (rest.0, rest.3, omega (arith, c.send_calls.ensures.sent), ap (λ e. e.items) rest.2, rest.7) in
     let begun : P c.if-not-send_calls.self = elim c.if-not-send_calls.branch [ then-not-send_calls w ↦ subst P (sym w.self-is) all | else-not-send_calls w ↦ subst P (sym w.self-is) all ] in
     served-on _ _ _ _ _ _ _ _ _ start _ _ _ (sights _ _ _ _ begun.0 begun.4) (sights _ _ _ _ begun.0 refl) begun.1 begun.2 begun.3 c.take_replies.ensures.served are
+
+-- and what was under way is
+pub take_replies-requires-clause-under_way : goal.take_replies-requires-clause-under_way
+take_replies-requires-clause-under_way g c =
+    let rest = c.send_calls.ensures.rest in
+    let answer = c.args.answer.now in
+    let P : RunningOperation g.row.G.Denot g.G.Naming → Type 0 = λ o. ∥ IsUnderWay (sight_of o.name o.seen) c.args.own o.entries.items o.session.running (told_by o.place answer) ∥₁ in
+    let all : P c.send_calls.new.self =
+    ∥∥₁_map c.requires.under_way (under_way_same _ _ c.args.own _ _ _ _ _ _ (sights _ _ _ _ rest.0 rest.7) (ap (λ e. e.items) rest.2) (ap (λ (s : ClientSession). s.running) rest.1) (ap (λ place. told_by place answer) rest.4)) in
+    elim c.if-not-send_calls.branch [ then-not-send_calls w ↦ subst P (sym w.self-is) all | else-not-send_calls w ↦ subst P (sym w.self-is) all ]

@@ -1,11 +1,16 @@
-use Rattle.std.proofs.Common.{◌≡◌, ◌+◌, ◌∙◌, ap, sym, subst, arith}
+use Rattle.std.proofs.Common.{◌≡◌, ◌≤◌, ◌+◌, ◌∙◌, [], ap, refl, sym, subst, arith}
+use mathlib.Core.List.{IsPrefix}
+use Rattle.history.proofs.Lists.{prefix_of_itself}
 use Rattle.tenant_sessions.specs.CallsLeft.{calls_left, calls_sent, calls_waiting}
 use Rattle.tenant_sessions.specs.Moves.{moved}
 use Rattle.hub.specs.Rooms.{HasRoom}
+use Rattle.hub.specs.Replies.{AreServed}
+use Rattle.hub.specs.Sights.{sight_of}
 use Rattle.hub.specs.declared.operation.RunningOperation.{RunningOperation}
+use Rattle.hub.proofs.Given.{prefix_is, served-later, served-same}
 use Rattle.hub.proofs.Rooms.{room_for_fewer, room_at_end, room_going_on, sent_at_end, sent_on, none_sent}
 use Rattle.hub.proofs.operation.RunningOperation.follow.Goals as goal
-use Rattle.hub.proofs.operation.RunningOperation.follow.Goals.{else-sends-via-then-sends+else-not-send_calls, else-sends-via-else-sends}
+use Rattle.hub.proofs.operation.RunningOperation.follow.Goals.{else-sends-via-then-sends+else-not-send_asked, else-sends-via-else-sends}
 
 -- the calls of the end took theirs, and there is room for those that may still be asked for
 pub returns-then-not-send_ending-clause-calls : goal.returns-then-not-send_ending-clause-calls
@@ -25,11 +30,11 @@ returns-else-not-send_ending-clause-calls g c =
     (ap (λ r. moved c.args.taken.now r.value) c.enter_end.ensures.readings) c.requires.calls)
 
 -- so did those that it waits for
-pub returns-then-not-send_calls-clause-calls : goal.returns-then-not-send_calls-clause-calls
-returns-then-not-send_calls-clause-calls g c =
+pub returns-then-not-send_asked-clause-calls : goal.returns-then-not-send_asked-clause-calls
+returns-then-not-send_asked-clause-calls g c =
     let before = c.args.self.now in
     let sends = sym (c.sends.ensures before.readings.value) ∙ c.if-sends.true in
-    c.send_calls.ensures.room _ (room_going_on before.queues (moved c.args.taken.now before.readings.value) _ _ sends c.requires.calls)
+    c.send_asked.ensures.room _ (room_going_on before.queues (moved c.args.taken.now before.readings.value) _ _ sends c.requires.calls)
 
 pub returns-else-sends-clause-calls : goal.returns-else-sends-clause-calls
 returns-else-sends-clause-calls g c =
@@ -37,47 +42,89 @@ returns-else-sends-clause-calls g c =
     let left = calls_left before.session.running in
     let P : RunningOperation g.row.G.Denot g.G.Naming → Type 0 = λ o. HasRoom left o.queues in
     elim c.else-sends.branch [
-      | else-sends-via-then-sends+else-not-send_calls w ↦
+      | else-sends-via-then-sends+else-not-send_asked w ↦
           let sends = sym (c.sends.ensures before.readings.value) ∙ w.if-sends.true in
-          subst P (sym w.self-is) (w.send_calls.ensures.room left (room_going_on before.queues (moved c.args.taken.now before.readings.value) _ _ sends c.requires.calls))
+          subst P (sym w.self-is) (w.send_asked.ensures.room left (room_going_on before.queues (moved c.args.taken.now before.readings.value) _ _ sends c.requires.calls))
       | else-sends-via-else-sends w ↦ subst P (sym w.self-is) (room_for_fewer left _ before.queues (omega arith) c.requires.calls)
     ]
 
+-- what is asked for is sent
+pub send_asked-requires-clause-sends : goal.send_asked-requires-clause-sends
+send_asked-requires-clause-sends g c = sym (c.sends.ensures c.args.self.now.readings.value) ∙ c.if-sends.true
+
 -- so many were staged
-pub returns-then-not-send_ending-clause-sent : goal.returns-then-not-send_ending-clause-sent
-returns-then-not-send_ending-clause-sent g c =
-    let before = c.args.self.now in
-    let told = before.readings.value in
-    let last = sym (c.is_last.ensures told) ∙ c.if-is_last.true in
-    omega (arith, c.send_ending.ensures.sent told, ap (λ q. q.sent) c.enter_end.ensures.queues, sent_at_end (moved c.args.taken.now told) (calls_waiting before.session.running) last)
-
 pub returns-else-not-send_ending-clause-sent : goal.returns-else-not-send_ending-clause-sent
-returns-else-not-send_ending-clause-sent g c =
+returns-else-not-send_ending-clause-sent g c none =
     let before = c.args.self.now in
     let told = before.readings.value in
     let last = sym (c.is_last.ensures told) ∙ c.if-is_last.true in
     omega (arith, c.send_ending.ensures.sent told, ap (λ q. q.sent) c.enter_end.ensures.queues, sent_at_end (moved c.args.taken.now told) (calls_waiting before.session.running) last)
-
-pub returns-then-not-send_calls-clause-sent : goal.returns-then-not-send_calls-clause-sent
-returns-then-not-send_calls-clause-sent g c =
-    let before = c.args.self.now in
-    let told = before.readings.value in
-    let sends = sym (c.sends.ensures told) ∙ c.if-sends.true in
-    omega (arith, c.send_calls.ensures.sent, sent_on (moved c.args.taken.now told) (calls_waiting before.session.running) sends)
 
 pub returns-else-sends-clause-sent : goal.returns-else-sends-clause-sent
-returns-else-sends-clause-sent g c =
+returns-else-sends-clause-sent g c none =
     let before = c.args.self.now in
     let told = before.readings.value in
     let move = moved c.args.taken.now told in
     let waiting = calls_waiting before.session.running in
     let P : RunningOperation g.row.G.Denot g.G.Naming → Type 0 = λ o. o.queues.sent ≡ before.queues.sent + calls_sent move waiting in
     elim c.else-sends.branch [
-      | else-sends-via-then-sends+else-not-send_calls w ↦
+      | else-sends-via-then-sends+else-not-send_asked w ↦
           let sends = sym (c.sends.ensures told) ∙ w.if-sends.true in
-          subst P (sym w.self-is) (omega (arith, w.send_calls.ensures.sent, sent_on move waiting sends))
+          subst P (sym w.self-is) (omega (arith, w.send_asked.ensures.sent w.if-not-send_asked.false, sent_on move waiting sends))
       | else-sends-via-else-sends w ↦
           let last = sym (c.is_last.ensures told) ∙ c.if-is_last.false in
           let sends = sym (c.sends.ensures told) ∙ w.if-sends.false in
           subst P (sym w.self-is) (omega (arith, none_sent move waiting last sends))
+    ]
+
+pub returns-then-not-send_ending-clause-counted : goal.returns-then-not-send_ending-clause-counted
+returns-then-not-send_ending-clause-counted g c = omega (arith, c.send_ending.ensures.sent [], ap (λ q. q.sent) c.enter_end.ensures.queues)
+
+pub returns-else-not-send_ending-clause-counted : goal.returns-else-not-send_ending-clause-counted
+returns-else-not-send_ending-clause-counted g c = omega (arith, c.send_ending.ensures.sent [], ap (λ q. q.sent) c.enter_end.ensures.queues)
+
+pub returns-else-sends-clause-counted : goal.returns-else-sends-clause-counted
+returns-else-sends-clause-counted g c =
+    let before = c.args.self.now in
+    let P : RunningOperation g.row.G.Denot g.G.Naming → Type 0 = λ o. before.queues.sent ≤ o.queues.sent in
+    elim c.else-sends.branch [
+      | else-sends-via-then-sends+else-not-send_asked w ↦ subst P (sym w.self-is) w.send_asked.ensures.counted
+      | else-sends-via-else-sends w ↦ subst P (sym w.self-is) (omega arith)
+    ]
+
+-- and what is seen goes on
+pub returns-else-sends-clause-seen : goal.returns-else-sends-clause-seen
+returns-else-sends-clause-seen g c =
+    let before = c.args.self.now in
+    let P : RunningOperation g.row.G.Denot g.G.Naming → Type 0 = λ o. IsPrefix before.seen o.seen in
+    elim c.else-sends.branch [
+      | else-sends-via-then-sends+else-not-send_asked w ↦ subst P (sym w.self-is) w.send_asked.ensures.seen
+      | else-sends-via-else-sends w ↦ subst P (sym w.self-is) (prefix_of_itself before.seen)
+    ]
+
+pub returns-then-not-send_ending-clause-seen : goal.returns-then-not-send_ending-clause-seen
+returns-then-not-send_ending-clause-seen g c = prefix_is _ _ (sym (c.send_ending.ensures.rest.7 ∙ c.enter_end.ensures.seen))
+
+pub returns-else-not-send_ending-clause-seen : goal.returns-else-not-send_ending-clause-seen
+returns-else-not-send_ending-clause-seen g c = prefix_is _ _ (sym (c.send_ending.ensures.rest.7 ∙ c.enter_end.ensures.seen))
+
+-- by which each reply so far stands
+pub returns-then-not-send_asked-clause-served : goal.returns-then-not-send_asked-clause-served
+returns-then-not-send_asked-clause-served g c first last start are =
+    let before = c.args.self.now in
+    let now = c.send_asked.new.self in
+    let later = served-later (sight_of before.name before.seen) (sight_of before.name now.seen) first last start before.entries.items (record { tenant = refl; seat = refl; seen = c.send_asked.ensures.seen }) are in
+    served-same (sight_of before.name now.seen) (sight_of before.name now.seen) first first last last start before.entries.items now.entries.items refl refl (omega arith) (ap (λ e. e.items) c.send_asked.ensures.rest.2) later
+
+pub returns-else-sends-clause-served : goal.returns-else-sends-clause-served
+returns-else-sends-clause-served g c first last start are =
+    let before = c.args.self.now in
+    let P : RunningOperation g.row.G.Denot g.G.Naming → Type 0 = λ o. AreServed (sight_of before.name o.seen) first last start o.entries.items in
+    elim c.else-sends.branch [
+      | else-sends-via-then-sends+else-not-send_asked w ↦
+          let now = w.send_asked.new.self in
+          let later = served-later (sight_of before.name before.seen) (sight_of before.name now.seen) first last start before.entries.items (record { tenant = refl; seat = refl; seen = w.send_asked.ensures.seen }) are in
+          subst P (sym w.self-is)
+          (served-same (sight_of before.name now.seen) (sight_of before.name now.seen) first first last last start before.entries.items now.entries.items refl refl (omega arith) (ap (λ e. e.items) w.send_asked.ensures.rest.2) later)
+      | else-sends-via-else-sends w ↦ subst P (sym w.self-is) are
     ]

@@ -1,32 +1,34 @@
-use Rattle.std.proofs.Common.{◌≡◌, ℕ, List, Option, sym, ap, subst, ◌∙◌, ◌+◌, refl, arith}
+use Rattle.std.proofs.Common.{◌≡◌, ℕ, List, Option, None, sym, ap, subst, ◌∙◌, ◌+◌, refl, arith}
 use Rattle.std.specs.Prelude.{IsNone}
 use Rattle.stamps.specs.Stamp.{stamp}
-use Rattle.stamps.specs.StampLaws.{counter_of-stamp}
 use Rattle.plain_store.specs.Words.{Stamp}
 use Rattle.plain_store.specs.History.{Intent}
 use Rattle.hub.specs.Requests.{intent_of}
 use Rattle.tenant_sessions.specs.Held.{drawn_counter}
 use Rattle.history.specs.declared.entry.HistoryEntry.{HistoryEntry}
+use Rattle.history.proofs.Lists.{prefix_join}
+use Rattle.hub.specs.Evidence.{HasBegunIn}
+use Rattle.hub.proofs.Evidence.{begun_of_puts, intent_drawn, stamp_drawn, under_way_begun, under_way_same}
 use Rattle.hub.specs.Replies.{AreServed, IsDrawn}
 use Rattle.hub.specs.Sights.{sight_of}
 use Rattle.plain_store.specs.declared.answer.Answer.TheVariants.{Refused}
 use Rattle.shard.specs.declared.jobs.Fault.{Fault}
 use Rattle.hub.proofs.Entries.{answered-outcome, follows-start, told-none, told-some, follows-told, on_ok}
-use Rattle.hub.proofs.Given.{served-answered}
+use Rattle.hub.proofs.Given.{served-answered, served-later}
 use Rattle.hub.proofs.Refusals.{refused-inside, apart, same_refusal}
 use Rattle.hub.proofs.Replies.{reads-begun, reads-refused, may_begin, stamp-begun}
 use Rattle.hub.proofs.Rooms.{room_for_fewer, makes_room}
 use Rattle.hub.proofs.operation.RunningOperation.perform.Goals as goal
 
-pub returns-in-Ok-clause-answered : goal.returns-in-Ok-clause-answered
-returns-in-Ok-clause-answered g c =
+pub returns-else-not-enter_begun-clause-answered : goal.returns-else-not-enter_begun-clause-answered
+returns-else-not-enter_begun-clause-answered g c =
     let old = c.args.self.now.entries.items in
     let new = c.exchange.new.self.entries.items in
     let begun = c.exchange.ensures.entered old (follows-told old _ _ old (sym (told-none c.args.self.now.place c.args.answer.now c.requires.place)) (follows-start old)) in
     on_ok _ _ (λ none. follows-told old _ _ new (told-some c.exchange.new.self.place c.exchange.new.answer none) begun) c.exchange.result c.exchange.ensures.answered
 
-pub returns-in-Ok-clause-entered : goal.returns-in-Ok-clause-entered
-returns-in-Ok-clause-entered g c =
+pub returns-else-not-enter_begun-clause-entered : goal.returns-else-not-enter_begun-clause-entered
+returns-else-not-enter_begun-clause-entered g c =
     let old = c.args.self.now.entries.items in
     (_, c.exchange.ensures.entered old (follows-told old _ _ old (sym (told-none c.args.self.now.place c.args.answer.now c.requires.place)) (follows-start old)))
 
@@ -40,14 +42,14 @@ pub returns-in-Err-clause-recorded : goal.returns-in-Err-clause-recorded
 returns-in-Err-clause-recorded g c =
     rw c.tell_refusal.ensures (refused-inside c.args.self.now.session c.args.request.now c.in-Err.refusal c.args.self.now.opened c.in-Err.ensures.refused)
 
-pub returns-in-Ok-clause-refused : goal.returns-in-Ok-clause-refused
-returns-in-Ok-clause-refused g c refusal is = apart _ refusal c.in-Ok.ensures.passed is
+pub returns-else-not-enter_begun-clause-refused : goal.returns-else-not-enter_begun-clause-refused
+returns-else-not-enter_begun-clause-refused g c refusal is = apart _ refusal c.in-Ok.ensures.passed is
 
 pub returns-in-Err-clause-refused : goal.returns-in-Err-clause-refused
 returns-in-Err-clause-refused g c refusal is = c.tell_refusal.ensures ∙ ap Refused (same_refusal _ c.in-Err.refusal refusal c.in-Err.ensures.refused is)
 
-pub returns-in-Ok-clause-read : goal.returns-in-Ok-clause-read
-returns-in-Ok-clause-read g c =
+pub returns-else-not-enter_begun-clause-read : goal.returns-else-not-enter_begun-clause-read
+returns-else-not-enter_begun-clause-read g c =
     let before = c.args.self.now.session.counter in
     let client = c.args.self.now.name.client in
     let own : Stamp = stamp (before + 1) client in
@@ -55,24 +57,70 @@ returns-in-Ok-clause-read g c =
     let started = c.start.new.session in
     let asked : Intent = intent_of own c.args.request.now in
     let begun = c.in-Ok.ensures.begun in
-    let stamped = stamp-begun own c.last_stamp.result c.args.request.now asked refl
-    (λ items is.
-    let counted = ap drawn_counter is ∙ counter_of-stamp (before + 1) client c.last_stamp.ensures.client in
-    let next : started.counter ≡ before + 1 = omega (arith, counted, begun.counter) in
-    c.last_stamp.ensures.value (omega (arith, next)) ∙ ap (λ n. stamp n client) next) in
+    let stamped = stamp-begun own c.last_stamp-own.result c.args.request.now asked refl (stamp_drawn before started.counter client c.last_stamp-own.result asked c.last_stamp-own.ensures.client c.last_stamp-own.ensures.value begun.counter) in
     on_ok _ _
-    (reads-begun (sight_of c.args.self.now.name c.args.self.now.seen) (sight_of c.args.self.now.name c.exchange.new.self.seen) c.args.parts own (IsDrawn client before after) c.args.request.now asked c.args.self.now.session started c.exchange.new.self.session c.args.self.now.entries.items c.exchange.new.self.entries.items c.args.self.now.place c.exchange.new.self.place c.args.answer.now c.exchange.new.answer
+    (reads-begun (sight_of c.args.self.now.name c.enter_begun.new.seen) (sight_of c.args.self.now.name c.exchange.new.self.seen) c.args.parts own (IsDrawn client before after) c.args.request.now asked c.args.self.now.session started c.exchange.new.self.session c.args.self.now.entries.items c.exchange.new.self.entries.items c.args.self.now.place c.exchange.new.self.place c.args.answer.now c.exchange.new.answer
     (λ items is.
     let counted = ap drawn_counter is in
     (refl, omega (arith, counted, begun.counter, c.exchange.ensures.counter)))
     refl c.in-Ok.ensures.passed (λ setup same may. begun.shown setup same) (λ setup start reads. c.exchange.ensures.read setup asked start stamped reads) c.requires.place)
     c.exchange.result c.exchange.ensures.answered
 
+-- the calls that it sends first are of the put that was entered, if it is one
+pub exchange-requires-clause-puts : goal.exchange-requires-clause-puts
+exchange-requires-clause-puts g c =
+    let before = c.args.self.now in
+    let client = before.name.client in
+    let own : Stamp = stamp (before.session.counter + 1) client in
+    let told = c.last_stamp-own.result in
+    let seen = c.enter_begun.new.seen in
+    let request = c.args.request.now in
+    let begun = c.in-Ok.ensures.begun in
+    let P : Intent → Type 0 = λ asked. HasBegunIn seen before.name.tenant asked in
+    let same = intent_drawn own told request (stamp_drawn before.session.counter c.start.new.session.counter client told (intent_of own request) c.last_stamp-own.ensures.client c.last_stamp-own.ensures.value begun.counter) in
+    ∣ begun_of_puts seen before.name.tenant c.args.parts (intent_of own request) before.session c.start.new.session begun (subst P same (c.enter_begun.ensures.began c.if-not-enter_begun.false)) ∣₁
+
+-- and it is under way
+pub exchange-requires-clause-under_way : goal.exchange-requires-clause-under_way
+exchange-requires-clause-under_way g c =
+    let before = c.args.self.now in
+    let client = before.name.client in
+    let own : Stamp = stamp (before.session.counter + 1) client in
+    let told = c.last_stamp-own.result in
+    let seen = c.enter_begun.new.seen in
+    let request = c.args.request.now in
+    let asked : Intent = intent_of own request in
+    let begun = c.in-Ok.ensures.begun in
+    let drawn = stamp_drawn before.session.counter c.start.new.session.counter client told asked c.last_stamp-own.ensures.client c.last_stamp-own.ensures.value begun.counter in
+    let P : Intent → Type 0 = λ asked. HasBegunIn seen before.name.tenant asked in
+    let began = subst P (intent_drawn own told request drawn) (c.enter_begun.ensures.began c.if-not-enter_begun.false) in
+    ∣ under_way_same _ _ told _ _ _ _ _ _ refl refl refl (told-none before.place c.args.answer.now c.requires.place)
+    (under_way_begun (sight_of before.name seen) c.args.parts told asked before.session c.start.new.session before.entries.items begun (stamp-begun own told request asked refl drawn)
+    (may_begin before.session request asked own refl c.in-Ok.ensures.passed) began) ∣₁
+
 pub returns-in-Err-clause-read : goal.returns-in-Err-clause-read
 returns-in-Err-clause-read g c = reads-refused (sight_of c.args.self.now.name c.enter_answer.new.self.seen) c.args.parts _ c.args.request.now c.in-Err.refusal _ _ _ c.tell_refusal.ensures
 
-pub returns-in-Ok-clause-served : goal.returns-in-Ok-clause-served
-returns-in-Ok-clause-served g c = c.exchange.ensures.served
+pub returns-else-not-enter_begun-clause-served : goal.returns-else-not-enter_begun-clause-served
+returns-else-not-enter_begun-clause-served g c start are =
+    let before = c.args.self.now in
+    c.exchange.ensures.served start
+    (served-later (sight_of before.name before.seen) (sight_of before.name c.enter_begun.new.seen) before.first _ start before.entries.items (record { tenant = refl; seat = refl; seen = c.enter_begun.ensures.later }) are)
+
+pub returns-else-not-enter_begun-clause-seen : goal.returns-else-not-enter_begun-clause-seen
+returns-else-not-enter_begun-clause-seen g c = prefix_join _ _ _ c.enter_begun.ensures.later c.exchange.ensures.seen
+
+-- where the put is not entered, nothing was sent
+pub returns-then-not-enter_begun-clause-served : goal.returns-then-not-enter_begun-clause-served
+returns-then-not-enter_begun-clause-served g c start are =
+    let before = c.args.self.now in
+    served-later (sight_of before.name before.seen) (sight_of before.name c.enter_begun.new.seen) before.first _ start before.entries.items (record { tenant = refl; seat = refl; seen = c.enter_begun.ensures.later }) are
+
+pub returns-then-not-enter_begun-clause-entered : goal.returns-then-not-enter_begun-clause-entered
+returns-then-not-enter_begun-clause-entered g c = (None, follows-start c.args.self.now.entries.items)
+
+pub returns-then-not-enter_begun-clause-refused : goal.returns-then-not-enter_begun-clause-refused
+returns-then-not-enter_begun-clause-refused g c refusal is = apart _ refusal c.in-Ok.ensures.passed is
 
 pub returns-in-Err-clause-served : goal.returns-in-Err-clause-served
 returns-in-Err-clause-served g c start are =

@@ -2,11 +2,26 @@ use Rattle.std.proofs.Common.{◌+◌, ap, arith, refl, sym, ◌∙◌, Some, No
 use Rattle.std.specs.Prelude.{if◌then◌else◌}
 use Rattle.std.specs.VecDeque.{deque_len}
 use Rattle.shard.specs.Asked.{without_reply}
+use Rattle.std.proofs.Math.Logic.{∥∥₁_map}
+use Rattle.plain_store.specs.Writing.{Outgoing}
+use Rattle.history.specs.Legal.{IsOfPut}
+use Rattle.tenant_sessions.specs.Parts.{outgoing_of}
+use Rattle.tenant_sessions.specs.Sending.{waiting_of}
+use Rattle.hub.proofs.Evidence.{all_got}
 use Rattle.hub.proofs.Behind.{next-same}
 use Rattle.hub.proofs.operation.RunningOperation.stage_call.Goals as goal
 
-pub stage-requires : goal.stage-requires
-stage-requires g c = c.take_box-message.ensures.room 1 c.requires.room.there
+pub stage-requires-clause-places : goal.stage-requires-clause-places
+stage-requires-clause-places g c = c.take_box-message.ensures.room 1 c.requires.room.there
+
+-- it is one of those that the session waits for
+pub stage-requires-clause-put : goal.stage-requires-clause-put
+stage-requires-clause-put g c =
+    let self = c.args.self.now in
+    let place = c.call_over-is_made.new.place in
+    let told = ap (λ b. if b then Some (outgoing_of place) else None) c.if-prove.false in
+    let P : Outgoing → Type 0 = λ out. IsOfPut self.seen self.name.tenant out.call in
+    ∥∥₁_map c.requires.puts (λ all. all_got P (waiting_of self.session.running) c.args.nth (outgoing_of place) all (sym c.call_over-is_made.ensures.there ∙ told))
 
 pub returns-clause-room : goal.returns-clause-room
 returns-clause-room g c calls room = record {

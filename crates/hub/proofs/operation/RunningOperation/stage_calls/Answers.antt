@@ -1,8 +1,12 @@
-use Rattle.std.proofs.Common.{◌≤◌, ◌+◌, ◌∙◌, length, map, slice_get, ap, refl, arith}
+use Rattle.std.proofs.Common.{◌≤◌, ◌+◌, ◌∙◌, List, length, map, slice_get, ap, refl, subst, sym, arith}
 use Rattle.std.proofs.lemmas.List.{length-map}
 use Rattle.plain_store.specs.Run.{call_message}
 use Rattle.tenant_sessions.specs.Running.{waiting_calls}
 use Rattle.tenant_sessions.specs.declared.session.ClientSession.{ClientSession}
+use Rattle.history.specs.declared.entry.HistoryEntry.{HistoryEntry}
+use Rattle.shard.specs.declared.seat_name.SeatName.{SeatName}
+use Rattle.tenant_sessions.specs.Sending.{waiting_of}
+use Rattle.hub.specs.Evidence.{AreOfPuts}
 use Rattle.hub.proofs.Behind.{behind-start, behind-more, behind-all, next-same}
 use Rattle.hub.proofs.Rooms.{room_for_fewer, open_retry}
 use Rattle.hub.proofs.operation.RunningOperation.stage_calls.Goals as goal
@@ -14,7 +18,18 @@ unwrap-count-requires g c = open_retry c.args.self.now.session c.args.self.now.o
 pub stage_call-requires-clause-room : goal.stage_call-requires-clause-room
 stage_call-requires-clause-room g c =
     let count = rw c.unwrap-count.ensures at c.pending_calls.ensures.waiting in
-    c.loop-nth.invariant.room 1 (room_for_fewer (c.loop-nth.nth + 1) _ c.args.self.now.queues (omega (arith, c.loop-nth-test.true, count)) c.requires)
+    c.loop-nth.invariant.room 1 (room_for_fewer (c.loop-nth.nth + 1) _ c.args.self.now.queues (omega (arith, c.loop-nth-test.true, count)) c.requires.room)
+
+-- what it waits for is what it waited for
+pub stage_call-requires-clause-puts : goal.stage_call-requires-clause-puts
+stage_call-requires-clause-puts g c =
+    let so_far = c.loop-nth.invariant in
+    let before = c.args.self.now in
+    let now = c.loop-nth.self in
+    let P : ClientSession → Type 0 = λ s. ∥ AreOfPuts before.seen before.name.tenant (waiting_of s.running) ∥₁ in
+    let Q : SeatName → Type 0 = λ n. ∥ AreOfPuts before.seen n.tenant (waiting_of now.session.running) ∥₁ in
+    let R : List HistoryEntry → Type 0 = λ l. ∥ AreOfPuts l now.name.tenant (waiting_of now.session.running) ∥₁ in
+    subst R (sym so_far.seen) (subst Q (sym so_far.name) (subst P (sym so_far.session) c.requires.puts))
 
 pub loop-nth-preserved : goal.loop-nth-preserved
 loop-nth-preserved g c =

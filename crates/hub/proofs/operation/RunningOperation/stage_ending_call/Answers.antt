@@ -1,11 +1,19 @@
 use Rattle.std.proofs.Common.{◌+◌, ap, arith, refl, sym, ◌∙◌, Some, None}
 use Rattle.std.specs.Prelude.{if◌then◌else◌}
 use Rattle.std.specs.VecDeque.{deque_len}
+use Rattle.hub.proofs.Evidence.{discard_put}
 use Rattle.hub.proofs.Behind.{next-same}
 use Rattle.hub.proofs.operation.RunningOperation.stage_ending_call.Goals as goal
 
-pub stage-requires : goal.stage-requires
-stage-requires g c = c.take_box-message.ensures.room 1 c.requires.room.there
+pub stage-requires-clause-places : goal.stage-requires-clause-places
+stage-requires-clause-places g c = c.take_box-message.ensures.room 1 c.requires.room.there
+
+-- it is a DISCARD
+pub stage-requires-clause-put : goal.stage-requires-clause-put
+stage-requires-clause-put g c =
+    let self = c.args.self.now in
+    let place = c.ending_into-is_made.new.place in
+    ∣ discard_put self.seen self.name.tenant place.call (c.ending_into-is_made.ensures.discard c.if-prove.false) ∣₁
 
 pub returns-clause-room : goal.returns-clause-room
 returns-clause-room g c calls room = record {

@@ -1,12 +1,21 @@
 use Rattle.std.proofs.Common.{◌<◌, ◌≤◌, ◌+◌, refl, sym, ap, is_some, ◌∙◌, arith}
+use Rattle.std.proofs.Math.Logic.{∥∥₁_map}
 use Rattle.history.proofs.Lists.{prefix_join}
 use Rattle.hub.specs.Sights.{sight_of}
-use Rattle.hub.proofs.Given.{IsLaterSight, prefix_is, served-later, served-same, sights}
+use Rattle.hub.proofs.Evidence.{under_way_later, under_way_same}
+use Rattle.hub.proofs.Given.{IsLaterSight, served-later, served-same, sights}
 use Rattle.hub.proofs.Replies.{reads-later}
 use Rattle.hub.proofs.operation.RunningOperation.take_replies.Goals as goal
 
 pub enter_reply-requires-clause-calls : goal.enter_reply-requires-clause-calls
 enter_reply-requires-clause-calls g c = c.next_reply.ensures.room _ c.loop-taken.invariant.calls
+
+-- what is under way goes on with what is seen
+pub enter_reply-requires-clause-under_way : goal.enter_reply-requires-clause-under_way
+enter_reply-requires-clause-under_way g c =
+    let before = c.loop-taken.self in
+    ∥∥₁_map c.loop-taken.invariant.under_way
+    (under_way_later (sight_of before.name before.seen) (sight_of before.name c.learn.new.self) c.args.own _ _ _ (record { tenant = refl; seat = refl; seen = c.learn.ensures.this }))
 
 -- the reply was sent to this seat
 pub loop-taken-preserved : goal.loop-taken-preserved
@@ -21,7 +30,7 @@ loop-taken-preserved g c =
     let at = sight_of name before.seen in
     let learned = sight_of name c.learn.new.self in
     let more : IsLaterSight at learned = record { tenant = refl; seat = refl; seen = c.learn.ensures.this } in
-    let ends : IsLaterSight learned (sight_of name after.seen) = record { tenant = refl; seat = refl; seen = prefix_is _ _ (sym entered.seen) } in
+    let ends : IsLaterSight learned (sight_of name after.seen) = record { tenant = refl; seat = refl; seen = entered.seen } in
     let first = c.args.self.now.first in
     let later : before.queues.sent ≤ c.keep.new.self.sent = omega (arith, c.next_reply.ensures.sent, entered.sent, c.keep.ensures.sent) in
     let last = first + c.keep.new.self.sent in
@@ -34,6 +43,7 @@ loop-taken-preserved g c =
           (is.0 ∙ was.0, is.1 ∙ was.1);
       few = (omega arith, omega (arith, entered.replies, so_far.few.1));
       ends = λ ended. entered.ends (so_far.ends ended);
+      under_way = ∥∥₁_map entered.under_way (under_way_same _ _ c.args.own _ _ _ _ _ _ (sights _ _ _ _ entered.name refl) refl refl refl);
       entered = λ start follows. entered.entered start (so_far.entered start follows);
       read = λ setup asked start stamped reads.
           reads-later learned (sight_of name after.seen) setup asked start _ _ _ ends
@@ -47,7 +57,7 @@ loop-taken-preserved g c =
           (served-same learned (sight_of before.name c.learn.new.self) first first (first + before.queues.sent) last start before.entries.items before.entries.items (sights _ _ _ _ so_far.name refl) refl (omega (arith, later)) refl
           (served-later at learned first (first + before.queues.sent) start before.entries.items more (so_far.served start are))));
       counter = omega (arith, entered.counter, so_far.counter);
-      seen = prefix_join _ _ _ so_far.seen (prefix_join _ _ _ c.learn.ensures.this (prefix_is _ _ (sym entered.seen)));
+      seen = prefix_join _ _ _ so_far.seen (prefix_join _ _ _ c.learn.ensures.this entered.seen);
       name = entered.name ∙ so_far.name;
       first = entered.first ∙ so_far.first;
     }

@@ -5,6 +5,7 @@ use Rattle.plain_store.specs.History.{Intent as Asked}
 use Rattle.plain_store.specs.Words.{Setup}
 use Rattle.hub.specs.Replies.{AreServed, IsStampOf, Reads}
 use Rattle.tenant_sessions.specs.CallsLeft.{calls_left}
+use Rattle.hub.specs.Evidence.{IsUnderWay}
 use Rattle.hub.specs.Limits.{max_calls}
 use Rattle.hub.specs.Rooms.{HasRoom}
 use mathlib.Core.List.{IsPrefix}
@@ -21,6 +22,7 @@ invariant-loop-taken g l = record {
   over : IsSome l.fn.self.fault → (l.self.fault ≡ l.fn.self.fault) × (l.self.entries ≡ l.fn.self.entries);
   few : (l.taken ≤ l.takes) × (replies_in l.self.entries.items ≤ replies_in l.fn.self.entries.items + l.taken);
   ends : EndsSo l.fn.self.place l.fn.answer → EndsSo l.self.place l.answer;
+  under_way : ∥ IsUnderWay (sight_of l.self.name l.self.seen) l.own l.self.entries.items l.self.session.running (told_by l.self.place l.answer) ∥₁;
   entered : (start : List Entry) → Follows start (told_by l.fn.self.place l.fn.answer) l.fn.self.entries.items → Follows start (told_by l.self.place l.answer) l.self.entries.items;
   read : (setup : Setup) (asked : Asked) (start : List Entry) → IsStampOf l.own asked → Reads (sight_of l.fn.self.name l.fn.self.seen) setup asked start l.fn.self.entries.items l.fn.self.session.running (told_by l.fn.self.place l.fn.answer) → Reads (sight_of l.fn.self.name l.self.seen) setup asked start l.self.entries.items l.self.session.running (told_by l.self.place l.answer);
   served : (start : List Entry) → AreServed (sight_of l.fn.self.name l.fn.self.seen) l.fn.self.first (l.fn.self.first + l.fn.self.queues.sent) start l.fn.self.entries.items

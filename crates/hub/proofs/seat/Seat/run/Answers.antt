@@ -2,6 +2,8 @@ use Rattle.std.proofs.Common.{◌≡◌, ◌≤◌, ◌+◌, ℕ, ap, subst, sym
 use Rattle.entry_list.specs.declared.kinds.Entry.{Entry}
 use Rattle.tenant_sessions.specs.declared.session.ClientSession.{ClientSession}
 use Rattle.entry_list.specs.declared.kinds.Entry.TheVariants.{Began}
+use Rattle.history.specs.declared.entry.HistoryEntry.{HistoryEntry}
+use Rattle.history.specs.Legal.{IsLegal}
 use Rattle.hub.specs.Operations.{IsLater}
 use Rattle.hub.specs.Limits.{max_calls}
 use Rattle.hub.specs.Replies.{IsDrawn, IsToldFor}
@@ -100,3 +102,14 @@ pub returns-clause-few : goal.returns-clause-few
 returns-clause-few g c =
     let started = c.in-Ok.ensures.began ∙ (λ i. (c.self.view_is i).entries ++ Began (act_of (c.self.view_is i).name.client c.args.request.now) ∷ []) in
     omega (arith, c.perform-told.ensures.few, replies-other c.args.self.now.entries c.prepare.new.self.entries.items _ refl started, ap replies_in (c.finish.ensures.entries ∙ ap (λ e. e.items) c.count-sent.ensures.entries))
+
+-- what is seen is a legal history
+pub returns-clause-legal : goal.returns-clause-legal
+returns-clause-legal g c =
+    let P : List HistoryEntry → Type 0 = λ l. ∥ IsLegal l ∥₁ in
+    subst P (sym (c.finish.ensures.seen)) c.count-sent.new.self.legal
+
+pub returns-in-Some-clause-legal : goal.returns-in-Some-clause-legal
+returns-in-Some-clause-legal g c =
+    let P : List HistoryEntry → Type 0 = λ l. ∥ IsLegal l ∥₁ in
+    subst P (ap (λ (s : SeatView). s.seen) c.self.view_is) c.self.inside.operation.legal

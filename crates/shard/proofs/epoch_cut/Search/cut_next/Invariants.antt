@@ -1,4 +1,5 @@
 use Rattle.std.proofs.Common.{◌≡◌, ◌≤◌, ◌-◌, length}
+use Rattle.shard.specs.Held.{StaysAt}
 use Rattle.shard.specs.Rounds.{AreFewer, long_among}
 use Rattle.shard.proofs.epoch_cut.Search.cut_next.Given as goal
 
@@ -6,8 +7,7 @@ use Rattle.shard.proofs.epoch_cut.Search.cut_next.Given as goal
 abbrev pub invariant-loop-tenant : goal.invariant-loop-tenant
 invariant-loop-tenant g l = record {
   book : l.state.book.accounts ≡ l.fn.state.book.accounts;
-  partition : l.state.partition ≡ l.fn.state.partition;
-  collections : l.state.collections ≡ l.fn.state.collections;
+  stays : StaysAt l.fn.state l.state;
   from : l.self.from ≡ l.fn.self.from;
   over : l.self.is_over ≡ l.fn.self.is_over;
   passed : l.refused ≡ 0 → AreFewer l.least l.fn.state.book.accounts l.fn.self.from l.tenant;

@@ -7,7 +7,7 @@ use Rattle.shard.proofs.round.Round.take_turn.Goals as goal
 
 -- the journal was not full
 pub returns-after-self-clause-short : goal.returns-after-self-clause-short
-returns-after-self-clause-short g c = answered-short _ _ _ _ c.answer.result _ c.answer.ensures.no_tenant c.answer.ensures.entered c.answer.ensures.unchanged
+returns-after-self-clause-short g c = answered-short _ _ _ _ c.answer.result _ c.answer.ensures.refuses.no_tenant c.answer.ensures.enters.entered c.answer.ensures.enters.unchanged
     (λ (some : 0 < c.args.config.now.epoch).
     subst (λ (accounts : List Account). length (events_at accounts c.tenant-tenant.result) < 2 * c.args.config.now.epoch) c.book.ensures (c.is_full.ensures.short c.if-is_full.false some))
 
@@ -17,6 +17,10 @@ invariant_of-state g c =
     let state = c.args.state.now in
     record {
       journals = ∥∥₁_map state.journals (λ of. answered-of state.parts state.partition _ _ _ state.book.accounts c.answer.new.book.accounts _ c.answer.result
-          c.answer.ensures.no_tenant c.answer.ensures.late c.answer.ensures.entered c.answer.ensures.reply c.answer.ensures.unchanged refl of);
+          c.answer.ensures.refuses.no_tenant c.answer.ensures.refuses.late c.answer.ensures.enters.entered c.answer.ensures.enters.reply c.answer.ensures.enters.unchanged refl of);
       its = c.answer.ensures.partition ∙ state.its;
     }
+
+-- a collection may always be served
+pub answer-requires : goal.answer-requires
+answer-requires g c = ∣ record { put = tt; home = tt } ∣₁

@@ -1,7 +1,8 @@
-use Rattle.std.proofs.Common.{◌≡◌, false, map}
+use Rattle.std.proofs.Common.{◌≡◌, map}
 use Rattle.std.specs.VecDeque.{deque_len, deque_capacity}
 use Rattle.shard.specs.Asked.{asked_by}
-use Rattle.shard.specs.Counted.{AreCounted, NotesLong}
+use Rattle.shard.specs.Counted.{NotesEvents, nothing_due}
+use Rattle.shard.specs.Held.{StaysAt}
 use Rattle.shard.specs.Rounds.{AreShort}
 use Rattle.shard.proofs.Rounds.{ArePassed}
 use Rattle.shard.proofs.shard.ShardState.serve_round.Given as goal
@@ -15,8 +16,5 @@ invariant-loop-at g l =
     × (deque_capacity l.calls ≡ deque_capacity l.fn.calls)
     × (map asked_by l.calls.items ≡ map asked_by l.fn.calls.items)
     × ArePassed l.fn.self.partition l.fn.self.parts l.calls.items l.at
-    × (l.self.partition ≡ l.fn.self.partition)
-    × (l.self.parts ≡ l.fn.self.parts)
-    × (l.self.collections ≡ l.fn.self.collections)
-    × AreCounted l.config.every l.fn.self.book.accounts l.self.book.accounts l.fn.self.events l.self.events false l.follow_up.collects
-    × NotesLong l.config.epoch l.fn.self.book.accounts l.self.book.accounts false l.follow_up.cuts
+    × StaysAt l.fn.self l.self
+    × NotesEvents l.config.every l.config.epoch l.fn.self.book.accounts l.self.book.accounts l.fn.self.events l.self.events nothing_due l.follow_up

@@ -2,7 +2,9 @@ use Rattle.std.proofs.Common.{sym, ap, ◌∙◌, subst, Option, None, rules}
 use Rattle.tenant_sessions.specs.declared.running.Running.{Running}
 use Rattle.tenant_sessions.specs.declared.session.ClientSession.{ClientSession}
 use Rattle.tenant_sessions.specs.Moves.{moved}
+use Rattle.tenant_sessions.specs.Sending.{SendsSo, waiting_of}
 use Rattle.tenant_sessions.specs.Showing.{IsShown, Shows}
+use Rattle.tenant_sessions.proofs.Sent.{sends_none}
 use Rattle.tenant_sessions.proofs.Shown.{shows_so}
 use Rattle.tenant_sessions.proofs.session.ClientSession.move_into.Goals.{then-is_last, else-is_last}
 use Rattle.tenant_sessions.proofs.session.ClientSession.move_into.Goals as goal
@@ -25,6 +27,14 @@ returns c = record {
         | else-is_last w ↦ subst P (sym (raised ∙ ap (λ (s : ClientSession). s.running) w.self-is)) shown
       ];
   calls = search rules;
+  sent =
+      let move = moved c.take.new.kind c.take.new.readings in
+      let P : Option Running → Type 0 = λ o. SendsSo move (waiting_of o) in
+      let raised = ap (λ (s : ClientSession). s.running) c.raise.ensures in
+      elim c.if-is_last.branch [
+        | then-is_last w ↦ subst P (sym (raised ∙ ap (λ (s : ClientSession). s.running) w.self-is ∙ w.forget.ensures)) (sends_none move)
+        | else-is_last w ↦ subst P (sym (raised ∙ ap (λ (s : ClientSession). s.running) w.self-is)) c.take.ensures.sent
+      ];
   counter = search rules;
   still_open = search rules;
 }

@@ -18,9 +18,8 @@ pub begin-requires-clause-may : goal.begin-requires-clause-may
 begin-requires-clause-may g c =
     let b = c.self.inside in
     let write : Write = record { word = b.tally.key; tenant = b.tenant; stamp = c.args.stamp; items = c.args.items.now } in
-    let client : client_of c.args.stamp ≡ b.client = c.requires.client ∙ sym (ap (λ (t : ClientTrace). t.client) c.self.view_is) in
-    let last = ap (λ (t : ClientTrace). t.last) c.self.view_is in
-    let above : b.last < c.args.stamp = omega (arith, c.requires.above, last) in
+    let client : client_of c.args.stamp ≡ b.client = sym c.client.ensures ∙ c.if-client-get.false ∙ c.get.ensures.value in
+    let above : b.last < c.args.stamp = omega (arith, c.if-number.false, c.number.ensures.value, c.number-else-client-get.ensures.value) in
     let P : List HistoryEntry → Type 0 = λ seen. ∥ MayBegin (own b.tally.key seen) seen write ∥₁ in
     subst P (sym c.again-front.ensures.same) ∣ may_begin write b.client b.last b.front c.self.invariant.0 client above ∣₁
 
@@ -28,8 +27,7 @@ pub invariant_of-self : goal.invariant_of-self
 invariant_of-self g c =
     let b = c.self.inside in
     let write : Write = record { word = b.tally.key; tenant = b.tenant; stamp = c.args.stamp; items = c.args.items.now } in
-    let last = ap (λ (t : ClientTrace). t.last) c.self.view_is in
-    let above : b.last < c.args.stamp = omega (arith, c.requires.above, last) in
+    let above : b.last < c.args.stamp = omega (arith, c.if-number.false, c.number.ensures.value, c.number-else-client-get.ensures.value) in
     let P : List HistoryEntry → Type 0 = λ seen. IsAdded b.tally.key b.entries (Began write) seen c.begin.new.self in
     let added : P b.front = subst P c.again-front.ensures.same c.if-not-begin.ensures.added in (
       traced_began write b.client b.last b.entries b.front c.begin.new.self c.self.invariant.0 above c.self.invariant.1 added,

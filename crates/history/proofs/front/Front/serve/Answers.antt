@@ -1,4 +1,0 @@
-use Rattle.history.proofs.front.Front.serve.Goals as goal
-
-pub add-requires-clause-may : goal.add-requires-clause-may
-add-requires-clause-may g c = ∣ tt ∣₁

@@ -1,0 +1,48 @@
+-- What shows that the calls of a seat's operation may be served.
+use Rattle.std.specs.Prelude.{◌≡◌, ℕ, All, List, Option, Some, None}
+use Rattle.plain_store.specs.declared.answer.Answer.{Answer}
+use Rattle.plain_store.specs.History.{Intent as Asked, Writes, Gets, Finds}
+use Rattle.plain_store.specs.Words.{◌∈◌, Setup, Stamp}
+use Rattle.plain_store.specs.Writing.{Outgoing}
+use Rattle.entry_list.specs.declared.kinds.Entry.{Entry}
+use Rattle.history.specs.declared.entry.HistoryEntry.{HistoryEntry}
+use Rattle.history.specs.declared.entry.HistoryEntry.TheVariants.{Began}
+use Rattle.history.specs.Legal.{IsOfPut, MayDecide}
+use Rattle.tenant_sessions.specs.Running.{MayBegin}
+use Rattle.tenant_sessions.specs.declared.running.Running.{Running}
+use Rattle.traced_client.specs.Clients.{ClientTrace}
+use Rattle.hub.specs.Replies.{IsStampOf, Reads}
+use Rattle.hub.specs.Sights.{SeatSight}
+
+-- the put of a write is an entry
+abbrev pub HasBegunIn : List HistoryEntry → ℕ → Asked → Type 0
+HasBegunIn seen tenant (Writes own items) = (word : ℕ) × (Began (record { word = word; tenant = tenant; stamp = own; items = items }) ∈ seen)
+HasBegunIn seen tenant (Gets keys) = Unit {0}
+HasBegunIn seen tenant (Finds tag) = Unit {0}
+
+-- Something was asked, the put of which is an entry if it is a write, and what runs took replies that were entered since then.
+pub record IsUnderWay (sight : SeatSight) (own : Stamp) (entries : List Entry) (running : Option Running) (told : Option Answer)
+    : Type 0 where
+  pub setup : Setup
+  pub asked : Asked
+  pub start : List Entry
+  pub stamped : IsStampOf own asked
+  pub well : MayBegin asked
+  pub began : HasBegunIn sight.seen sight.tenant asked
+  pub reads : Reads sight setup asked start entries running told
+
+-- a client's word, where it is here, is of the tenant
+abbrev pub tenant_or : ℕ → Option ClientTrace → ℕ
+tenant_or tenant None = tenant
+tenant_or tenant (Some its) = its.tenant
+
+abbrev pub IsOfTenant : ℕ → Option ClientTrace → Type 0
+IsOfTenant tenant client = tenant_or tenant client ≡ tenant
+
+-- the put of this stamp may be decided, whichever word enters that
+abbrev pub MayBeDecided : List HistoryEntry → ℕ → Stamp → Type 0
+MayBeDecided seen tenant stamp = (word : ℕ) → MayDecide seen (record { word = word; tenant = tenant; stamp = stamp })
+
+-- each of these calls is of a put that began, and a COMMIT of one that was decided
+abbrev pub AreOfPuts : List HistoryEntry → ℕ → List Outgoing → Type 0
+AreOfPuts seen tenant calls = All (λ (out : Outgoing). IsOfPut seen tenant out.call) calls

@@ -1,0 +1,26 @@
+//! What holds of each read of a seat. Each law is the contract of a function that does nothing.
+ghost use Rattle.std.specs.Prelude.{List};
+ghost use Rattle.entry_list.specs.declared.kinds.Entry.{Entry};
+ghost use Rattle.plain_store.specs.declared.reading.Reading.{Reading};
+ghost use Rattle.plain_store.specs.Words.{Key, Tag, Setup};
+ghost use Rattle.history.specs.Legal.{IsLegal};
+ghost use Rattle.hub.specs.Atomic.{IsReadAtomic};
+ghost use Rattle.hub.specs.Replies.{IsListOf, IsReadOf};
+ghost use Rattle.hub.specs.Sights.{SeatSight};
+
+/// What a seat reads is read atomic: it was written by decided puts of the store's history, and of none of these a part is read beside
+/// an older version of what else it wrote.
+pub fn seat_reads_are_atomic()
+    ensures { (sight : SeatSight) (keys : List Key) (start entries : List Entry)
+        (told : List Reading)
+        → IsLegal sight.seen → IsReadOf sight keys start entries told
+        → IsReadAtomic sight.seen sight.tenant told }
+{}
+
+/// So is what a seat lists.
+pub fn seat_lists_are_atomic()
+    ensures { (sight : SeatSight) (setup : Setup) (tag : Tag) (start entries : List Entry)
+        (told : List Reading)
+        → IsLegal sight.seen → IsListOf sight setup tag start entries told
+        → IsReadAtomic sight.seen sight.tenant told }
+{}
