@@ -60,7 +60,7 @@ greeted tenants tenant client base parts names name (Err cause) answer old new n
 pub greeting_told : (newest : Bool) (epoch tenants tenant client base parts : ℕ) (opened : Result SeatView Refusal) (answer : Answer) (old new : Option SeatView)
     → old ≡ None → Opens tenants tenant client base parts opened → Greets opened answer old new → Tells newest epoch None new (answer_line answer)
 greeting_told newest epoch tenants tenant client base parts (Ok seat) answer old new none opens greets =
-    rw (greets.ready.0, greets.ready.1) (Tells-ready newest epoch seat opens.fresh.2)
+    rw (greets.ready.0, greets.ready.1) (Tells-ready newest epoch seat (opens.fresh.2, opens.fresh.1, opens.fresh.0))
 greeting_told newest epoch tenants tenant client base parts (Err cause) answer old new none opens greets =
     rw (greets.refused.0, greets.refused.1 ∙ none) (Tells-refused newest epoch cause)
 

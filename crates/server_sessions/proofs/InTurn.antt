@@ -8,7 +8,6 @@ use Rattle.plain_store.specs.declared.refusal.Refusal.{Refusal}
 use Rattle.plain_store.specs.declared.refusal.Refusal.TheVariants.{LineTooLong, OutOfMemory}
 use Rattle.plain_store.specs.declared.answer.Answer.{Answer}
 use Rattle.plain_store.specs.declared.answer.Answer.TheVariants.{Refused}
-use Rattle.closed_store.specs.declared.transcript.Transcript.{Transcript}
 use Rattle.hub.specs.Hubs.{ConfigView}
 use Rattle.hub.specs.Seats.{IsNamed, SeatView}
 use Rattle.line_protocol.specs.AnswerSpelling.{answer_line}
@@ -25,7 +24,9 @@ use Rattle.server_sessions.specs.declared.line_session.SessionEnd.{SessionEnd}
 use Rattle.server_sessions.specs.declared.line_session.SessionEnd.TheVariants.{Silent, Bye as SaysBye, Unread, Refused as IsRefused}
 use Rattle.server_sessions.specs.Answering.{GoesOnBehind, IsAnsweredAlone, IsAnsweredBy, IsEndOfInput, IsLineAnswered, last_line, refused_as}
 use Rattle.server_sessions.specs.Answered.{AnswersLines, AnswersUpTo, EndsBefore, EndsFor, HasAnswered, IsOfSeat, BreaksOffIn, HasAnsweredSome, StaysBehind, TakesBytes, TakesInput}
-use Rattle.server_sessions.specs.Telling.{IsAnsweredAndDrained, IsDrained, IsLastLine}
+use Rattle.server_sessions.specs.SeatAnswers.{IsAnsweredAndDrained, IsDrained}
+use Rattle.server_sessions.specs.Telling.{IsLastLine, SessionLeft}
+use Rattle.server_sessions.proofs.SeatsGiven.{drained_name}
 use Rattle.server_sessions.proofs.ToldOf.{Gathers-emptied}
 
 -- ---- what was done so far
@@ -290,37 +291,38 @@ ends_at_end options hub names ending first now held (Some input) (Some left) (So
     let so_far = subst (λ (l : List ℕ). SoFar options hub names first now input l a b x y) all run in
     record { text = so_far.text; left = held; seat = now; gathers = so_far.gathers; answers = so_far.answers; ends = ends_here options now ending held so_far.text open_ended ends; behind = inl refl }
 
--- ---- the transcript
+-- ---- what is left
 
-drained_name : (epoch : ℕ) (old new : SeatView) → IsDrained epoch old new → new.name ≡ old.name
-drained_name zero old new drained = ap (λ (s : SeatView). s.name) (drained.0 refl)
-drained_name (suc n) old new drained = ap (λ (s : SeatView). s.name) (drained.1 (omega arith))
+drained_seen : (epoch : ℕ) (old new : SeatView) → IsDrained epoch old new → new.seen ≡ old.seen
+drained_seen zero old new drained = ap (λ (s : SeatView). s.seen) (drained.0 refl)
+drained_seen (suc n) old new drained = ap (λ (s : SeatView). s.seen) (drained.1 (omega arith))
 
--- the transcript of a seat from which entries may have been returned
-left_in : (epoch : ℕ) (seat : SeatView) (after : SeatView) (transcript : Option Transcript) → IsDrained epoch seat after → IsOfSeat 0 (Some after) transcript → IsOfSeat epoch (Some seat) transcript
-left_in epoch seat after transcript drained h = (
+-- what is left of a seat from which entries may have been returned
+left_in : (epoch : ℕ) (seat : SeatView) (after : SeatView) (left : Option SessionLeft) → IsDrained epoch seat after → IsOfSeat 0 (Some after) left → IsOfSeat epoch (Some seat) left
+left_in epoch seat after left drained h = (
   h.0,
   h.1,
-  subst (IsNamed h.0) (drained_name epoch seat after drained) h.2,
+  subst (IsNamed h.0.0) (drained_name epoch seat after drained) h.2,
   λ never. h.3 refl ∙ ap (λ (s : SeatView). s.entries) (drained.0 never),
+  h.4 ∙ drained_seen epoch seat after drained,
 )
 
-kept_in : (epoch : ℕ) (seat : Option SeatView) (transcript : Option Transcript) → IsOfSeat 0 seat transcript → IsOfSeat epoch seat transcript
-kept_in epoch None transcript h = h
-kept_in epoch (Some seat) transcript h = (h.0, h.1, h.2, λ never. h.3 refl)
+kept_in : (epoch : ℕ) (seat : Option SeatView) (its : Option SessionLeft) → IsOfSeat 0 seat its → IsOfSeat epoch seat its
+kept_in epoch None its h = h
+kept_in epoch (Some seat) its h = (h.0, h.1, h.2, λ never. h.3 refl, h.4)
 
-pub of_seat : (epoch : ℕ) (seat last : Option SeatView) (transcript : Option Transcript) → StaysBehind epoch seat last → IsOfSeat 0 last transcript → IsOfSeat epoch seat transcript
-of_seat epoch seat last transcript (inl same) h = kept_in epoch seat transcript (subst (λ (s : Option SeatView). IsOfSeat 0 s transcript) same h)
-of_seat epoch seat last transcript (inr (old, after, is, then, drained)) h =
-    subst (λ (s : Option SeatView). IsOfSeat epoch s transcript) (sym is)
-    (left_in epoch old after transcript drained (subst (λ (s : Option SeatView). IsOfSeat 0 s transcript) then h))
+pub of_seat : (epoch : ℕ) (seat last : Option SeatView) (its : Option SessionLeft) → StaysBehind epoch seat last → IsOfSeat 0 last its → IsOfSeat epoch seat its
+of_seat epoch seat last its (inl same) h = kept_in epoch seat its (subst (λ (s : Option SeatView). IsOfSeat 0 s its) same h)
+of_seat epoch seat last its (inr (old, after, is, then, drained)) h =
+    subst (λ (s : Option SeatView). IsOfSeat epoch s its) (sym is)
+    (left_in epoch old after its drained (subst (λ (s : Option SeatView). IsOfSeat 0 s its) then h))
 
 -- ---- the whole of a session
 
-answered_whole : (options : SessionOptions) (hub : ConfigView) (names : List (List ℕ)) (ending : SessionEnd) (last : Option SeatView) (transcript : Option Transcript) (input : List ℕ) (a b c : Option (List ℕ)) (gathered : List ℕ)
-    → TakesInput options hub names ending None last input a b [] gathered → Appends b c (gathered ++ last_line ending) → IsOfSeat 0 last transcript
-    → HasAnswered options hub names input transcript a c
-answered_whole options hub names ending last transcript input a b c gathered h adds end =
+answered_whole : (options : SessionOptions) (hub : ConfigView) (names : List (List ℕ)) (ending : SessionEnd) (last : Option SeatView) (its : Option SessionLeft) (input : List ℕ) (a b c : Option (List ℕ)) (gathered : List ℕ)
+    → TakesInput options hub names ending None last input a b [] gathered → Appends b c (gathered ++ last_line ending) → IsOfSeat 0 last its
+    → HasAnswered options hub names input its a c
+answered_whole options hub names ending last its input a b c gathered h adds end =
     let f = h.answers h.seat in
     let done : AnswersLines options hub names h.seat h.seat (lines_of []) [] = subst (λ (ls : List (List ℕ)). AnswersLines options hub names h.seat h.seat ls []) (sym (lines_of-none [] tt)) (refl, refl) in
     let all = (f.passes []).replies_to [] done in record {
@@ -333,17 +335,17 @@ answered_whole options hub names ending last transcript input a b c gathered h a
           (subst (λ (l : List ℕ). AnswersLines options hub names h.seat None (lines_of l) (h.text ++ [])) (append-nil f.front) all);
       ending = ending;
       ends = h.ends;
-      left_behind = of_seat hub.epoch h.seat last transcript h.behind end;
+      left_behind = of_seat hub.epoch h.seat last its h.behind end;
       written = Gathers-end a b c gathered h.text (last_line ending) h.gathers adds;
     }
 
-pub session_answered : {A E : Type 0} (options : SessionOptions) (hub : ConfigView) (names : List (List ℕ)) (r : Result A E) (ending : SessionEnd) (last : Option SeatView) (transcript : Option Transcript) (input : Option (List ℕ))
+pub session_answered : {A E : Type 0} (options : SessionOptions) (hub : ConfigView) (names : List (List ℕ)) (r : Result A E) (ending : SessionEnd) (last : Option SeatView) (its : Option SessionLeft) (input : Option (List ℕ))
     (a b c : Option (List ℕ)) (gathered : List ℕ) → IfSome input (λ stream. TakesInput options hub names ending None last stream a b [] gathered)
-    → OnOk r (Appends b c (gathered ++ last_line ending)) → IsOfSeat 0 last transcript
-    → IfOk r (λ done. IfSome input (λ stream. HasAnswered options hub names stream transcript a c))
-session_answered options hub names (Err e) ending last transcript input a b c gathered h adds end = tt
-session_answered options hub names (Ok done) ending last transcript None a b c gathered h adds end = tt
-session_answered options hub names (Ok done) ending last transcript (Some input) a b c gathered h adds end = answered_whole options hub names ending last transcript input a b c gathered h adds end
+    → OnOk r (Appends b c (gathered ++ last_line ending)) → IsOfSeat 0 last its
+    → IfOk r (λ done. IfSome input (λ stream. HasAnswered options hub names stream its a c))
+session_answered options hub names (Err e) ending last its input a b c gathered h adds end = tt
+session_answered options hub names (Ok done) ending last its None a b c gathered h adds end = tt
+session_answered options hub names (Ok done) ending last its (Some input) a b c gathered h adds end = answered_whole options hub names ending last its input a b c gathered h adds end
 
 -- ---- where a session breaks off
 
@@ -439,17 +441,17 @@ front_lines options hub names seat input left text h =
     subst (AnswersLines options hub names seat None (lines_of f.front)) (append-nil text)
     (subst (λ (l : List ℕ). AnswersLines options hub names seat None (lines_of l) (text ++ [])) (append-nil f.front) ((f.passes []).replies_to [] done))
 
-answered_some : (options : SessionOptions) (hub : ConfigView) (names : List (List ℕ)) (seat last : Option SeatView) (transcript : Option Transcript) (input left text : List ℕ) (a b : Option (List ℕ)) (end : List ℕ) (n : ℕ)
-    → AnswersUpTo options hub names None seat input left text → StaysBehind hub.epoch seat last → IsOfSeat 0 last transcript → IsLastLine end → Appends a b (take n (text ++ end))
-    → HasAnsweredSome options hub names input transcript a b
-answered_some options hub names seat last transcript input left text a b end n h behind of is adds = record {
+answered_some : (options : SessionOptions) (hub : ConfigView) (names : List (List ℕ)) (seat last : Option SeatView) (its : Option SessionLeft) (input left text : List ℕ) (a b : Option (List ℕ)) (end : List ℕ) (n : ℕ)
+    → AnswersUpTo options hub names None seat input left text → StaysBehind hub.epoch seat last → IsOfSeat 0 last its → IsLastLine end → Appends a b (take n (text ++ end))
+    → HasAnsweredSome options hub names input its a b
+answered_some options hub names seat last its input left text a b end n h behind of is adds = record {
   front = (h seat).front;
   left = left;
   whole = (h seat).whole;
   seat = seat;
   text = text;
   answers = front_lines options hub names seat input left text h;
-  left_behind = of_seat hub.epoch seat last transcript behind of;
+  left_behind = of_seat hub.epoch seat last its behind of;
   last = end;
   is_last = is;
   size = n;
@@ -457,20 +459,20 @@ answered_some options hub names seat last transcript input left text a b end n h
 }
 
 -- the whole of a session that breaks off
-pub session_breaks : (options : SessionOptions) (hub : ConfigView) (names : List (List ℕ)) (last : Option SeatView) (transcript : Option Transcript) (input : Option (List ℕ)) (a b : Option (List ℕ))
-    → IfSome input (λ stream. BreaksOffIn options hub names None last stream a b []) → IsOfSeat 0 last transcript → IfSome input (λ stream. HasAnsweredSome options hub names stream transcript a b)
-session_breaks options hub names last transcript None a b h of = tt
-session_breaks options hub names last transcript (Some input) a b h of =
-    answered_some options hub names last last transcript input h.left h.text a b [] h.size h.answers (inl refl) of (inl refl)
+pub session_breaks : (options : SessionOptions) (hub : ConfigView) (names : List (List ℕ)) (last : Option SeatView) (its : Option SessionLeft) (input : Option (List ℕ)) (a b : Option (List ℕ))
+    → IfSome input (λ stream. BreaksOffIn options hub names None last stream a b []) → IsOfSeat 0 last its → IfSome input (λ stream. HasAnsweredSome options hub names stream its a b)
+session_breaks options hub names last its None a b h of = tt
+session_breaks options hub names last its (Some input) a b h of =
+    answered_some options hub names last last its input h.left h.text a b [] h.size h.answers (inl refl) of (inl refl)
     (subst (λ (l : List ℕ). Appends a b (take h.size l)) (sym (append-nil h.text)) h.written)
 
 -- the same where its last line could not be written
-pub session_breaks_last : {A E : Type 0} (options : SessionOptions) (hub : ConfigView) (names : List (List ℕ)) (r : Result A E) (ending : SessionEnd) (last : Option SeatView) (transcript : Option Transcript) (input : Option (List ℕ))
+pub session_breaks_last : {A E : Type 0} (options : SessionOptions) (hub : ConfigView) (names : List (List ℕ)) (r : Result A E) (ending : SessionEnd) (last : Option SeatView) (its : Option SessionLeft) (input : Option (List ℕ))
     (a b c : Option (List ℕ)) (gathered : List ℕ) → IfSome input (λ stream. TakesInput options hub names ending None last stream a b [] gathered)
-    → IfErr r (λ fault. (end : List ℕ) × (n : ℕ) × IsLastLine end × Appends b c (take n (gathered ++ end))) → IsOfSeat 0 last transcript
-    → IfErr r (λ fault. IfSome input (λ stream. HasAnsweredSome options hub names stream transcript a c))
-session_breaks_last options hub names (Ok done) ending last transcript input a b c gathered h begun of = tt
-session_breaks_last options hub names (Err e) ending last transcript None a b c gathered h begun of = tt
-session_breaks_last options hub names (Err e) ending last transcript (Some input) a b c gathered h begun of =
-    answered_some options hub names h.seat last transcript input h.left h.text a c begun.0 (length h.gathers.written + begun.1) h.answers h.behind of begun.2
+    → IfErr r (λ fault. (end : List ℕ) × (n : ℕ) × IsLastLine end × Appends b c (take n (gathered ++ end))) → IsOfSeat 0 last its
+    → IfErr r (λ fault. IfSome input (λ stream. HasAnsweredSome options hub names stream its a c))
+session_breaks_last options hub names (Ok done) ending last its input a b c gathered h begun of = tt
+session_breaks_last options hub names (Err e) ending last its None a b c gathered h begun of = tt
+session_breaks_last options hub names (Err e) ending last its (Some input) a b c gathered h begun of =
+    answered_some options hub names h.seat last its input h.left h.text a c begun.0 (length h.gathers.written + begun.1) h.answers h.behind of begun.2
     (begins_behind_gathered a b c [] gathered h.text begun.0 begun.1 h.gathers begun.3)

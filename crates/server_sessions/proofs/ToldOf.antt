@@ -1,5 +1,5 @@
 -- What the client of a connection is answered, answer by answer.
-use Rattle.std.proofs.Common.{◌≡◌, ◌+◌, ℕ, zero, suc, Bool, true, false, cond, nat_lt, List, [], ◌∷◌, ◌++◌, length, take, Option, Some, None, Result, Ok, Err, refl, sym, ap, subst, inl, inr, arith, ◌∙◌, append_assoc}
+use Rattle.std.proofs.Common.{◌≡◌, ◌+◌, ◌*◌, ℕ, zero, suc, Bool, true, false, cond, nat_lt, List, [], ◌∷◌, ◌++◌, length, take, Option, Some, None, Result, Ok, Err, refl, sym, ap, subst, inl, inr, arith, ◌∙◌, append_assoc}
 use Rattle.std.proofs.lemmas.List.{append-nil}
 use Rattle.std.proofs.lemmas.List.Elements.{filter_map-append, All-append, All-cons, All-nil}
 use Rattle.std.proofs.lemmas.List.Concat.{flat_map-append}
@@ -18,15 +18,20 @@ use Rattle.plain_store.specs.declared.answer.Answer.TheVariants.{Refused, Ready,
 use Rattle.entry_list.specs.declared.kinds.Entry.{Entry}
 use Rattle.entry_list.specs.declared.kinds.Entry.TheVariants.{Began}
 use Rattle.plain_store.specs.Writing.{keys_written}
+use Rattle.hub.specs.Limits.{max_calls}
 use Rattle.hub.specs.ReadsFirst.{IsReadAndWritten, IsWrittenBy}
-use Rattle.hub.specs.Seats.{SeatView, Follows, IsEntered, IsLeftBy, IsStopped, answer_in, is_of_worker, is_unrecorded}
+use Rattle.hub.specs.Seats.{SeatView, Follows, IsEntered, IsLeftBy, IsNamed, IsStopped, answer_in, is_of_worker, is_unrecorded, sight}
 use Rattle.shard.specs.declared.seat_name.SeatName.{SeatName}
 use Rattle.closed_store.specs.declared.transcript.Transcript.{Transcript}
 use Rattle.line_protocol.specs.AnswerSpelling.{answer_line}
 use Rattle.line_protocol.specs.declared.request.Request.{Request}
 use Rattle.line_protocol.specs.declared.request.Request.TheVariants.{Hello, Put, Get, Find, Keep, Bye}
 use Rattle.line_runs.specs.RunAnswers.{Gathers}
-use Rattle.server_sessions.specs.Telling.{Telling, Entered, Refuses, KeepsSo, answer_told, answer_untold, answers_entered, tellings_text, refusals_text, IsLeftOf, IsReplaced, HasHeard, WasTold, Tells, HasTold, IsLastLine, IsWritten, IsBegun, BreaksTelling, IsServed, IsPut, IsAnswered, IsAnsweredAndDrained, IsDrained, HasName, IsSeated, seat_tenant}
+use Rattle.server_sessions.specs.Answered.{IsOfSeat}
+use Rattle.server_sessions.specs.Histories.{IsGivenIn}
+use Rattle.server_sessions.specs.SeatAnswers.{AreGiven, IsAnswered, IsAnsweredAndDrained, IsDrained, IsFresh, IsPut, IsServed, IsToldBySeat, IsToldNext, Nothing, OneMore, ReportsFind, ReportsGet, Returned, refusals_text}
+use Rattle.server_sessions.specs.Telling.{Telling, Entered, Refuses, KeepsSo, answer_told, answer_untold, answers_entered, tellings_text, IsLeftOf, IsReplaced, HasHeard, WasHeard, WasTold, Tells, HasTold, SessionLeft, IsLastLine, IsWritten, IsBegun, BreaksTelling, HasName, IsSeated, seat_tenant}
+use Rattle.server_sessions.proofs.SeatsGiven.{drained_name, given_at_end, given_drained, given_fresh, given_later}
 use Rattle.line_runs.proofs.Fronts.{begins_behind_gathered}
 use Rattle.line_runs.proofs.Gathering.{Gathers-end, Gathers-none, Gathers-text, Gathers-trans, Gathers-written}
 
@@ -55,24 +60,41 @@ pub Tells-refused : (newest : Bool) (epoch : ℕ) (cause : Refusal) → Tells ne
 Tells-refused newest epoch cause told h = (h.0 ++ cause ∷ [], ap (λ (t : List ℕ). t ++ answer_line (Refused cause)) h.1 ∙ sym (refusals-more h.0 cause))
 
 -- a seat is opened
-pub Tells-ready : (newest : Bool) (epoch : ℕ) (seat : SeatView) → seat.entries ≡ [] → Tells newest epoch None (Some seat) (answer_line (Ready seat.name.counter))
+pub Tells-ready : (newest : Bool) (epoch : ℕ) (seat : SeatView) → IsFresh seat → Tells newest epoch None (Some seat) (answer_line (Ready seat.name.counter))
 Tells-ready newest epoch seat fresh told h =
-    let line = answer_line (Ready seat.name.counter) in (
-      None,
+    let line = answer_line (Ready seat.name.counter) in
+    let spelled : told ++ line ≡ refusals_text h.0 ++ (line ++ []) = ap (λ (t : List ℕ). t ++ line) h.1 ∙ ap (λ (t : List ℕ). refusals_text h.0 ++ t) (sym (append-nil line)) in (
+      (
+        None,
+        record {
+          causes = h.0;
+          tellings = [];
+          all = [];
+          spelled = spelled;
+          handed = (λ kept. fresh.0, λ cut. fresh.0);
+          agrees = refl;
+          each = λ plain. All-nil (λ telling. answer_untold telling ≡ None);
+          replaced = tt;
+        },
+        λ going. refl,
+      ),
       record {
         causes = h.0;
-        tellings = [];
-        all = [];
-        spelled = ap (λ (t : List ℕ). t ++ line) h.1 ∙ ap (λ (t : List ℕ). refusals_text h.0 ++ t) (sym (append-nil line));
-        handed = (λ kept. fresh, λ cut. fresh);
-        agrees = refl;
-        each = λ plain. All-nil (λ telling. answer_untold telling ≡ None);
-        replaced = tt;
+        opened = seat;
+        fresh = fresh;
+        session = refl;
+        told = [];
+        since = Nothing;
+        spelled = spelled;
+        given = given_fresh seat fresh.0;
       },
-      λ going. refl,
     )
 
--- ---- while there is a seat
+-- ---- while there is a seat, by what it has entered
+
+-- whatever was reported before by what a seat has entered, this text is reported after it
+abbrev Hears : Bool → ℕ → SeatView → SeatView → List ℕ → Type 0
+Hears newest epoch old new text = (told : List ℕ) → WasHeard newest epoch old told → WasHeard newest epoch new (told ++ text)
 
 -- one line more
 spelled_more : (text : List ℕ) (causes : List Refusal) (counter : ℕ) (tellings : List Telling) (t : Telling)
@@ -141,7 +163,7 @@ heard_aside newest epoch counter other left rest unheard text t h aside told sam
     }
 
 pub told_aside : (newest : Bool) (epoch : ℕ) (old between new : SeatView) (t : Telling) → answers_entered t ≡ [] → answer_untold t ≡ None → between ≡ old → IsDrained epoch between new
-    → Tells newest epoch (Some old) (Some new) (answer_line (answer_told t))
+    → Hears newest epoch old new (answer_line (answer_told t))
 told_aside newest epoch old between new t aside untold same drained told h = (
   h.0,
   heard_aside newest epoch old.name.counter new.name.counter old.entries new.entries h.0 told t h.1 aside untold
@@ -195,12 +217,12 @@ heard_grown newest epoch counter other old between rest told unheard text t h g 
     }
 
 -- nothing was unheard of a seat that went on
-heard_all : (newest : Bool) (epoch : ℕ) (seat : SeatView) (text : List ℕ) (h : WasTold newest epoch (Some seat) text) → seat.stopped ≡ false → HasHeard newest epoch seat.name.counter seat.entries None text
+heard_all : (newest : Bool) (epoch : ℕ) (seat : SeatView) (text : List ℕ) (h : WasHeard newest epoch seat text) → seat.stopped ≡ false → HasHeard newest epoch seat.name.counter seat.entries None text
 heard_all newest epoch seat text h going = subst (λ (o : Option Answer). HasHeard newest epoch seat.name.counter seat.entries o text) (h.2 going) h.1
 
 -- what a seat reports whose operations entered just this, and that goes on
 told_grown : (newest : Bool) (epoch : ℕ) (old between new : SeatView) (t : Telling) → HasGrown old.entries between.entries (answers_entered t) → (newest ≡ false → answer_untold t ≡ None)
-    → old.stopped ≡ false → between.name.counter ≡ old.name.counter → IsDrained epoch between new → Tells newest epoch (Some old) (Some new) (answer_line (answer_told t))
+    → old.stopped ≡ false → between.name.counter ≡ old.name.counter → IsDrained epoch between new → Hears newest epoch old new (answer_line (answer_told t))
 told_grown newest epoch old between new t g plain going name drained told h = (
   None,
   heard_grown newest epoch old.name.counter new.name.counter old.entries between.entries new.entries (answers_entered t) None told t (heard_all newest epoch old told h going) g
@@ -209,14 +231,14 @@ told_grown newest epoch old between new t g plain going name drained told h = (
 )
 
 pub told_entered : (newest : Bool) (epoch : ℕ) (old between new : SeatView) (act : Act) (answer : Answer) → Follows (old.entries ++ Began act ∷ []) (Some answer) between.entries
-    → old.stopped ≡ false → between.name.counter ≡ old.name.counter → IsDrained epoch between new → Tells newest epoch (Some old) (Some new) (answer_line answer)
+    → old.stopped ≡ false → between.name.counter ≡ old.name.counter → IsDrained epoch between new → Hears newest epoch old new (answer_line answer)
 told_entered newest epoch old between new act answer f going name drained =
     told_grown newest epoch old between new (Entered None answer) (one_grown old.entries between.entries act (Some answer) f) (λ plain. refl) going name drained
 
 -- what it reports that a worker's refusal stopped
 told_broken : (newest : Bool) (epoch : ℕ) (old between new : SeatView) (first entered : Option Answer) (refusal : Refusal) → is_of_worker refusal ≡ true
     → HasGrown old.entries between.entries (cons_option first [] ++ cons_option entered []) → (newest ≡ false → first ≡ None) → old.stopped ≡ false → between.stopped ≡ true
-    → between.name.counter ≡ old.name.counter → IsDrained epoch between new → Tells newest epoch (Some old) (Some new) (answer_line (Refused refusal))
+    → between.name.counter ≡ old.name.counter → IsDrained epoch between new → Hears newest epoch old new (answer_line (Refused refusal))
 told_broken newest epoch old between new first entered refusal worker g plain went_on stops name drained told h = (
   entered,
   heard_grown newest epoch old.name.counter new.name.counter old.entries between.entries new.entries (cons_option first [] ++ cons_option entered []) entered told (Refuses first refusal)
@@ -226,42 +248,32 @@ told_broken newest epoch old between new first entered refusal worker g plain we
 )
 
 pub told_stopped : (newest : Bool) (epoch : ℕ) (old between new : SeatView) (act : Act) (refusal : Refusal) → is_of_worker refusal ≡ true → IsStopped act old between
-    → between.name.counter ≡ old.name.counter → IsDrained epoch between new → Tells newest epoch (Some old) (Some new) (answer_line (Refused refusal))
+    → between.name.counter ≡ old.name.counter → IsDrained epoch between new → Hears newest epoch old new (answer_line (Refused refusal))
 told_stopped newest epoch old between new act refusal worker stop name drained =
     told_broken newest epoch old between new None stop.told refusal worker (one_grown old.entries between.entries act stop.told stop.entered) (λ plain. refl) stop.went_on stop.stops name drained
 
--- an operation that a seat ran was served
-pub served_by : (act : Act) (old new : SeatView) (answer : Answer) → IsEntered act old answer new → IsServed act old answer new
+-- The seat began just this act, and the answer is the one that it entered; or the answer is a refusal that it did not enter.
+abbrev Enters : Act → SeatView → Answer → SeatView → Type 0
+Enters act old answer new =
+    (Follows (old.entries ++ Began act ∷ []) (Some answer) new.entries × (old.stopped ≡ false) × (new.stopped ≡ false))
+    ⊎ IsLeftBy act answer old new
+
+served_by : (act : Act) (old new : SeatView) (answer : Answer) → IsEntered act old answer new → Enters act old answer new
 served_by act old new answer (inl (inside, going, goes, follows)) = inl (follows, going, goes)
 served_by act old new answer (inr (outside, left)) = inr left
 
--- the same of the request that asked for it
-pub asked_put : (newest : Bool) (tenants : ℕ) (request : Request) (items given : List Item) (old new : SeatView) (answer : Answer) → request ≡ Put items → given ≡ items
-    → IsPut newest given old answer new → IsAnswered newest tenants request old answer new
-asked_put newest tenants request items given old new answer is same served =
-    subst (λ (r : Request). IsAnswered newest tenants r old answer new) (sym is) (subst (λ (xs : List Item). IsPut newest xs old answer new) same served)
-
-pub asked_get : (newest : Bool) (tenants : ℕ) (request : Request) (keys given : List (List ℕ)) (old new : SeatView) (answer : Answer) → request ≡ Get keys → given ≡ keys
-    → IsServed (GetAct old.name.client given) old answer new → IsAnswered newest tenants request old answer new
-asked_get newest tenants request keys given old new answer is same served =
-    subst (λ (r : Request). IsAnswered newest tenants r old answer new) (sym is) (subst (λ (xs : List (List ℕ)). IsServed (GetAct old.name.client xs) old answer new) same served)
-
-pub asked_find : (newest : Bool) (tenants : ℕ) (request : Request) (tag : List ℕ) (old new : SeatView) (answer : Answer) → request ≡ Find tag
-    → IsServed (FindAct old.name.client tag) old answer new → IsAnswered newest tenants request old answer new
-asked_find newest tenants request tag old new answer is served = subst (λ (r : Request). IsAnswered newest tenants r old answer new) (sym is) served
-
 -- what an operation is answered
-told_served : (newest : Bool) (epoch : ℕ) (old between new : SeatView) (act : Act) (answer : Answer) → IsServed act old answer between → between.name.counter ≡ old.name.counter
-    → IsDrained epoch between new → Tells newest epoch (Some old) (Some new) (answer_line answer)
+told_served : (newest : Bool) (epoch : ℕ) (old between new : SeatView) (act : Act) (answer : Answer) → Enters act old answer between → between.name.counter ≡ old.name.counter
+    → IsDrained epoch between new → Hears newest epoch old new (answer_line answer)
 told_served newest epoch old between new act answer (inl entered) name drained = told_entered newest epoch old between new act answer entered.0 entered.1 name drained
 told_served newest epoch old between new act answer (inr (refusal, is, inl unbegun)) name drained =
-    subst (λ (a : Answer). Tells newest epoch (Some old) (Some new) (answer_line a)) (sym is) (told_aside newest epoch old between new (Refuses None refusal) refl refl unbegun.1 drained)
+    subst (λ (a : Answer). Hears newest epoch old new (answer_line a)) (sym is) (told_aside newest epoch old between new (Refuses None refusal) refl refl unbegun.1 drained)
 told_served newest epoch old between new act answer (inr (refusal, is, inr stopped)) name drained =
-    subst (λ (a : Answer). Tells newest epoch (Some old) (Some new) (answer_line a)) (sym is) (told_stopped newest epoch old between new act refusal stopped.0 stopped.1 name drained)
+    subst (λ (a : Answer). Hears newest epoch old new (answer_line a)) (sym is) (told_stopped newest epoch old between new act refusal stopped.0 stopped.1 name drained)
 
 -- what a put is answered whose keys were read first
 told_both : (epoch : ℕ) (items : List Item) (old between new : SeatView) (answer : Answer) → IsReadAndWritten items old answer between → between.name.counter ≡ old.name.counter
-    → IsDrained epoch between new → Tells true epoch (Some old) (Some new) (answer_line answer)
+    → IsDrained epoch between new → Hears true epoch old new (answer_line answer)
 told_both epoch items old between new answer both name drained = go both.written both.read.entered
   where
     client : ℕ
@@ -277,22 +289,22 @@ told_both epoch items old between new answer both name drained = go both.written
     plain is = cc
 
     -- the read was entered, and then
-    written : is_unrecorded both.told ≡ false → old.stopped ≡ false → HasGrown old.entries both.between.entries (both.told ∷ []) → IsEntered put both.between answer between → Tells true epoch (Some old) (Some new) (answer_line answer)
+    written : is_unrecorded both.told ≡ false → old.stopped ≡ false → HasGrown old.entries both.between.entries (both.told ∷ []) → IsEntered put both.between answer between → Hears true epoch old new (answer_line answer)
     written is going first (inl (recorded, went_on, stays, follows)) =
         told_grown true epoch old between new (Entered (Some both.told) answer)
         (both_grown old.entries both.between.entries between.entries (both.told ∷ []) (answer ∷ []) first (one_grown both.between.entries between.entries put (Some answer) follows)) plain going name drained
     written is going first (inr (outside, (refusal, same, inl unbegun))) =
-        subst (λ (a : Answer). Tells true epoch (Some old) (Some new) (answer_line a)) (sym same)
+        subst (λ (a : Answer). Hears true epoch old new (answer_line a)) (sym same)
         (told_grown true epoch old between new (Refuses (Some both.told) refusal)
         (subst (λ (es : List Entry). HasGrown old.entries es (both.told ∷ [])) (ap (λ (v : SeatView). v.entries) (sym unbegun.1)) first) plain going name drained)
     written is going first (inr (outside, (refusal, same, inr stopped))) =
-        subst (λ (a : Answer). Tells true epoch (Some old) (Some new) (answer_line a)) (sym same)
+        subst (λ (a : Answer). Hears true epoch old new (answer_line a)) (sym same)
         (told_broken true epoch old between new (Some both.told) stopped.1.told refusal stopped.0
         (both_grown old.entries both.between.entries between.entries (both.told ∷ []) (cons_option stopped.1.told []) first (one_grown both.between.entries between.entries put stopped.1.told stopped.1.entered))
         plain going stopped.1.stops name drained)
 
     go : ((is_unrecorded both.told ≡ false) × IsWrittenBy items both.between answer between) ⊎ ((is_unrecorded both.told ≡ true) × (answer ≡ both.told) × (between ≡ both.between))
-        → IsEntered get old both.told both.between → Tells true epoch (Some old) (Some new) (answer_line answer)
+        → IsEntered get old both.told both.between → Hears true epoch old new (answer_line answer)
     go (inl (is, writes)) (inl (recorded, going, stays, follows)) = written is going (one_grown old.entries both.between.entries get (Some both.told) follows) writes.entered
     go (inl (is, writes)) (inr (outside, left)) = absurd (let bad : true ≡ false = sym outside ∙ is in cc)
     go (inr (is, same, stays)) (inl (recorded, going, on, follows)) = absurd (let bad : true ≡ false = sym is ∙ recorded in cc)
@@ -302,40 +314,42 @@ told_both epoch items old between new answer both name drained = go both.written
 
 -- what any put is answered
 told_put : (newest : Bool) (epoch : ℕ) (items : List Item) (old between new : SeatView) (answer : Answer) → IsPut newest items old answer between → between.name.counter ≡ old.name.counter
-    → IsDrained epoch between new → Tells newest epoch (Some old) (Some new) (answer_line answer)
-told_put false epoch items old between new answer h name drained = told_served false epoch old between new (PutAct old.name.client items) answer h name drained
-told_put true epoch items old between new answer h name drained = told_both epoch items old between new answer h name drained
+    → IsDrained epoch between new → Hears newest epoch old new (answer_line answer)
+told_put false epoch items old between new answer h name drained =
+    told_served false epoch old between new (PutAct old.name.client items) answer (served_by (PutAct old.name.client items) old between answer h.operated.entered) name drained
+told_put true epoch items old between new answer h name drained = told_both epoch items old between new answer h.0 name drained
 
 -- what `keep` is answered
 told_keep : (newest : Bool) (epoch keep : ℕ) (old between new : SeatView) (answer : Answer) (there : Bool) → answer ≡ cond there (KeepsMany keep) (Refused NoTenant) → between ≡ old
-    → IsDrained epoch between new → Tells newest epoch (Some old) (Some new) (answer_line answer)
+    → IsDrained epoch between new → Hears newest epoch old new (answer_line answer)
 told_keep newest epoch keep old between new answer true is same drained =
-    subst (λ (a : Answer). Tells newest epoch (Some old) (Some new) (answer_line a)) (sym is) (told_aside newest epoch old between new (KeepsSo keep) refl refl same drained)
+    subst (λ (a : Answer). Hears newest epoch old new (answer_line a)) (sym is) (told_aside newest epoch old between new (KeepsSo keep) refl refl same drained)
 told_keep newest epoch keep old between new answer false is same drained =
-    subst (λ (a : Answer). Tells newest epoch (Some old) (Some new) (answer_line a)) (sym is) (told_aside newest epoch old between new (Refuses None NoTenant) refl refl same drained)
+    subst (λ (a : Answer). Hears newest epoch old new (answer_line a)) (sym is) (told_aside newest epoch old between new (Refuses None NoTenant) refl refl same drained)
 
 -- what any request is answered
 told_answered : (newest : Bool) (epoch tenants : ℕ) (request : Request) (old between new : SeatView) (answer : Answer) → IsAnswered newest tenants request old answer between
-    → between.name.counter ≡ old.name.counter → IsDrained epoch between new → Tells newest epoch (Some old) (Some new) (answer_line answer)
+    → between.name.counter ≡ old.name.counter → IsDrained epoch between new → Hears newest epoch old new (answer_line answer)
 told_answered newest epoch tenants (Hello name client base) old between new answer h counter drained =
-    subst (λ (a : Answer). Tells newest epoch (Some old) (Some new) (answer_line a)) (sym h.0) (told_aside newest epoch old between new (Refuses None Busy) refl refl h.1 drained)
+    subst (λ (a : Answer). Hears newest epoch old new (answer_line a)) (sym h.0) (told_aside newest epoch old between new (Refuses None Busy) refl refl h.1 drained)
 told_answered newest epoch tenants (Put items) old between new answer h counter drained = told_put newest epoch items old between new answer h counter drained
-told_answered newest epoch tenants (Get keys) old between new answer h counter drained = told_served newest epoch old between new (GetAct old.name.client keys) answer h counter drained
-told_answered newest epoch tenants (Find tag) old between new answer h counter drained = told_served newest epoch old between new (FindAct old.name.client tag) answer h counter drained
+told_answered newest epoch tenants (Get keys) old between new answer h counter drained =
+    told_served newest epoch old between new (GetAct old.name.client keys) answer (served_by (GetAct old.name.client keys) old between answer h.operated.entered) counter drained
+told_answered newest epoch tenants (Find tag) old between new answer h counter drained =
+    told_served newest epoch old between new (FindAct old.name.client tag) answer (served_by (FindAct old.name.client tag) old between answer h.operated.entered) counter drained
 told_answered newest epoch tenants (Keep keep) old between new answer h counter drained = told_keep newest epoch keep old between new answer (nat_lt old.name.tenant tenants) h.0 h.1 drained
 told_answered newest epoch tenants Bye old between new answer h counter drained = absurd h
 
--- a refusal, with a seat or without
-pub Tells-cause : (newest : Bool) (epoch : ℕ) (seat : Option SeatView) (cause : Refusal) → Tells newest epoch seat seat (answer_line (Refused cause))
-Tells-cause newest epoch None cause told h = Tells-refused newest epoch cause told h
-Tells-cause newest epoch (Some seat) cause told h = (
+-- a refusal that the seat did not enter, and it stays as it was
+told_cause : (newest : Bool) (epoch : ℕ) (seat : SeatView) (cause : Refusal) → Hears newest epoch seat seat (answer_line (Refused cause))
+told_cause newest epoch seat cause told h = (
   h.0,
   heard_aside newest epoch seat.name.counter seat.name.counter seat.entries seat.entries h.0 told (Refuses None cause) h.1 refl refl refl (λ all left. left),
   h.2,
 )
 
--- nothing is answered
-pub told_drained : (newest : Bool) (epoch : ℕ) (old new : SeatView) → IsDrained epoch old new → Tells newest epoch (Some old) (Some new) []
+-- nothing is answered, and entries are returned
+told_drained : (newest : Bool) (epoch : ℕ) (old new : SeatView) → IsDrained epoch old new → Hears newest epoch old new []
 told_drained newest epoch old new drained told h =
     let same = drained_counter epoch old new drained in (
       h.0,
@@ -352,15 +366,102 @@ told_drained newest epoch old new drained told h =
       λ going. h.2 (sym (drained_stopped epoch old new drained) ∙ going),
     )
 
+-- ---- the same, by what it answered
+
+-- whatever was told of a seat before, this text is told of it after that
+abbrev Says : Bool → ℕ → SeatView → SeatView → List ℕ → Type 0
+Says newest epoch old new text = (told : List ℕ) → IsToldBySeat newest epoch old told → IsToldBySeat newest epoch new (told ++ text)
+
+given_put : (newest : Bool) (items : List Item) (old new : SeatView) (answer : Answer) → IsPut newest items old answer new → AreGiven old → AreGiven new
+given_put false items old new answer put given = given_later max_calls old new put.operated.later given
+given_put true items old new answer put given = given_later (2 * max_calls) old new put.1 given
+
+given_answered : (newest : Bool) (tenants : ℕ) (request : Request) (old new : SeatView) (answer : Answer) → IsAnswered newest tenants request old answer new → AreGiven old → AreGiven new
+given_answered newest tenants (Hello name client base) old new answer h given = subst AreGiven (sym h.1) given
+given_answered newest tenants (Put items) old new answer h given = given_put newest items old new answer h given
+given_answered newest tenants (Get keys) old new answer h given = given_later max_calls old new h.operated.later given
+given_answered newest tenants (Find tag) old new answer h given = given_later max_calls old new h.operated.later given
+given_answered newest tenants (Keep keep) old new answer h given = subst AreGiven (sym h.1) given
+given_answered newest tenants Bye old new answer h given = absurd h
+
+given_next : (newest : Bool) (epoch : ℕ) (old new : SeatView) (answer : Answer) → IsToldNext newest epoch old answer new → AreGiven old → AreGiven new
+given_next newest epoch old new answer (inl (tenants, request, (between, answered, named, drained))) given =
+    given_drained epoch between new drained (given_answered newest tenants request old between answer answered given)
+given_next newest epoch old new answer (inr (cause, is, same)) given = subst AreGiven (sym same) given
+
+named_next : (newest : Bool) (epoch : ℕ) (old new : SeatView) (answer : Answer) → IsToldNext newest epoch old answer new → new.name ≡ old.name
+named_next newest epoch old new answer (inl (tenants, request, (between, answered, named, drained))) = drained_name epoch between new drained ∙ named
+named_next newest epoch old new answer (inr (cause, is, same)) = ap (λ (s : SeatView). s.name) same
+
+-- a line more
+says_next : (newest : Bool) (epoch : ℕ) (old new : SeatView) (answer : Answer) → IsToldNext newest epoch old answer new → Says newest epoch old new (answer_line answer)
+says_next newest epoch old new answer next told h =
+    let line = answer_line answer in
+    let ready = answer_line (Ready h.opened.name.counter) in
+    record {
+      causes = h.causes;
+      opened = h.opened;
+      fresh = h.fresh;
+      session = named_next newest epoch old new answer next ∙ h.session;
+      told = h.told ++ line;
+      since = OneMore old answer new h.told h.since next;
+      spelled = ap (λ (t : List ℕ). t ++ line) h.spelled ∙ append_assoc (refusals_text h.causes) (ready ++ h.told) line ∙ ap (λ (t : List ℕ). refusals_text h.causes ++ t) (append_assoc ready h.told line);
+      given = given_next newest epoch old new answer next h.given;
+    }
+
+-- entries are returned
+says_drained : (newest : Bool) (epoch : ℕ) (old new : SeatView) → IsDrained epoch old new → Says newest epoch old new []
+says_drained newest epoch old new drained told h = record {
+  causes = h.causes;
+  opened = h.opened;
+  fresh = h.fresh;
+  session = drained_name epoch old new drained ∙ h.session;
+  told = h.told;
+  since = Returned old new h.told h.since drained;
+  spelled = append-nil told ∙ h.spelled;
+  given = given_drained epoch old new drained h.given;
+}
+
+-- ---- a seat's answers
+
+tells_both : (newest : Bool) (epoch : ℕ) (old new : SeatView) (text : List ℕ) → Hears newest epoch old new text → Says newest epoch old new text → Tells newest epoch (Some old) (Some new) text
+tells_both newest epoch old new text hears says told h = (hears told h.0, says told h.1)
+
+-- a refusal, with a seat or without
+pub Tells-cause : (newest : Bool) (epoch : ℕ) (seat : Option SeatView) (cause : Refusal) → Tells newest epoch seat seat (answer_line (Refused cause))
+Tells-cause newest epoch None cause = Tells-refused newest epoch cause
+Tells-cause newest epoch (Some seat) cause =
+    tells_both newest epoch seat seat (answer_line (Refused cause)) (told_cause newest epoch seat cause) (says_next newest epoch seat seat (Refused cause) (inr (cause, refl, refl)))
+
 -- whatever a connection's seat answers
 pub answered_by : (newest : Bool) (epoch tenants : ℕ) (request : Request) (old : Option SeatView) (seat new : SeatView) (answer : Answer) → old ≡ Some seat
     → IsAnsweredAndDrained newest epoch tenants request seat answer new → Tells newest epoch old (Some new) (answer_line answer)
 answered_by newest epoch tenants request old seat new answer is answered =
     subst (λ (s : Option SeatView). Tells newest epoch s (Some new) (answer_line answer)) (sym is)
+    (tells_both newest epoch seat new (answer_line answer)
     (told_answered newest epoch tenants request seat answered.0 new answer answered.1 (ap (λ (n : SeatName). n.counter) answered.2) answered.3)
+    (says_next newest epoch seat new answer (inl (tenants, request, answered))))
 
 pub left_by : (newest : Bool) (epoch : ℕ) (old : Option SeatView) (seat new : SeatView) → old ≡ Some seat → IsDrained epoch seat new → Tells newest epoch old (Some new) []
-left_by newest epoch old seat new is drained = subst (λ (s : Option SeatView). Tells newest epoch s (Some new) []) (sym is) (told_drained newest epoch seat new drained)
+left_by newest epoch old seat new is drained =
+    subst (λ (s : Option SeatView). Tells newest epoch s (Some new) []) (sym is) (tells_both newest epoch seat new [] (told_drained newest epoch seat new drained) (says_drained newest epoch seat new drained))
+
+-- ---- the same of the request that asked for it
+
+pub asked_put : (newest : Bool) (tenants : ℕ) (request : Request) (items given : List Item) (old new : SeatView) (answer : Answer) → request ≡ Put items → given ≡ items
+    → IsPut newest given old answer new → IsAnswered newest tenants request old answer new
+asked_put newest tenants request items given old new answer is same served =
+    subst (λ (r : Request). IsAnswered newest tenants r old answer new) (sym is) (subst (λ (xs : List Item). IsPut newest xs old answer new) same served)
+
+pub asked_get : (newest : Bool) (tenants : ℕ) (request : Request) (keys given : List (List ℕ)) (old new : SeatView) (answer : Answer) → request ≡ Get keys → given ≡ keys
+    → IsServed (GetAct old.name.client given) (ReportsGet given) old answer new → IsAnswered newest tenants request old answer new
+asked_get newest tenants request keys given old new answer is same served =
+    subst (λ (r : Request). IsAnswered newest tenants r old answer new) (sym is)
+    (subst (λ (xs : List (List ℕ)). IsServed (GetAct old.name.client xs) (ReportsGet xs) old answer new) same served)
+
+pub asked_find : (newest : Bool) (tenants : ℕ) (request : Request) (tag : List ℕ) (old new : SeatView) (answer : Answer) → request ≡ Find tag
+    → IsServed (FindAct old.name.client tag) (ReportsFind tag) old answer new → IsAnswered newest tenants request old answer new
+asked_find newest tenants request tag old new answer is served = subst (λ (r : Request). IsAnswered newest tenants r old answer new) (sym is) served
 
 -- what was gathered is written
 pub Gathers-emptied : (a b c : Option (List ℕ)) (x y z text : List ℕ) → Gathers a b x y text → Appends b c y → z ≡ [] → Gathers a c x z text
@@ -372,30 +473,35 @@ Gathers-emptied a b c x y z text h adds none = record {
 
 -- ---- the end of a session
 
--- what was reported of a seat, of the transcript that it left
-told_at_end : (newest : Bool) (epoch : ℕ) (seat : Option SeatView) (transcript : Option Transcript) (text : List ℕ) → WasTold newest epoch seat text
-    → option_map (λ (t : Transcript). t.counter) transcript ≡ option_map (λ (s : SeatView). s.name.counter) seat
-    → option_map (λ (t : Transcript). t.entries.items) transcript ≡ option_map (λ (s : SeatView). s.entries) seat
-    → HasTold newest epoch transcript text
-told_at_end newest epoch None None text h counter entries = h
-told_at_end newest epoch None (Some t) text h counter entries = absurd cc
-told_at_end newest epoch (Some s) None text h counter entries = absurd cc
-told_at_end newest epoch (Some s) (Some t) text h counter entries =
-    let same : s.name.counter ≡ t.counter = cc in
-    let left : s.entries ≡ t.entries.items = cc in
-    (h.0, subst (λ (n : ℕ). HasHeard newest epoch n t.entries.items h.0 text) same (subst (λ (es : List Entry). HasHeard newest epoch s.name.counter es h.0 text) left h.1))
+-- what was reported of a seat, of what it left
+told_at_end : (newest : Bool) (epoch : ℕ) (seat : Option SeatView) (left : Option SessionLeft) (text : List ℕ) → WasTold newest epoch seat text → IsOfSeat 0 seat left → HasTold newest epoch left text
+told_at_end newest epoch None left text h none = subst (λ (l : Option SessionLeft). HasTold newest epoch l text) (sym none) h
+told_at_end newest epoch (Some seat) left text h (its, is, named, entries, seen) =
+    let heard = h.0 in
+    let all : its.0.entries.items ≡ seat.entries = entries refl in
+    subst (λ (l : Option SessionLeft). HasTold newest epoch l text) (sym is)
+    (record {
+      unheard = heard.0;
+      heard = subst (λ (n : ℕ). HasHeard newest epoch n its.0.entries.items heard.0 text) (sym named.counter) (subst (λ (es : List Entry). HasHeard newest epoch seat.name.counter es heard.0 text) (sym all) heard.1);
+      seat = seat;
+      its = named;
+      entries = all;
+      seen = seen;
+      answered = h.1;
+    })
 
--- the transcript is that of this seat, or there is neither
-pub record IsLeftIn (seat : Option SeatView) (transcript : Option Transcript) : Type 0 where
-  pub counter : option_map (λ (t : Transcript). t.counter) transcript ≡ option_map (λ (s : SeatView). s.name.counter) seat
-  pub entries : option_map (λ (t : Transcript). t.entries.items) transcript ≡ option_map (λ (s : SeatView). s.entries) seat
+-- each reply in the transcript has its place in what the seat has seen
+left_given : (newest : Bool) (epoch : ℕ) (seat : Option SeatView) (left : Option SessionLeft) (text : List ℕ) → WasTold newest epoch seat text → IsOfSeat 0 seat left → IfSome left (λ its. IsGivenIn its.1 its.0)
+left_given newest epoch None left text h none = subst (λ (l : Option SessionLeft). IfSome l (λ its. IsGivenIn its.1 its.0)) (sym none) tt
+left_given newest epoch (Some seat) left text h (its, is, named, entries, seen) =
+    subst (λ (l : Option SessionLeft). IfSome l (λ its. IsGivenIn its.1 its.0)) (sym is) (given_at_end seat its.0 its.1 named (entries refl) seen h.1.given)
 
 -- the whole of a session
-pub writes : (newest : Bool) (epoch : ℕ) (seat : Option SeatView) (transcript : Option Transcript) (a b c : Option (List ℕ)) (gathered text last : List ℕ)
-    → Gathers a b [] gathered text → Tells newest epoch None seat text → IsLastLine last → Appends b c (gathered ++ last) → IsLeftIn seat transcript
-    → IsWritten newest epoch transcript a c
-writes newest epoch seat transcript a b c gathered text last h tells is adds end =
-    (text, last, told_at_end newest epoch seat transcript text (tells [] ([], refl)) end.counter end.entries, is, Gathers-end a b c gathered text last h adds)
+pub writes : (newest : Bool) (epoch : ℕ) (seat : Option SeatView) (left : Option SessionLeft) (a b c : Option (List ℕ)) (gathered text last : List ℕ)
+    → Gathers a b [] gathered text → Tells newest epoch None seat text → IsLastLine last → Appends b c (gathered ++ last) → IsOfSeat 0 seat left
+    → IsWritten newest epoch left a c
+writes newest epoch seat left a b c gathered text last h tells is adds end =
+    (text, last, told_at_end newest epoch seat left text (tells [] ([], refl)) end, is, Gathers-end a b c gathered text last h adds)
 
 -- ---- what is gathered, and what it reports
 
@@ -427,19 +533,15 @@ told_after newest epoch (Err e) a b c x y z first next last told more = tt
 -- ---- the whole of a session
 
 -- whether its last lines were written
-pub session_written : {A E : Type 0} (newest : Bool) (epoch : ℕ) (r : Result A E) (seat : Option SeatView) (transcript : Option Transcript) (a b c : Option (List ℕ)) (gathered : List ℕ)
-    → ToldSo newest epoch a b [] gathered None seat → OnOk r ((last : List ℕ) × IsLastLine last × Appends b c (gathered ++ last)) → IsLeftIn seat transcript
-    → IfOk r (λ done. IsWritten newest epoch transcript a c)
-session_written newest epoch (Ok done) seat transcript a b c gathered told ended end = writes newest epoch seat transcript a b c gathered told.0 ended.0 told.1 told.2 ended.1 ended.2 end
-session_written newest epoch (Err e) seat transcript a b c gathered told ended end = tt
+pub session_written : {A E : Type 0} (newest : Bool) (epoch : ℕ) (r : Result A E) (seat : Option SeatView) (left : Option SessionLeft) (a b c : Option (List ℕ)) (gathered : List ℕ)
+    → ToldSo newest epoch a b [] gathered None seat → OnOk r ((last : List ℕ) × IsLastLine last × Appends b c (gathered ++ last)) → IsOfSeat 0 seat left
+    → IfOk r (λ done. IsWritten newest epoch left a c)
+session_written newest epoch (Ok done) seat left a b c gathered told ended end = writes newest epoch seat left a b c gathered told.0 ended.0 told.1 told.2 ended.1 ended.2 end
+session_written newest epoch (Err e) seat left a b c gathered told ended end = tt
 
-pub named : (transcript : Option Transcript) (seat : Option SeatView) (names : List (List ℕ)) → option_map (λ t. t.tenant) transcript ≡ seat_tenant seat → IsSeated seat names
-    → IfSome transcript (λ t. HasName names t.tenant)
-named None seat names same h = tt
-named (Some t) None names same h = absurd cc
-named (Some t) (Some s) names same h =
-    let tenant : s.name.tenant ≡ t.tenant = cc in
-    subst (HasName names) tenant h
+pub named : (left : Option SessionLeft) (seat : Option SeatView) (names : List (List ℕ)) → IsOfSeat 0 seat left → IsSeated seat names → IfSome left (λ its. HasName names its.0.tenant)
+named left None names none h = subst (λ (l : Option SessionLeft). IfSome l (λ its. HasName names its.0.tenant)) (sym none) tt
+named left (Some seat) names (its, is, name, entries, seen) h = subst (λ (l : Option SessionLeft). IfSome l (λ its. HasName names its.0.tenant)) (sym is) (subst (HasName names) (sym name.tenant) h)
 
 -- where a write went well, what was gathered is written
 pub flushed : {A E : Type 0} (r : Result A E) (a b : Option (List ℕ)) (x z : List ℕ) → OnOk r (Appends a b x) → z ≡ [] → OnOk r (Gathers a b x z [])
@@ -472,27 +574,36 @@ begun_after newest epoch (Ok done) a b c x y first next last told breaks = tt
 begun_after newest epoch (Err e) a b c x y first next last told breaks = breaks_after newest epoch a b c x y first next last told breaks
 
 -- the whole of a session that breaks off
-pub session_begun : (newest : Bool) (epoch : ℕ) (seat : Option SeatView) (transcript : Option Transcript) (a b : Option (List ℕ)) → BreaksTelling newest epoch None seat a b [] → IsLeftIn seat transcript
-    → IsBegun newest epoch transcript a b
-session_begun newest epoch seat transcript a b h end = (
+pub session_begun : (newest : Bool) (epoch : ℕ) (seat : Option SeatView) (left : Option SessionLeft) (a b : Option (List ℕ)) → BreaksTelling newest epoch None seat a b [] → IsOfSeat 0 seat left
+    → IsBegun newest epoch left a b
+session_begun newest epoch seat left a b h end = (
   h.0,
   [],
   h.1,
-  told_at_end newest epoch seat transcript h.0 (h.2 [] ([], refl)) end.counter end.entries,
+  told_at_end newest epoch seat left h.0 (h.2 [] ([], refl)) end,
   inl refl,
   subst (λ (l : List ℕ). Appends a b (take h.1 l)) (sym (append-nil h.0)) h.3,
 )
 
+-- so of what was gathered, and where it breaks off
+pub given_gathered : (newest : Bool) (epoch : ℕ) (seat : Option SeatView) (left : Option SessionLeft) (a b : Option (List ℕ)) (gathered : List ℕ) → ToldSo newest epoch a b [] gathered None seat → IsOfSeat 0 seat left
+    → IfSome left (λ its. IsGivenIn its.1 its.0)
+given_gathered newest epoch seat left a b gathered told end = left_given newest epoch seat left told.0 (told.2 [] ([], refl)) end
+
+pub given_broken : (newest : Bool) (epoch : ℕ) (seat : Option SeatView) (left : Option SessionLeft) (a b : Option (List ℕ)) → BreaksTelling newest epoch None seat a b [] → IsOfSeat 0 seat left
+    → IfSome left (λ its. IsGivenIn its.1 its.0)
+given_broken newest epoch seat left a b broken end = left_given newest epoch seat left broken.0 (broken.2 [] ([], refl)) end
+
 -- the same where its last line could not be written
-pub session_broken : {A E : Type 0} (newest : Bool) (epoch : ℕ) (r : Result A E) (seat : Option SeatView) (transcript : Option Transcript) (a b c : Option (List ℕ)) (gathered : List ℕ)
+pub session_broken : {A E : Type 0} (newest : Bool) (epoch : ℕ) (r : Result A E) (seat : Option SeatView) (left : Option SessionLeft) (a b c : Option (List ℕ)) (gathered : List ℕ)
     → ToldSo newest epoch a b [] gathered None seat → IfErr r (λ fault. (last : List ℕ) × (n : ℕ) × IsLastLine last × Appends b c (take n (gathered ++ last)))
-    → IsLeftIn seat transcript → IfErr r (λ fault. IsBegun newest epoch transcript a c)
-session_broken newest epoch (Ok done) seat transcript a b c gathered told ended end = tt
-session_broken newest epoch (Err e) seat transcript a b c gathered told ended end = (
+    → IsOfSeat 0 seat left → IfErr r (λ fault. IsBegun newest epoch left a c)
+session_broken newest epoch (Ok done) seat left a b c gathered told ended end = tt
+session_broken newest epoch (Err e) seat left a b c gathered told ended end = (
   told.0,
   ended.0,
   length told.1.written + ended.1,
-  told_at_end newest epoch seat transcript told.0 (told.2 [] ([], refl)) end.counter end.entries,
+  told_at_end newest epoch seat left told.0 (told.2 [] ([], refl)) end,
   ended.2,
   begins_behind_gathered a b c [] gathered told.0 ended.0 ended.1 told.1 ended.3,
 )

@@ -14,6 +14,7 @@ use Rattle.server_sessions.specs.declared.line_session.SessionEnd.{SessionEnd}
 use Rattle.server_sessions.specs.declared.line_session.SessionEnd.TheVariants.{Unread}
 use Rattle.server_sessions.specs.Answering.{GoesOnBehind, IsLineAnswered, refused_as}
 use Rattle.server_sessions.specs.Answered.{EndsBefore, StaysBehind}
+use Rattle.server_sessions.specs.Promised.{AnswersLine, EndsAtLine}
 use Rattle.server_sessions.specs.Telling.{Tells}
 use Rattle.server_sessions.proofs.ToldOf.{Tells-cause, Tells-same}
 
@@ -53,3 +54,16 @@ unread_ends (Some ending) options seat line refusal refuses (is, strict, none, b
 pub unread_left : (r : Option SessionEnd) (epoch : ℕ) (old new : Option SeatView) → new ≡ old → IfSome r (λ ending. StaysBehind epoch old new)
 unread_left None epoch old new same = tt
 unread_left (Some ending) epoch old new same = inl same
+
+-- ---- all of that
+
+pub unread_line : (r : Option SessionEnd) (options : SessionOptions) (hub : ConfigView) (names : List (List ℕ)) (line : List ℕ) (old : Option SeatView) (answer : Answer) (new : Option SeatView)
+    → IfNone r (Tells options.newest hub.epoch old new (answer_line answer)) → IfNone r (IsLineAnswered options hub names line old answer new) → IfNone r (GoesOnBehind options old line)
+    → IfNone r (AnswersLine options hub names line old answer new)
+unread_line (Some ending) options hub names line old answer new told is goes_on = tt
+unread_line None options hub names line old answer new told is goes_on = record { told = told; line = is; goes_on = goes_on }
+
+pub unread_at : (r : Option SessionEnd) (options : SessionOptions) (hub : ConfigView) (line : List ℕ) (old new : Option SeatView) → IfSome r (λ ending. Tells options.newest hub.epoch old new [])
+    → IfSome r (λ ending. EndsBefore options old ending line) → IfSome r (λ ending. StaysBehind hub.epoch old new) → IfSome r (λ ending. EndsAtLine options hub line old new ending)
+unread_at None options hub line old new untold ends left = tt
+unread_at (Some ending) options hub line old new untold ends left = record { untold = untold; ends = ends; left = left }

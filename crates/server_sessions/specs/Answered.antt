@@ -4,7 +4,6 @@ use Rattle.std.specs.Io.KnownBytes.{Appends}
 use Rattle.plain_store.specs.declared.refusal.Refusal.TheVariants.{OutOfMemory}
 use Rattle.plain_store.specs.declared.answer.Answer.{Answer}
 use Rattle.plain_store.specs.declared.answer.Answer.TheVariants.{Refused}
-use Rattle.closed_store.specs.declared.transcript.Transcript.{Transcript}
 use Rattle.hub.specs.Hubs.{ConfigView}
 use Rattle.hub.specs.Seats.{IsNamed, SeatView}
 use Rattle.line_protocol.specs.AnswerSpelling.{answer_line}
@@ -18,7 +17,8 @@ use Rattle.server_sessions.specs.declared.line_session.SessionEnd.{SessionEnd}
 use Rattle.server_sessions.specs.declared.line_session.SessionEnd.TheVariants.{Silent, Bye as SaysBye, Unread}
 use Rattle.server_sessions.specs.declared.line_session.SessionEnd.TheVariants.{Refused as IsRefused}
 use Rattle.server_sessions.specs.Answering.{GoesOnBehind, IsLineAnswered, last_line}
-use Rattle.server_sessions.specs.Telling.{IsDrained, IsLastLine}
+use Rattle.server_sessions.specs.SeatAnswers.{IsDrained}
+use Rattle.server_sessions.specs.Telling.{IsLastLine, SessionLeft}
 
 -- The text answers these lines, one after the other, of a connection that has this seat, or none, and the last one
 -- behind them. It goes on behind each.
@@ -107,16 +107,18 @@ pub record BreaksOffIn (options : SessionOptions) (hub : ConfigView) (names : Li
   pub answers : AnswersUpTo options hub names first last bytes left text
   pub written : Appends old new (take size (before ++ text))
 
--- the transcript is that of the seat, with its entries where none were returned; or there is neither
-abbrev pub IsOfSeat : ℕ → Option SeatView → Option Transcript → Type 0
-IsOfSeat epoch None transcript = transcript ≡ None
-IsOfSeat epoch (Some seat) transcript =
-    (its : Transcript) × (transcript ≡ Some its) × IsNamed its seat.name × (epoch ≡ 0 → its.entries.items ≡ seat.entries)
+-- what is left is of the seat: its transcript, with its entries where none were returned, and the history that it has
+-- seen; or there is neither
+abbrev pub IsOfSeat : ℕ → Option SeatView → Option SessionLeft → Type 0
+IsOfSeat epoch None left = left ≡ None
+IsOfSeat epoch (Some seat) left =
+    (its : SessionLeft) × (left ≡ Some its) × IsNamed its.0 seat.name
+    × (epoch ≡ 0 → its.0.entries.items ≡ seat.entries) × (its.1 ≡ seat.seen)
 
--- What a session over this input wrote that left this transcript, or none: each line of a prefix of the input was
+-- What a session over this input wrote that left this, or opened no seat: each line of a prefix of the input was
 -- answered in its turn, by the tenant that its hello named; and then comes the last line.
 pub record HasAnswered (options : SessionOptions) (hub : ConfigView) (names : List (List ℕ)) (input : List ℕ)
-    (transcript : Option Transcript) (old new : Option (List ℕ)) : Type 0 where
+    (its : Option SessionLeft) (old new : Option (List ℕ)) : Type 0 where
   pub front : List ℕ
   pub left : List ℕ
   pub whole : input ≡ front ++ left
@@ -125,20 +127,20 @@ pub record HasAnswered (options : SessionOptions) (hub : ConfigView) (names : Li
   pub answers : AnswersLines options hub names seat None (lines_of front) text
   pub ending : SessionEnd
   pub ends : EndsFor options seat ending left text
-  pub left_behind : IsOfSeat hub.epoch seat transcript
+  pub left_behind : IsOfSeat hub.epoch seat its
   pub written : Appends old new (text ++ last_line ending)
 
--- What a session over this input wrote that ended by a fault and left this transcript, or none: a beginning of the
+-- What a session over this input wrote that ended by a fault and left this, or opened no seat: a beginning of the
 -- answers to the lines of a prefix of the input, each in its turn, and of a last line.
 pub record HasAnsweredSome (options : SessionOptions) (hub : ConfigView) (names : List (List ℕ)) (input : List ℕ)
-    (transcript : Option Transcript) (old new : Option (List ℕ)) : Type 0 where
+    (its : Option SessionLeft) (old new : Option (List ℕ)) : Type 0 where
   pub front : List ℕ
   pub left : List ℕ
   pub whole : input ≡ front ++ left
   pub seat : Option SeatView
   pub text : List ℕ
   pub answers : AnswersLines options hub names seat None (lines_of front) text
-  pub left_behind : IsOfSeat hub.epoch seat transcript
+  pub left_behind : IsOfSeat hub.epoch seat its
   pub last : List ℕ
   pub is_last : IsLastLine last
   pub size : ℕ

@@ -17,7 +17,7 @@ use Rattle.server_sessions.specs.declared.session_options.SessionOptions.{Sessio
 use Rattle.server_sessions.specs.declared.line_session.SessionEnd.{SessionEnd}
 use Rattle.server_sessions.specs.declared.line_session.SessionEnd.TheVariants.{Silent, Bye as SaysBye, Unread}
 use Rattle.server_sessions.specs.declared.line_session.SessionEnd.TheVariants.{Refused as IsRefused}
-use Rattle.server_sessions.specs.Telling.{IsAnsweredAndDrained}
+use Rattle.server_sessions.specs.SeatAnswers.{IsAnsweredAndDrained}
 
 -- ---- while there is no seat
 

@@ -1,4 +1,6 @@
 pub mod Counting
+pub mod SeatAnswers
+pub mod Histories
 pub mod Telling
 pub mod Answering
 pub mod Answered

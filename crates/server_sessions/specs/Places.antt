@@ -1,7 +1,10 @@
 -- The places of a server's connections, and how many are still to be begun.
-use Rattle.std.specs.Prelude.{◌≡◌, ◌⊎◌, ◌≤◌, ◌+◌, ◌-◌, ◌^◌, ◌++◌, ◌∷◌, [], ℕ, true, List, Option, None, IsSome, All, count_by, is_some, min, vec_capacity, vec_len}
+use Rattle.std.specs.Prelude.{◌≡◌, ◌⊎◌, ◌≤◌, ◌+◌, ◌-◌, ◌^◌, ◌++◌, ◌∷◌, [], ℕ, false, true, List, Option, None, IsSome, All, count_by, is_some, min, vec_capacity, vec_len}
 use Rattle.std.specs.Option.{option_map}
+use Rattle.std.specs.Global.{Vec}
 use Rattle.closed_store.specs.declared.transcript.Transcript.{Transcript}
+use Rattle.history.specs.declared.rule.Naming.{Ghosts}
+use Rattle.server_sessions.specs.declared.served.Left.{Left}
 use Rattle.server_sessions.specs.declared.served.ServedConnections.{ServedConnections}
 
 -- each place has a connection
@@ -25,15 +28,38 @@ abbrev pub one_more : Option ℕ → Option ℕ
 one_more = option_map (λ left. min (left + 1) (2 ^ 32 - 1))
 
 -- what is reported of a server at its end is the same
-pub record LeavesTheSame (old new : ServedConnections) : Type 0 where
-  pub transcripts : new.transcripts ≡ old.transcripts
+pub record LeavesTheSame {G : Type 0} {naming : Ghosts G} (old new : ServedConnections G naming) : Type 0 where
+  pub transcripts : new.kept.transcripts ≡ old.kept.transcripts
   pub failed : new.has_failed ≡ old.has_failed
   pub refused : new.has_refused ≡ old.has_refused
   pub lost : new.has_lost ≡ old.has_lost
 
 -- A transcript stands behind those before, or, where the list has no room for it, it is reported that one was lost.
-abbrev pub IsKeptOrLost : Transcript → ServedConnections → ServedConnections → Type 0
+abbrev pub IsKeptOrLost : {G : Type 0} {naming : Ghosts G} → Transcript → ServedConnections G naming
+    → ServedConnections G naming → Type 0
 IsKeptOrLost transcript old new =
-    ((new.transcripts.items ≡ old.transcripts.items ++ transcript ∷ []) × (new.has_lost ≡ old.has_lost))
-    ⊎ ((new.transcripts.items ≡ old.transcripts.items) × (new.has_lost ≡ true)
-    × (vec_capacity old.transcripts ≤ vec_len old.transcripts))
+    ((new.kept.transcripts.items ≡ old.kept.transcripts.items ++ transcript ∷ []) × (new.has_lost ≡ old.has_lost))
+    ⊎ ((new.kept.transcripts.items ≡ old.kept.transcripts.items) × (new.has_lost ≡ true)
+    × (vec_capacity old.kept.transcripts ≤ vec_len old.kept.transcripts))
+
+-- so many places, each free; so many connections are still to be begun; and these transcripts were left before
+pub record ServesNone {G : Type 0} {naming : Ghosts G} (count : ℕ) (more : Option ℕ) (before : Vec Transcript)
+    (served : ServedConnections G naming) : Type 0 where
+  pub places : (vec_len served.places ≡ count) × AreFree served.places.items
+  pub left : (served.left ≡ more) × (served.begun ≡ 0)
+  pub transcripts : served.kept.transcripts ≡ before
+  pub well : (served.has_failed ≡ false) × (served.has_refused ≡ false) × (served.has_lost ≡ false)
+
+-- what a server left whose connections were these
+pub record IsLeftOf {G : Type 0} {naming : Ghosts G} (served : ServedConnections G naming) (left : Left G naming) : Type 0 where
+  pub transcripts : left.kept.transcripts ≡ served.kept.transcripts
+  pub failed : left.has_failed ≡ served.has_failed
+  pub refused : left.has_refused ≡ served.has_refused
+  pub lost : left.has_lost ≡ served.has_lost
+
+-- the same connections are served, as many are to be begun, and the same transcripts are kept
+pub record StaysServed {G : Type 0} {naming : Ghosts G} (old new : ServedConnections G naming) : Type 0 where
+  pub places : new.places ≡ old.places
+  pub left : new.left ≡ old.left
+  pub begun : new.begun ≡ old.begun
+  pub transcripts : new.kept.transcripts ≡ old.kept.transcripts

@@ -1,7 +1,10 @@
--- At which port a server listens, how many connections it serves, and how its sessions are answered.
-use Rattle.std.specs.Prelude.{◌≡◌, ◌⊎◌, ℕ, Bool}
+-- At which port a server listens, how many connections it serves, how its sessions are answered, and what is kept of them.
+use Rattle.std.specs.Prelude.{◌≡◌, ◌⊎◌, ℕ, Bool, List}
 use Rattle.std.specs.Net.Socket.{socket_port}
+use Rattle.history.specs.declared.rule.Naming.{Ghosts}
 use Rattle.server_sessions.specs.declared.answer_counts.AnswerCounts.{AnswerCounts}
+use Rattle.closed_store.specs.declared.transcript.Transcript.{Transcript}
+use Rattle.server_sessions.specs.declared.kept_transcripts.KeptTranscripts.{KeptTranscripts}
 use Rattle.server_sessions.specs.declared.listener.Listener.{Listener}
 use Rattle.server_sessions.specs.declared.session_count.SessionCount.{SessionCount}
 use Rattle.server_sessions.specs.declared.session_options.SessionOptions.{SessionOptions}
@@ -16,25 +19,35 @@ abbrev pub IsPortFor : ℕ → ℕ → Type 0
 IsPortFor asked port = (asked ≡ 0) ⊎ (port ≡ asked)
 
 -- where a server's connections come from
-abbrev pub listener_of : {L : Type 0} → Server L → L
+abbrev pub listener_of : {L G : Type 0} {naming : Ghosts G} → Server L G naming → L
 listener_of server = server.listener
 
 -- how the lines of its sessions are answered
-abbrev pub options_of : {L : Type 0} → Server L → SessionOptions
+abbrev pub options_of : {L G : Type 0} {naming : Ghosts G} → Server L G naming → SessionOptions
 options_of server = server.options
 
 -- how many connections it serves at a time
-abbrev pub most_of : {L : Type 0} → Server L → ℕ
+abbrev pub most_of : {L G : Type 0} {naming : Ghosts G} → Server L G naming → ℕ
 most_of server = server.sessions
 
 -- its connections are not counted: it stays until it is asked to end
-abbrev pub stays_of : {L : Type 0} → Server L → Bool
+abbrev pub stays_of : {L G : Type 0} {naming : Ghosts G} → Server L G naming → Bool
 stays_of server = server.stays
 
 -- where the answers of its sessions are counted
-abbrev pub answers_of : {L : Type 0} → Server L → AnswerCounts
+abbrev pub answers_of : {L G : Type 0} {naming : Ghosts G} → Server L G naming → AnswerCounts
 answers_of server = server.answers
 
 -- where its sessions are counted
-abbrev pub count_of : {L : Type 0} → Server L → SessionCount
+abbrev pub count_of : {L G : Type 0} {naming : Ghosts G} → Server L G naming → SessionCount
 count_of server = server.count
+
+-- a server of so many connections at a time that come from there, and whether it stays
+pub record IsServerOf {L G : Type 0} {naming : Ghosts G} (source : L) (count : ℕ) (does_stay : Bool) (server : Server L G naming) : Type 0 where
+  pub listener : listener_of server ≡ source
+  pub most : most_of server ≡ count
+  pub stays : stays_of server ≡ does_stay
+
+-- the transcripts that are kept
+abbrev pub transcripts_of : {G : Type 0} {naming : Ghosts G} → KeptTranscripts G naming → List Transcript
+transcripts_of kept = kept.transcripts.items

@@ -5,7 +5,7 @@ ghost use Rattle.plain_store.specs.declared.refusal.Refusal.TheVariants.{NoTenan
 ghost use Rattle.line_protocol.specs.declared.request.Request.TheVariants.{Bye};
 ghost use Rattle.line_protocol.specs.AnswerSpelling.{answer_line};
 ghost use Rattle.server_sessions.specs.Counting.{counted_as, kind_of};
-ghost use Rattle.server_sessions.specs.Telling.{IsAnswered, IsPut};
+ghost use Rattle.server_sessions.specs.SeatAnswers.{IsAnswered, IsPut};
 
 use crate::answer_counts::{AnswerCounts, Counted};
 use bytes::BytesMut;

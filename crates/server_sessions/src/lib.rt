@@ -3,6 +3,7 @@
 
 mod answer_counts;
 mod given;
+mod kept_transcripts;
 mod line_session;
 mod listener;
 mod peer;
@@ -13,7 +14,8 @@ mod session_count;
 mod session_options;
 
 pub use answer_counts::AnswerCounts;
-pub use line_session::{run_session, run_session_as};
+pub use kept_transcripts::KeptTranscripts;
+pub use line_session::{SessionLeft, run_session, run_session_as};
 pub use listener::{Accept, Listener};
 pub use served::{Connections, Left};
 pub use server::Server;

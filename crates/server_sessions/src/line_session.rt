@@ -1,5 +1,5 @@
 //! A session: the lines of one connection, answered by a running store.
-ghost use Rattle.std.specs.Prelude.{◌≡◌, ◌+◌, ◌<◌, ◌≤◌, ◌++◌, true, false, length, take, ℕ, List, [], ◌↔◌, Some, None, IfSome, IfNone, IsSome, IsTrue, IfOk, IfErr, OnOk};
+ghost use Rattle.std.specs.Prelude.{◌≡◌, ◌+◌, ◌<◌, ◌≤◌, ◌++◌, true, false, length, take, ℕ, List, [], ◌↔◌, Option, Some, None, IfSome, IfNone, IsSome, IsTrue, IfOk, IfErr, OnOk};
 ghost use Rattle.std.specs.Option.{option_map};
 ghost use Rattle.std.specs.Io.KnownBytes.{Appends, Keeps};
 ghost use Rattle.plain_store.specs.declared.answer.Answer.TheVariants.{Ready, Refused};
@@ -8,18 +8,19 @@ ghost use Rattle.line_protocol.specs.declared.request.Request.TheVariants.{Bye};
 ghost use Rattle.line_protocol.specs.AnswerSpelling.{answer_line};
 ghost use Rattle.line_protocol.specs.Stream.{HasNoLineFeed, IsLine, terminated};
 ghost use Rattle.line_runs.specs.RunAnswers.{Gathers};
-ghost use Rattle.server_sessions.specs.Answered.{BreaksOffIn, EndsBefore, IsOfSeat, StaysBehind, TakesBytes, TakesInput};
+ghost use Rattle.server_sessions.specs.Answered.{BreaksOffIn, IsOfSeat, StaysBehind, TakesBytes, TakesInput};
 ghost use Rattle.server_sessions.specs.declared.line_session.SessionEnd.TheVariants.{Unread};
-ghost use Rattle.server_sessions.specs.Answering.{GoesOnBehind, IsAnsweredBy, IsEndOfInput, IsGreeted, IsLineAnswered, last_line, no_options, refused_as};
+ghost use Rattle.server_sessions.specs.Answering.{IsAnsweredBy, IsEndOfInput, IsGreeted, last_line, no_options, refused_as};
 ghost use Rattle.server_sessions.specs.Counting.{counted_as, counted_last, if_counts, kind_of};
-ghost use Rattle.server_sessions.specs.Promised.{HasRun, KeepsTelling, MayAnswer};
-ghost use Rattle.server_sessions.specs.Telling.{IsAnsweredAndDrained, IsDrained, IsLastLine, IsSeated, Tells, seat_tenant};
+ghost use Rattle.server_sessions.specs.Promised.{AnswersLine, EndsAtLine, HasRun, KeepsTelling, MayAnswer};
+ghost use Rattle.server_sessions.specs.SeatAnswers.{IsAnsweredAndDrained, IsDrained};
+ghost use Rattle.server_sessions.specs.Telling.{IsLastLine, IsSeated, SessionLeft as LeftBehind, Tells};
 
 use crate::answer_counts::{AnswerCounts, Counted};
 use crate::given::{Given, ask_seat, put_answer, tell_refusal};
 use crate::session_options::SessionOptions;
 use bytes::BytesMut;
-use hub::{Gate, Hub, Naming, Seat, Transcript};
+use hub::{Front, Gate, Hub, Naming, Seat, Transcript};
 use line_protocol::{
     LINE_LIMIT, Lines, Name, Request, read_serve_line, tenant_number, write_bye, write_refusal,
 };
@@ -29,6 +30,9 @@ use stamps::{Client, Counter, Item, Keep};
 use std::alloc::Global;
 use std::io::{Read, Write};
 use std::sync::Wait;
+
+/// What a session left that opened a seat: its transcript, and what the seat has seen of the store's history at last.
+pub type SessionLeft<G> = (Transcript, Front<G>);
 
 /// By which names the tenants go, how lines are answered, and where the answers are counted.
 #[derive(Clone, Copy)]
@@ -71,17 +75,26 @@ pub fn run_session<'s, G: Gate + Naming, H: Wait, R: Read, W: Write>(
     reader: &mut R,
     writer: &mut W,
 ) -> (Option<Transcript>, Result<(), RunFault>)
-    ensures { HasRun no_options hub.now names.now (R.remaining reader.old)
-        (W.contents writer.old) (W.contents writer.new) result.0 result.1 }
+    ensures { (left : Option LeftBehind) × (result.0 ≡ option_map (λ its. its.0) left)
+        × HasRun no_options hub.now names.now (R.remaining reader.old)
+        (W.contents writer.old) (W.contents writer.new) left result.1 }
 {
     let options = SessionOptions {
         strict: false,
         newest: false,
     };
-    let (transcript, ended, _) = run_session_as(
-        rt, alloc, hub, names, options, None, reader, writer,
-    );
-    (transcript, ended)
+    let (left, ended, _) = run_session_as(rt, alloc, hub, names, options, None, reader, writer);
+    (transcript_of(left), ended)
+}
+
+// The transcript of a session's seat, if it opened one.
+fn transcript_of<G: Naming>(left: Option<SessionLeft<G>>) -> Option<Transcript>
+    ensures { result ≡ option_map (λ its. its.0) left }
+{
+    match left {
+        Some((transcript, _)) => Some(transcript),
+        None => None,
+    }
 }
 
 /// Answers the lines of one connection by the tenants of a running store, which go by these names, until the session
@@ -98,8 +111,9 @@ pub fn run_session<'s, G: Gate + Naming, H: Wait, R: Read, W: Write>(
 ///
 /// Where counts are given, each answer is counted there before it is written.
 ///
-/// Beside what the session came to stands the transcript of its seat, and `None` where none was opened; and behind both, where
-/// its answers were counted. The fault is
+/// Beside what the session came to stands the transcript of its seat with what that has seen of the store's history, and `None`
+/// where none was opened; and behind both, where its answers were counted. What was written is what the seat answered: each
+/// reply that it took has its place in that history, whether journals are cut or not. The fault is
 /// `Read` where a read failed, `ReadsUsed` after 2^62 reads, and `Write` where a write or a flush failed or a write took no
 /// byte: nothing is read or written then, and no line is answered. `OutOfMemory` comes before anything is read.
 pub fn run_session_as<'s, G: Gate + Naming, H: Wait, R: Read, W: Write>(
@@ -112,7 +126,7 @@ pub fn run_session_as<'s, G: Gate + Naming, H: Wait, R: Read, W: Write>(
     reader: &mut R,
     writer: &mut W,
 ) -> (
-    Option<Transcript>,
+    Option<SessionLeft<G>>,
     Result<(), RunFault>,
     Option<&'s AnswerCounts>,
 )
@@ -135,28 +149,26 @@ pub fn run_session_as<'s, G: Gate + Naming, H: Wait, R: Read, W: Write>(
     };
     let ended = answer_lines(rt, hub, &mut connection, &mut out, reader, writer);
     let counts = connection.terms.counts;
-    let transcript = end_seat(rt, connection.seat);
+    let left = end_seat(rt, connection.seat);
     match ended {
         Ok(ending) => {
             let counted = count_last(ending, counts);
             let ended = finish(ending, counts, counted, &mut out, writer);
-            (transcript, ended, counts)
+            (left, ended, counts)
         }
-        Err(fault) => (transcript, Err(fault), counts),
+        Err(fault) => (left, Err(fault), counts),
     }
 }
 
 // Ends the seat, if one was opened.
-fn end_seat<G: Gate + Naming, H: Wait>(rt: &H, seat: Option<Seat<'_, G>>) -> Option<Transcript>
-    ensures counter { option_map (λ t. t.counter) result
-        ≡ option_map (λ s. s.name.counter) seat.entry }
-    ensures entries { option_map (λ t. t.entries.items) result
-        ≡ option_map (λ s. s.entries) seat.entry }
-    ensures tenant { option_map (λ t. t.tenant) result ≡ seat_tenant seat.entry }
-    ensures whole { IsOfSeat 0 seat.entry result }
+fn end_seat<G: Gate + Naming, H: Wait>(rt: &H, seat: Option<Seat<'_, G>>) -> Option<SessionLeft<G>>
+    ensures { IsOfSeat 0 seat.entry result }
 {
     match seat {
-        Some(seat) => Some(seat.end(rt)),
+        Some(seat) => {
+            let seen = seat.seen();
+            Some((seat.end(rt), seen))
+        }
         None => None,
     }
 }
@@ -437,19 +449,11 @@ impl<'s, G: Gate + Naming> Connection<'s, G> {
         requires tenant { IsSeated self.old.seat self.old.terms.names.now }
         ensures terms { self.new.terms ≡ self.old.terms }
         ensures tenant { IsSeated self.new.seat self.new.terms.names.now }
-        ensures told { IfNone result
-            (Tells self.old.terms.options.newest hub.now.epoch self.old.seat self.new.seat
-            (answer_line self.new.answer)) }
-        ensures line { let terms = self.old.terms in
-            IfNone result (IsLineAnswered terms.options hub.now terms.names.now line.now
+        ensures answered { let terms = self.old.terms in
+            IfNone result (AnswersLine terms.options hub.now terms.names.now line.now
             self.old.seat self.new.answer self.new.seat) }
-        ensures goes_on { IfNone result
-            (GoesOnBehind self.old.terms.options self.old.seat line.now) }
-        ensures untold { IfSome result (λ _.
-            Tells self.old.terms.options.newest hub.now.epoch self.old.seat self.new.seat []) }
-        ensures ends { IfSome result
-            (λ ending. EndsBefore self.old.terms.options self.old.seat ending line.now) }
-        ensures left { IfSome result (λ _. StaysBehind hub.now.epoch self.old.seat self.new.seat) }
+        ensures ended { IfSome result (λ ending. EndsAtLine self.old.terms.options hub.now line.now
+            self.old.seat self.new.seat ending) }
     {
         match read_serve_line(self.alloc, line) {
             Ok(request) => {

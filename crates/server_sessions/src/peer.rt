@@ -8,12 +8,16 @@ use crate::session_count::SessionCount;
 use std::io::{self, ErrorKind, Read, Write};
 use std::net::{Shutdown, TcpStream};
 use std::sync::atomic::{AtomicBool, Ordering};
+use std::thread;
 
 /// How many flushes there are from one look whether the peer is gone to the next, where nothing is written between them.
 const FLUSHES_A_LOOK: u32 = 16;
 
 /// How often a read looks whether something came before it sleeps. It takes some 15 µs, as long as a sleep and the wake-up behind it.
 const LOOKS: u32 = 60;
+
+/// So many bytes at once are mostly several requests, for whose answers their sender waits together.
+const MUCH: usize = 256;
 
 /// How many reads pass over what a peer sent that is not read: of 4 KiB each, they are more than a connection holds.
 const PASSED: u32 = 2048;
@@ -48,7 +52,8 @@ impl Peer<'_> {
         true
     }
 
-    /// Takes what comes. It looks for a while before it sleeps, where there are few sessions.
+    /// Takes what comes. It looks for a while before it sleeps, where there are few sessions. Where much came at once, others run
+    /// first: its own turn then begins anew, and does not end while it holds a partition that they would wait for.
     fn receive(&self, buf: &mut [u8]) -> io::Result<usize>
         ensures bound { ReadsAtMost result buf.new }
         ensures bytes { ReadConsumes None None result buf.new }
@@ -59,7 +64,11 @@ impl Peer<'_> {
             return taken;
         }
         let mut stream = self.stream;
-        stream.read(buf)
+        let taken = stream.read(buf)?;
+        if taken >= MUCH {
+            thread::yield_now();
+        }
+        Ok(taken)
     }
 
     /// Parts from a peer whose connection is shut down for reads: it is sent the end, and what it sent is passed over. A close

@@ -1,22 +1,25 @@
 //! Whom a server serves, and what those that ended left: what the server's lock keeps.
 ghost use Rattle.std.specs.Prelude.{◌≡◌, ◌≢◌, ◌⊎◌, ◌↔◌, ◌+◌, ◌-◌, ◌^◌, false, true, min, slice_get, slice_set, vec_len, IfNone, IfOk, IfSome, IsTrue, MatchOption, None, Some};
-ghost use Rattle.server_sessions.specs.Places.{AreFree, AreTaken, IsKeptOrLost, LeavesTheSame, one_less, one_more, taken_count};
+ghost use Rattle.server_sessions.specs.Histories.{IsGivenIn};
+ghost use Rattle.server_sessions.specs.Places.{AreFree, AreTaken, IsKeptOrLost, IsLeftOf, LeavesTheSame, ServesNone, StaysServed, one_less, one_more, taken_count};
 
-use hub::Transcript;
+use crate::kept_transcripts::KeptTranscripts;
+use crate::line_session::SessionLeft;
+use hub::Naming;
 use std::alloc::{AllocError, Global};
 use std::net::{Shutdown, TcpStream};
 use std::sync::Arc;
 
 /// Whom a server serves, and what those that ended left.
 #[derive(Drop)]
-pub(crate) struct ServedConnections {
+pub(crate) struct ServedConnections<G: Naming> {
     /// The connections that are served, each at a place of its own.
     places: Vec<Option<Arc<TcpStream>>>,
     /// How many connections are still to be begun, where they are counted.
     left: Option<u32>,
     /// How many connections were begun.
     begun: u64,
-    transcripts: Vec<Transcript>,
+    kept: KeptTranscripts<G>,
     has_failed: bool,
     has_refused: bool,
     has_lost: bool,
@@ -54,9 +57,9 @@ pub struct Connections {
 
 /// What a server left.
 #[derive(Drop)]
-pub struct Left {
-    /// The transcripts of the seats of its sessions, but for those that found no memory.
-    pub transcripts: Vec<Transcript>,
+pub struct Left<G: Naming> {
+    /// The transcripts of the seats of its sessions, but for those that found no memory, and what these seats have seen.
+    pub kept: KeptTranscripts<G>,
     /// Whether a connection could not be accepted, a thread could not be started, or the input could not be read.
     pub has_failed: bool,
     /// Whether a connection found no memory for its place: it was closed, and not counted.
@@ -65,27 +68,22 @@ pub struct Left {
     pub has_lost: bool,
 }
 
-impl ServedConnections {
+impl<G: Naming> ServedConnections<G> {
     /// So many places, each free, of a server that is still to begin so many connections, or all that come.
     pub(crate) fn new(
         alloc: Global,
         sessions: u32,
         left: Option<u32>,
-        transcripts: Vec<Transcript>,
-    ) -> Result<ServedConnections, AllocError>
-        ensures places { IfOk result (λ served. (vec_len served.places ≡ sessions)
-            × AreFree served.places.items) }
-        ensures left { IfOk result (λ served. (served.left ≡ left) × (served.begun ≡ 0)) }
-        ensures transcripts { IfOk result (λ served. served.transcripts ≡ transcripts) }
-        ensures well { IfOk result (λ served. (served.has_failed ≡ false)
-            × (served.has_refused ≡ false) × (served.has_lost ≡ false)) }
+        kept: KeptTranscripts<G>,
+    ) -> Result<ServedConnections<G>, AllocError>
+        ensures { IfOk result (ServesNone sessions left kept.transcripts) }
     {
         let places = free_places(alloc, sessions)?;
         Ok(ServedConnections {
             places,
             left,
             begun: 0,
-            transcripts,
+            kept,
             has_failed: false,
             has_refused: false,
             has_lost: false,
@@ -93,23 +91,20 @@ impl ServedConnections {
     }
 
     /// What it left.
-    pub(crate) fn leave(self) -> Left
-        ensures transcripts { result.transcripts ≡ self.transcripts }
-        ensures failed { result.has_failed ≡ self.has_failed }
-        ensures refused { result.has_refused ≡ self.has_refused }
-        ensures lost { result.has_lost ≡ self.has_lost }
+    pub(crate) fn leave(self) -> Left<G>
+        ensures { IsLeftOf self result }
     {
         let ServedConnections {
             places: _,
             left: _,
             begun: _,
-            transcripts,
+            kept,
             has_failed,
             has_refused,
             has_lost,
         } = self;
         Left {
-            transcripts,
+            kept,
             has_failed,
             has_refused,
             has_lost,
@@ -169,17 +164,18 @@ impl ServedConnections {
 
     /// The connection at this place is served no longer. The transcript that it left, if any, is kept behind those before, or is
     /// lost where it finds no memory.
-    pub(crate) fn end(&mut self, place: usize, transcript: Option<Transcript>) -> Receipt
+    pub(crate) fn end(&mut self, place: usize, session: Option<SessionLeft<G>>) -> Receipt
+        requires { IfSome session (λ its. IsGivenIn its.1 its.0) }
         ensures receipt { result.change ≡ Change.Ended place }
         ensures places { self.new.places.items ≡ slice_set self.old.places.items place None }
         ensures left { (self.new.left ≡ self.old.left) × (self.new.begun ≡ self.old.begun) }
-        ensures kept { MatchOption transcript (LeavesTheSame self.old self.new)
-            (λ its. IsKeptOrLost its self.old self.new) }
+        ensures kept { MatchOption session (LeavesTheSame self.old self.new)
+            (λ its. IsKeptOrLost its.0 self.old self.new) }
         ensures others { (self.new.has_failed ≡ self.old.has_failed)
             × (self.new.has_refused ≡ self.old.has_refused) }
     {
-        if let Some(transcript) = transcript {
-            self.keep(transcript);
+        if let Some(session) = session {
+            self.keep(session);
         }
         self.put(place, None);
         Receipt {
@@ -194,7 +190,7 @@ impl ServedConnections {
         ensures left { (self.new.left ≡ one_more self.old.left)
             × (self.new.begun ≡ self.old.begun) }
         ensures failed { self.new.has_failed ≡ true }
-        ensures transcripts { self.new.transcripts ≡ self.old.transcripts }
+        ensures transcripts { self.new.kept.transcripts ≡ self.old.kept.transcripts }
         ensures others { (self.new.has_refused ≡ self.old.has_refused)
             × (self.new.has_lost ≡ self.old.has_lost) }
     {
@@ -209,7 +205,10 @@ impl ServedConnections {
     /// A device failed.
     pub(crate) fn fail(&mut self) -> Receipt
         ensures receipt { result.change ≡ Change.Failed }
-        ensures failed { self.new ≡ record self.old { has_failed = true } }
+        ensures failed { self.new.has_failed ≡ true }
+        ensures same { StaysServed self.old self.new }
+        ensures others { (self.new.has_refused ≡ self.old.has_refused)
+            × (self.new.has_lost ≡ self.old.has_lost) }
     {
         self.has_failed = true;
         Receipt {
@@ -219,20 +218,24 @@ impl ServedConnections {
 
     /// A connection found no memory.
     pub(crate) fn refuse(&mut self)
-        ensures { self.new ≡ record self.old { has_refused = true } }
+        ensures refused { self.new.has_refused ≡ true }
+        ensures same { StaysServed self.old self.new }
+        ensures others { (self.new.has_failed ≡ self.old.has_failed)
+            × (self.new.has_lost ≡ self.old.has_lost) }
     {
         self.has_refused = true;
     }
 
     /// Keeps the transcript of a session that ended, behind those before. It is lost where it finds no memory.
-    fn keep(&mut self, transcript: Transcript)
-        ensures kept { IsKeptOrLost transcript self.old self.new }
+    fn keep(&mut self, session: SessionLeft<G>)
+        requires { IsGivenIn session.1 session.0 }
+        ensures kept { IsKeptOrLost session.0 self.old self.new }
         ensures places { (self.new.places ≡ self.old.places) × (self.new.left ≡ self.old.left)
             × (self.new.begun ≡ self.old.begun) }
         ensures others { (self.new.has_failed ≡ self.old.has_failed)
             × (self.new.has_refused ≡ self.old.has_refused) }
     {
-        if self.transcripts.push(transcript).is_err() {
+        if !self.kept.keep(session) {
             self.has_lost = true;
         }
     }

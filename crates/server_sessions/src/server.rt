@@ -3,16 +3,19 @@ ghost use Rattle.std.specs.Prelude.{◌≡◌, false, true, is_none, IfOk, IfSom
 ghost use Rattle.std.specs.Arc.{arc_value};
 ghost use Rattle.server_sessions.specs.declared.served.Change.TheVariants.{Begun, Ended, Failed, GivenUp};
 ghost use Rattle.std.specs.IoError.{raw_os_error};
+ghost use Rattle.server_sessions.specs.Histories.{IsGivenIn};
 ghost use Rattle.server_sessions.specs.Passing.{is_passing};
-ghost use Rattle.server_sessions.specs.Ports.{answers_of, count_of, listener_of, most_of, options_of, stays_of};
+ghost use Rattle.server_sessions.specs.Ports.{IsServerOf, answers_of, count_of, listener_of, most_of, options_of, stays_of};
 
 use crate::answer_counts::AnswerCounts;
+use crate::kept_transcripts::KeptTranscripts;
+use crate::line_session::SessionLeft;
 use crate::listener::{Accept, passes};
 use crate::peer::Peer;
 use crate::served::{Connections, Left, Receipt, ServedConnections};
 use crate::session_count::SessionCount;
 use crate::session_options::SessionOptions;
-use hub::Transcript;
+use hub::{Naming, Transcript};
 use std::alloc::{AllocError, Global};
 use std::io;
 use std::net::{Shutdown, TcpStream};
@@ -28,7 +31,7 @@ const GRACE: u64 = 5;
 
 /// A server: where its connections come from, and those that it serves. Any thread may hold a `&` to it.
 #[derive(Drop)]
-pub struct Server<L> {
+pub struct Server<L, G: Naming> {
     alloc: Global,
     listener: L,
     /// How many connections it serves at a time.
@@ -36,7 +39,7 @@ pub struct Server<L> {
     stays: bool,
     options: SessionOptions,
     answers: AnswerCounts,
-    served: Mutex<ServedConnections>,
+    served: Mutex<ServedConnections<G>>,
     changed: Condvar,
     /// Whether no more is accepted or read.
     is_ending: AtomicBool,
@@ -46,30 +49,28 @@ pub struct Server<L> {
     count: SessionCount,
 }
 
-impl<L> Server<L> {
+impl<L, G: Naming> Server<L, G> {
     /// A server of as many connections as these, and then no more. Memory for their places and their transcripts is asked
     /// for now.
-    pub fn counted(alloc: Global, listener: L, sessions: u32) -> Result<Server<L>, AllocError>
+    pub fn counted(alloc: Global, listener: L, sessions: u32) -> Result<Server<L, G>, AllocError>
     where
         L: Drop,
-        ensures listener { IfOk result (λ server. listener_of server ≡ listener) }
-        ensures most { IfOk result (λ server. most_of server ≡ sessions) }
-        ensures stays { IfOk result (λ server. stays_of server ≡ false) }
+        ensures { IfOk result (IsServerOf listener sessions false) }
     {
         let transcripts = Vec::with_capacity(alloc, sessions as usize)?;
-        Server::of(alloc, listener, sessions, Some(sessions), transcripts)
+        let kept = KeptTranscripts::new(transcripts);
+        Server::of(alloc, listener, sessions, Some(sessions), kept)
     }
 
     /// A server of all connections that come until it is ended, as many as these at a time. Memory for their places is asked
     /// for now, and for transcripts as they come.
-    pub fn staying(alloc: Global, listener: L, sessions: u32) -> Result<Server<L>, AllocError>
+    pub fn staying(alloc: Global, listener: L, sessions: u32) -> Result<Server<L, G>, AllocError>
     where
         L: Drop,
-        ensures listener { IfOk result (λ server. listener_of server ≡ listener) }
-        ensures most { IfOk result (λ server. most_of server ≡ sessions) }
-        ensures stays { IfOk result (λ server. stays_of server ≡ true) }
+        ensures { IfOk result (IsServerOf listener sessions true) }
     {
-        Server::of(alloc, listener, sessions, None, Vec::new(alloc))
+        let kept = KeptTranscripts::new(Vec::new(alloc));
+        Server::of(alloc, listener, sessions, None, kept)
     }
 
     fn of(
@@ -77,16 +78,14 @@ impl<L> Server<L> {
         listener: L,
         sessions: u32,
         left: Option<u32>,
-        transcripts: Vec<Transcript>,
-    ) -> Result<Server<L>, AllocError>
+        kept: KeptTranscripts<G>,
+    ) -> Result<Server<L, G>, AllocError>
     where
         L: Drop,
-        ensures listener { IfOk result (λ server. listener_of server ≡ listener) }
-        ensures most { IfOk result (λ server. most_of server ≡ sessions) }
-        ensures stays { IfOk result (λ server. stays_of server ≡ is_none left) }
+        ensures { IfOk result (IsServerOf listener sessions (is_none left)) }
     {
         let stays = left.is_none();
-        let served = ServedConnections::new(alloc, sessions, left, transcripts)?;
+        let served = ServedConnections::new(alloc, sessions, left, kept)?;
         let answers = AnswerCounts::new(alloc)?;
         Ok(Server {
             alloc,
@@ -107,7 +106,7 @@ impl<L> Server<L> {
     }
 
     /// The same server, whose sessions have these options. Else they have none: they are not strict, and no put reads first.
-    pub fn with_options(self, options: SessionOptions) -> Server<L>
+    pub fn with_options(self, options: SessionOptions) -> Server<L, G>
         ensures listener { listener_of result ≡ listener_of self }
         ensures connections { (most_of result ≡ most_of self) × (stays_of result ≡ stays_of self) }
         ensures options { options_of result ≡ options }
@@ -118,7 +117,7 @@ impl<L> Server<L> {
     }
 
     /// What it left, once all its sessions have ended.
-    pub fn left(self) -> Left
+    pub fn left(self) -> Left<G>
     where
         L: Drop,
     {
@@ -207,19 +206,20 @@ impl<L> Server<L> {
         self.served.lock(rt).fail()
     }
 
-    /// The connection at this place is served no longer, and left this transcript, if any. Its answers were counted by this
-    /// server.
+    /// The connection at this place is served no longer, and its session left this, if it is to be kept: each reply in its
+    /// transcript has its place in what was seen. Its answers were counted by this server.
     pub(crate) fn leave<R: Wait>(
         &self,
         rt: &R,
         place: usize,
         _counted: Option<&AnswerCounts>,
-        transcript: Option<Transcript>,
+        session: Option<SessionLeft<G>>,
     ) -> Receipt
-        requires { IsSomeAnd _counted (λ counts. counts.now ≡ answers_of self.now) }
+        requires counted { IsSomeAnd _counted (λ counts. counts.now ≡ answers_of self.now) }
+        requires given { IfSome session (λ its. IsGivenIn its.1 its.0) }
         ensures { result.change ≡ Ended place }
     {
-        let ended = self.served.lock(rt).end(place, transcript);
+        let ended = self.served.lock(rt).end(place, session);
         self.changed.notify_all();
         ended
     }
@@ -282,7 +282,7 @@ fn shared(alloc: Global, stream: TcpStream) -> Result<(Arc<TcpStream>, Arc<TcpSt
     Ok((stream, same))
 }
 
-impl<L: Accept> Server<L> {
+impl<L: Accept, G: Naming> Server<L, G> {
     /// The next connection, the place that it has, and the receipt that it began there. None where no more are accepted. An
     /// `accept` that failed is made again once a session has ended or a moment has passed, where its error passes; one that does
     /// not pass ends the server.

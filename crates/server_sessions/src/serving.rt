@@ -1,10 +1,11 @@
 //! The connections of a server, each served in a thread of its own.
-ghost use Rattle.std.specs.Prelude.{◌≡◌, false, IsTrue};
+ghost use Rattle.std.specs.Prelude.{◌≡◌, false, IfSome, IsTrue};
 ghost use Rattle.std.specs.Io.KnownBytes.{IsAtEnd};
 ghost use Rattle.server_sessions.specs.declared.served.Change.TheVariants.{Ended};
+ghost use Rattle.server_sessions.specs.Histories.{IsGivenIn};
 ghost use Rattle.server_sessions.specs.Ports.{listener_of, stays_of};
 
-use crate::line_session::run_session_as;
+use crate::line_session::{SessionLeft, run_session_as};
 use crate::listener::Accept;
 use crate::served::Receipt;
 use crate::server::Server;
@@ -29,6 +30,10 @@ pub type OpenHub<J> = Hub<Named<J, Open>>;
 pub type OpenSeat<'a, J> = Seat<'a, Named<J, Open>>;
 
 impl Gate for Open {
+    fn counts(&self) -> bool {
+        false
+    }
+
     fn pass(&self, _partition: u32, _nth: u64) {}
 
     fn inside(&self, _partition: u32, _nth: u64) {}
@@ -43,7 +48,14 @@ pub fn serve_connections<
     H: Threads + Wait + Clock + Sync,
     L: Accept + Sync,
     R: Read,
->(rt: &H, alloc: Global, hub: &OpenHub<J>, names: &[Name], server: &Server<L>, reader: &mut R)
+>(
+    rt: &H,
+    alloc: Global,
+    hub: &OpenHub<J>,
+    names: &[Name],
+    server: &Server<L, Named<J, Open>>,
+    reader: &mut R,
+)
     // No connection is accepted any more.
     ensures closed { L.is_closed (listener_of server.now) }
     ensures unread { stays_of server.now ≡ false → reader.new ≡ reader.old }
@@ -89,7 +101,7 @@ fn accept_all<J: Naming + Send + Sync, H: Threads + Wait + Clock + Sync, L: Acce
     alloc: Global,
     hub: &OpenHub<J>,
     names: &[Name],
-    server: &Server<L>,
+    server: &Server<L, Named<J, Open>>,
 )
     ensures { L.is_closed (listener_of server.now) }
 {
@@ -127,7 +139,7 @@ fn serve_connection<J: Naming, H: Wait, L>(
     alloc: Global,
     hub: &OpenHub<J>,
     names: &[Name],
-    server: &Server<L>,
+    server: &Server<L, Named<J, Open>>,
     entered: (usize, Arc<TcpStream>),
 ) -> Receipt
     // Its place is given back.
@@ -141,7 +153,7 @@ fn serve_connection<J: Naming, H: Wait, L>(
     let options = server.options();
     let counts = Some(server.answers());
     server.count().begin();
-    let (transcript, _, counted) = run_session_as(
+    let (left, _, counted) = run_session_as(
         rt,
         alloc,
         hub,
@@ -156,7 +168,15 @@ fn serve_connection<J: Naming, H: Wait, L>(
         reader.part();
     }
     drop(stream);
-    // Where journals are cut, nothing is settled at the end.
-    let kept = if hub.epoch() == 0 { transcript } else { None };
+    let kept = kept_of(hub.epoch(), left);
     server.leave(rt, place, counted, kept)
+}
+
+// What is kept of a session: nothing where journals are cut, since nothing is settled at the end.
+fn kept_of<G: Naming>(epoch: u32, left: Option<SessionLeft<G>>) -> Option<SessionLeft<G>>
+    ensures all { epoch ≡ 0 → result ≡ left }
+    ensures given { IfSome left (λ its. IsGivenIn its.1 its.0)
+        → IfSome result (λ its. IsGivenIn its.1 its.0) }
+{
+    if epoch == 0 { left } else { None }
 }

@@ -1,6 +1,6 @@
 -- One row more, behind those that were there.
 use Rattle.std.proofs.Common.{◌≡◌, ◌∙◌, ℕ, suc, ◌+◌, ◌<◌, ◌≤◌, List, [], ◌∷◌, ◌++◌, Option, Some, take, length, length-take-le, get_or, sym, ap, subst, append_assoc, add-one, arith}
-use Rattle.std.specs.Prelude.{slice_get, unwrap_or}
+use Rattle.std.specs.Prelude.{IfNone, IfSome, IsSomeAnd, None, slice_get, unwrap_or}
 use Rattle.std.proofs.Math.Seq.{take-suc}
 use Rattle.stamps.specs.declared.bounds.Limits.{Limits}
 use Rattle.shard.specs.declared.usages.TenantUsage.{TenantUsage}
@@ -8,7 +8,9 @@ use Rattle.server_metrics.specs.declared.metrics.ClientRow.{ClientRow}
 use Rattle.server_metrics.specs.declared.metrics.RefusalRow.{RefusalRow}
 use Rattle.server_metrics.specs.declared.metrics.Row.{Row}
 use Rattle.server_verdicts.specs.declared.epochs.checked.Progress.{Progress}
-use Rattle.server_status.specs.Reported.{AreClientRows, AreRefusalRows, AreRowsBehind, AreRowsOf, IsClientRow, IsRowAt, IsRowOf}
+use Rattle.server_status.specs.Reported.{AreChecksFrom, AreClientRows, AreRefusalRows, AreRowsBehind, AreRowsOf, IsCheckOf, IsClientRow, IsRowAt, IsRowOf, known_in}
+use Rattle.history.specs.declared.rule.Naming.{Ghosts}
+use Rattle.server_status.specs.declared.reading.Watched.{Watched}
 
 -- what a list has at a place is one thing
 same : {X : Type 0} (x y : X) → Some x ≡ Some y → y ≡ x
@@ -75,3 +77,21 @@ refusals_more from below (r ∷ rows) row are is some = (are.0, are.1, refusals_
 pub refusals_wider : (from below : ℕ) (rows : List RefusalRow) → AreRefusalRows from below rows → AreRefusalRows from (below + 1) rows
 refusals_wider from below [] are = omega (arith, are)
 refusals_wider from below (r ∷ rows) are = (are.0, are.1, refusals_wider (r.number + 1) below rows are.2)
+
+-- what the journal told, or none where there is none: for `read_check`
+pub check_is : {C : Type 0} (HasTold : C → Progress → Type 0) (its : Option C) (check : Option Progress)
+    → IfSome check (λ progress. IsSomeAnd its (λ one. HasTold one progress)) → IfNone check (its ≡ None) → IsCheckOf HasTold its check
+check_is HasTold (Some its) (Some progress) told none = told
+check_is HasTold None (Some progress) told none = absurd told
+check_is HasTold (Some its) None told none = cc
+check_is HasTold None None told none = tt
+
+-- a tenant's check more: for `read_checks`
+pub checks_more : {J C : Type 0} {naming : Ghosts J} (HasTold : C → Progress → Type 0) (watched : Watched J C naming) (partition first nth : ℕ) (checks : List (Option Progress)) (check : Option Progress)
+    → AreChecksFrom HasTold watched partition first checks → first + length checks ≡ nth → IsCheckOf HasTold (known_in watched.known partition nth) check
+    → AreChecksFrom HasTold watched partition first (checks ++ check ∷ [])
+checks_more HasTold watched partition first nth [] check are here is =
+    let at : nth ≡ first = omega (arith, here) in
+    (subst (λ (k : ℕ). IsCheckOf HasTold (known_in watched.known partition k) check) at is, tt)
+checks_more HasTold watched partition first nth (c ∷ checks) check are here is =
+    (are.0, checks_more HasTold watched partition (first + 1) nth checks check are.1 (omega (arith, here)) is)

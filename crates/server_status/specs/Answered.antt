@@ -8,6 +8,8 @@ use Rattle.server_metrics.specs.declared.metrics.Readings.{Readings}
 use Rattle.server_metrics.specs.declared.request.PageRequest.{PageRequest}
 use Rattle.server_metrics.specs.declared.request.PageRequest.TheVariants.{Metrics, Health, Refused}
 use Rattle.server_status.specs.Reported.{IsReadOf}
+use Rattle.server_verdicts.specs.declared.epochs.checked.Progress.{Progress}
+use Rattle.history.specs.declared.rule.Naming.{Ghosts}
 use Rattle.server_status.specs.declared.reading.Watched.{Watched}
 use Rattle.server_status.specs.declared.serving.StatusPort.{StatusPort}
 
@@ -16,25 +18,28 @@ abbrev pub port_listener : {L : Type 0} → StatusPort L → L
 port_listener port = port.listener
 
 -- the page that answers what was asked of a server: how it stands as it was read, or the words of a refusal
-abbrev pub IsAnswerTo : {J : Type 0} → Watched J → PageRequest → List ℕ → Type 0
-IsAnswerTo watched Metrics page = (readings : Readings) × IsReadOf watched readings × (page ≡ metrics_text_page readings)
-IsAnswerTo watched Health page =
-    (readings : Readings) × IsReadOf watched readings × (page ≡ text_page (health_status (is_well readings)))
-IsAnswerTo watched (Refused status) page = page ≡ text_page status
+abbrev pub IsAnswerTo : {J C : Type 0} {naming : Ghosts J} → (C → Progress → Type 0) → Watched J C naming → PageRequest → List ℕ → Type 0
+IsAnswerTo HasTold watched Metrics page =
+    (readings : Readings) × IsReadOf HasTold watched readings × (page ≡ metrics_text_page readings)
+IsAnswerTo HasTold watched Health page =
+    (readings : Readings) × IsReadOf HasTold watched readings × (page ≡ text_page (health_status (is_well readings)))
+IsAnswerTo HasTold watched (Refused status) page = page ≡ text_page status
 
 -- a prefix of the page was written, or where that is said the whole of it
 abbrev pub IsWritten : List ℕ → Option (List ℕ) → Option (List ℕ) → Bool → Type 0
 IsWritten page old new whole = ((n : ℕ) × Appends old new (take n page)) × (IsTrue whole → Appends old new page)
 
 -- a request was read from an input, and a page that answers it was written, whole or not
-pub record Answers {J : Type 0} (watched : Watched J) (input left old new : Option (List ℕ)) (whole : Bool) : Type 0 where
+pub record Answers {J C : Type 0} {naming : Ghosts J} (HasTold : C → Progress → Type 0) (watched : Watched J C naming)
+    (input left old new : Option (List ℕ)) (whole : Bool) : Type 0 where
   pub asked : PageRequest
   pub page : List ℕ
   pub heard : IsHeardOf input left asked
-  pub answer : IsAnswerTo watched asked page
+  pub answer : IsAnswerTo HasTold watched asked page
   pub written : IsWritten page old new whole
 
 -- so, or nothing was written
-abbrev pub HasAnswered : {J : Type 0} → Watched J → Option (List ℕ) → Option (List ℕ) → Option (List ℕ) → Option (List ℕ) → Bool → Type 0
-HasAnswered watched input left old new whole =
-    Answers watched input left old new whole ⊎ ((whole ≡ false) × Keeps old new)
+abbrev pub HasAnswered : {J C : Type 0} {naming : Ghosts J} → (C → Progress → Type 0) → Watched J C naming
+    → Option (List ℕ) → Option (List ℕ) → Option (List ℕ) → Option (List ℕ) → Bool → Type 0
+HasAnswered HasTold watched input left old new whole =
+    Answers HasTold watched input left old new whole ⊎ ((whole ≡ false) × Keeps old new)

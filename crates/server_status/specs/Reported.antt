@@ -1,6 +1,8 @@
 -- What is reported of a running server.
 use Rattle.std.specs.Prelude.{◌≡◌, ◌≢◌, ◌+◌, ◌-◌, ◌^◌, ◌++◌, ◌↔◌, ◌<◌, ◌≤◌, ℕ, zero, suc, min}
-use Rattle.std.specs.Prelude.{List, [], ◌∷◌, length, All, Option, Some, None, IsSomeAnd, IsTrue}
+use Rattle.std.specs.Prelude.{List, [], ◌∷◌, length, Option, Some, None, IsSomeAnd, IsTrue}
+use Rattle.std.specs.Borrow.{Bor}
+use Rattle.std.specs.Global.{Vec}
 use Rattle.std.specs.Option.{option_map}
 use Rattle.stamps.specs.declared.bounds.Limits.{Limits}
 use Rattle.shard.specs.UsedAt.{AreUsagesAt}
@@ -10,8 +12,10 @@ use Rattle.server_metrics.specs.declared.metrics.Readings.{Readings}
 use Rattle.server_metrics.specs.declared.metrics.RefusalRow.{RefusalRow}
 use Rattle.server_metrics.specs.declared.metrics.Row.{Row}
 use Rattle.server_sessions.specs.Ports.{most_of}
+use Rattle.server_verdicts.specs.Rows.{at_place}
 use Rattle.server_verdicts.specs.declared.epochs.checked.Progress.{Progress}
 use Rattle.server_verdicts.specs.declared.epochs.checked.Standing.TheVariants.{Right}
+use Rattle.history.specs.declared.rule.Naming.{Ghosts}
 use Rattle.server_status.specs.declared.reading.Watched.{Watched}
 
 -- ---- the rows of a partition
@@ -48,24 +52,41 @@ abbrev pub AreRowsBehind : ℕ → List (List ℕ) → List Limits → List (Opt
 AreRowsBehind partition names limits checks usages old new =
     (rows : List Row) × (new ≡ old ++ rows) × AreRowsOf partition names limits checks usages rows
 
--- checks of so many tenants; none where no epochs are checked
-abbrev pub AreChecksOf : {J : Type 0} → Watched J → List (Option Progress) → Type 0
-AreChecksOf watched checks =
-    (length checks ≡ min (length watched.names.now) (2 ^ 32 - 1))
-    × (watched.known ≡ None → All (λ (progress : Option Progress). progress ≡ None) checks)
+-- what is known of a tenant's journal at a partition, where epochs are checked and it is there
+abbrev pub known_in : {C : Type 0} → Option (Bor (Vec (Vec C))) → ℕ → ℕ → Option C
+known_in None partition tenant = None
+known_in (Some known) partition tenant = at_place known.now.items partition tenant
 
--- Rows were put behind those that were there. Their numbers are those that the cells of the partition had at one moment.
-abbrev pub AreRowsAt : {J : Type 0} → Watched J → ℕ → List Row → List Row → Type 0
-AreRowsAt watched partition old new =
+-- how far the checks of this journal have come, as it told; none where there is none
+abbrev pub IsCheckOf : {C : Type 0} → (C → Progress → Type 0) → Option C → Option Progress → Type 0
+IsCheckOf HasTold (Some its) (Some progress) = HasTold its progress
+IsCheckOf HasTold None None = Unit {0}
+IsCheckOf _ _ _ = ⊥
+
+-- so of the journal of each tenant at a partition, from this tenant on
+abbrev pub AreChecksFrom : {J C : Type 0} {naming : Ghosts J} → (C → Progress → Type 0) → Watched J C naming → ℕ → ℕ → List (Option Progress) → Type 0
+AreChecksFrom HasTold watched partition tenant [] = Unit {0}
+AreChecksFrom HasTold watched partition tenant (check ∷ checks) =
+    IsCheckOf HasTold (known_in watched.known partition tenant) check × AreChecksFrom HasTold watched partition (tenant + 1) checks
+
+-- so of each tenant that has a name
+abbrev pub AreChecksAt : {J C : Type 0} {naming : Ghosts J} → (C → Progress → Type 0) → Watched J C naming → ℕ → List (Option Progress) → Type 0
+AreChecksAt HasTold watched partition checks =
+    (length checks ≡ min (length watched.names.now) (2 ^ 32 - 1)) × AreChecksFrom HasTold watched partition 0 checks
+
+-- Rows were put behind those that were there. Their numbers are those that the cells of the partition had at one moment, and
+-- their checks those that its journals told.
+abbrev pub AreRowsAt : {J C : Type 0} {naming : Ghosts J} → (C → Progress → Type 0) → Watched J C naming → ℕ → List Row → List Row → Type 0
+AreRowsAt HasTold watched partition old new =
     (usages : List TenantUsage) × (checks : List (Option Progress)) × AreUsagesAt watched.hub.now.parts partition usages
-    × AreChecksOf watched checks
+    × AreChecksAt HasTold watched partition checks
     × AreRowsBehind partition watched.names.now watched.hub.now.limits checks usages old new
 
 -- so for each partition before this one, one after another
-abbrev pub AreRowsBefore : {J : Type 0} → Watched J → ℕ → List Row → Type 0
-AreRowsBefore watched zero rows = rows ≡ []
-AreRowsBefore watched (suc partition) rows =
-    (before : List Row) × AreRowsBefore watched partition before × AreRowsAt watched partition before rows
+abbrev pub AreRowsBefore : {J C : Type 0} {naming : Ghosts J} → (C → Progress → Type 0) → Watched J C naming → ℕ → List Row → Type 0
+AreRowsBefore HasTold watched zero rows = rows ≡ []
+AreRowsBefore HasTold watched (suc partition) rows =
+    (before : List Row) × AreRowsBefore HasTold watched partition before × AreRowsAt HasTold watched partition before rows
 
 -- ---- the tenants' clients and the refusals
 
@@ -89,9 +110,9 @@ AreRefusalRows from below (row ∷ rows) = (from ≤ row.number) × (0 < row.lin
 -- ---- all that is read
 
 -- What was read of this server: where it is whole, a row of each tenant at each partition; and rows of the clients and of
--- the refusals.
-pub record IsReadOf {J : Type 0} (watched : Watched J) (readings : Readings) : Type 0 where
-  pub rows : IsTrue readings.is_whole → AreRowsBefore watched watched.hub.now.parts readings.rows.items
+-- the refusals. What a journal has told is said by its trait.
+pub record IsReadOf {J C : Type 0} {naming : Ghosts J} (HasTold : C → Progress → Type 0) (watched : Watched J C naming) (readings : Readings) : Type 0 where
+  pub rows : IsTrue readings.is_whole → AreRowsBefore HasTold watched watched.hub.now.parts readings.rows.items
   pub clients : AreClientRows watched.names.now watched.hub.now.limits readings.clients.items
   pub all_clients : length readings.clients.items ≡ min (min (length watched.names.now) (2 ^ 32 - 1)) (length watched.hub.now.limits)
   pub refusals : AreRefusalRows 0 43 readings.refusals.items

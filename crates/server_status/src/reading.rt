@@ -1,39 +1,39 @@
 //! What a scrape reads of a running server.
-ghost use Rattle.std.specs.Prelude.{◌≡◌, ◌-◌, ◌^◌, [], min, IfOk, IsTrue, vec_len, None, length};
-ghost use Rattle.server_status.specs.Reported.{AreChecksOf, AreClientRows, AreRefusalRows, AreRowsAt, AreRowsBefore, AreRowsBehind, IsReadOf, IsRowAt, IsRowOf};
+ghost use Rattle.std.specs.Prelude.{◌≡◌, ◌-◌, ◌^◌, [], min, IfOk, IsTrue, vec_len, length};
+ghost use Rattle.server_status.specs.Reported.{AreChecksAt, AreClientRows, AreRefusalRows, AreRowsAt, AreRowsBefore, AreRowsBehind, IsCheckOf, IsReadOf, IsRowAt, IsRowOf, known_in};
 
-use hub::{Naming, TenantUsage};
+use hub::{Gate, Hub, Naming, TenantUsage};
 use line_protocol::Name;
 use server_metrics::{ClientRow, Readings, RefusalRow, Row};
-use server_sessions::{AnswerCounts, Listener, OpenHub, Server};
-use server_verdicts::{Known, Progress, Standing, progress_at};
+use server_sessions::{AnswerCounts, Listener, Server};
+use server_verdicts::{Checked, JournalChecks, Progress, Standing, progress_at};
 use stamps::Limits;
 use std::alloc::{AllocError, Global};
-use std::sync::Wait;
+use std::sync::{Mutex, Wait};
 
 /// What a status port reports of.
 #[derive(Drop)]
-pub struct Watched<'s, J: Naming> {
+pub struct Watched<'s, G: Naming, C = Mutex<Checked>> {
     /// The store.
-    pub hub: &'s OpenHub<J>,
+    pub hub: &'s Hub<G>,
     /// The names of its tenants.
     pub names: &'s [Name],
     /// What serves its sessions.
-    pub server: &'s Server<Listener>,
+    pub server: &'s Server<Listener, G>,
     /// What is known of its journals, where epochs are checked.
-    pub known: Option<&'s Known>,
+    pub known: Option<&'s Vec<Vec<C>>>,
     /// When the server started, in seconds since 1970.
     pub started: u64,
     /// Which program it is.
     pub version: &'static str,
 }
 
-impl<'s, J: Naming> Watched<'s, J> {
+impl<'s, G: Gate + Naming, C: JournalChecks> Watched<'s, G, C> {
     /// Reads all that is reported, one partition after another, each under its own lock. It takes time for each tenant at each
     /// partition, and visits none of what they hold. It waits for no session, but where an epoch is being checked for that
     /// check. The one error is that an allocation failed.
     pub fn read<H: Wait>(&self, rt: &H, alloc: Global) -> Result<Readings<'s>, AllocError>
-        ensures { IfOk result (IsReadOf self.now) }
+        ensures { IfOk result (IsReadOf C.has_told self.now) }
     {
         let mut rows = Vec::new(alloc);
         let is_whole = self.read_partitions(rt, alloc, &mut rows)?;
@@ -61,7 +61,7 @@ impl<'s, J: Naming> Watched<'s, J> {
     ) -> Result<bool, AllocError>
         requires { rows.old.items ≡ [] }
         ensures { IfOk result (λ is_whole. IsTrue is_whole
-            → AreRowsBefore self.now self.now.hub.now.parts rows.new.items) }
+            → AreRowsBefore C.has_told self.now self.now.hub.now.parts rows.new.items) }
     {
         let mut is_whole = true;
         for partition in 0..self.hub.parts() {
@@ -82,7 +82,7 @@ impl<'s, J: Naming> Watched<'s, J> {
         rows: &mut Vec<Row<'s>>,
     ) -> Result<bool, AllocError>
         ensures { IfOk result (λ is_there. IsTrue is_there
-            → AreRowsAt self.now partition rows.old.items rows.new.items) }
+            → AreRowsAt C.has_told self.now partition rows.old.items rows.new.items) }
     {
         // Before the epochs, so that no more are checked than cut.
         let checks = self.read_checks(rt, alloc, partition)?;
@@ -100,7 +100,7 @@ impl<'s, J: Naming> Watched<'s, J> {
         alloc: Global,
         partition: u32,
     ) -> Result<Vec<Option<Progress>>, AllocError>
-        ensures { IfOk result (λ checks. AreChecksOf self.now checks.items) }
+        ensures { IfOk result (λ checks. AreChecksAt C.has_told self.now partition checks.items) }
     {
         let mut checks = Vec::new(alloc);
         for tenant in 0..tenants_of(self.names) {
@@ -109,9 +109,9 @@ impl<'s, J: Naming> Watched<'s, J> {
         Ok(checks)
     }
 
-    // How far the checks of a tenant's journal at a partition have come, where epochs are checked.
+    // How far the checks of a tenant's journal at a partition have come, where epochs are checked and it is there.
     fn read_check<H: Wait>(&self, rt: &H, partition: u32, tenant: u32) -> Option<Progress>
-        ensures { self.now.known ≡ None → result ≡ None }
+        ensures { IsCheckOf C.has_told (known_in self.now.known partition tenant) result }
     {
         match self.known {
             Some(known) => progress_at(rt, known, partition, tenant),

@@ -4,11 +4,12 @@ ghost use Rattle.std.specs.Io.KnownBytes.{Keeps};
 ghost use Rattle.server_status.specs.Answered.{HasAnswered, IsAnswerTo, port_listener};
 
 use crate::reading::Watched;
-use hub::Naming;
+use hub::{Gate, Named, Naming};
 use server_metrics::{
     PageRequest, health_page, hear, metrics_page, pass_over, status_page, write_page,
 };
-use server_sessions::{Accept, Listener, serve_connections};
+use server_sessions::{Accept, Listener, Open, serve_connections};
+use server_verdicts::JournalChecks;
 use std::alloc::{AllocError, Global};
 use std::io::{Read, Write};
 use std::net::{Shutdown, TcpStream};
@@ -36,10 +37,17 @@ pub struct StatusPort<L = Listener> {
 /// thread of its own. Where that can't be started, the port is closed, and the server goes on.
 pub fn serve_and_report<
     J: Naming + Send + Sync,
+    C: JournalChecks + Send + Sync,
     H: Threads + Wait + Clock + Sync,
     L: Accept + Sync,
     R: Read,
->(rt: &H, alloc: Global, watched: &Watched<'_, J>, port: &StatusPort<L>, reader: &mut R)
+>(
+    rt: &H,
+    alloc: Global,
+    watched: &Watched<'_, Named<J, Open>, C>,
+    port: &StatusPort<L>,
+    reader: &mut R,
+)
     // When it returns, no more requests are answered.
     ensures closed { L.is_closed (port_listener port.now) }
 {
@@ -80,7 +88,12 @@ impl<L> StatusPort<L> {
 
 impl<L: Accept> StatusPort<L> {
     /// Answers requests, one at a time, until it is closed.
-    fn serve<J: Naming, H: Wait + Clock>(&self, rt: &H, alloc: Global, watched: &Watched<'_, J>) {
+    fn serve<G: Gate + Naming, C: JournalChecks, H: Wait + Clock>(
+        &self,
+        rt: &H,
+        alloc: Global,
+        watched: &Watched<'_, G, C>,
+    ) {
         for _ in rt.forever() {
             match self.listener.accept() {
                 Ok(stream) => self.answer(rt, alloc, watched, &stream),
@@ -104,11 +117,11 @@ impl<L: Accept> StatusPort<L> {
 
     // Answers the request of a connection, and waits for its client to close it: a close behind unread bytes might lose the answer.
     // One that sends nothing, or takes too long, gets no answer, and so does one for whose answer an allocation failed.
-    fn answer<J: Naming, H: Wait>(
+    fn answer<G: Gate + Naming, C: JournalChecks, H: Wait>(
         &self,
         rt: &H,
         alloc: Global,
-        watched: &Watched<'_, J>,
+        watched: &Watched<'_, G, C>,
         stream: &TcpStream,
     ) {
         let patience = Some(Duration::from_secs(PATIENCE));
@@ -128,15 +141,15 @@ impl<L: Accept> StatusPort<L> {
 }
 
 // Reads a request and writes its answer. Says whether all of that was written.
-fn answer_one<J: Naming, H: Wait, R: Read, W: Write>(
+fn answer_one<G: Gate + Naming, C: JournalChecks, H: Wait, R: Read, W: Write>(
     rt: &H,
     alloc: Global,
-    watched: &Watched<'_, J>,
+    watched: &Watched<'_, G, C>,
     reader: &mut R,
     writer: &mut W,
     is_over: &AtomicBool,
 ) -> bool
-    ensures { HasAnswered watched.now (R.remaining reader.old) (R.remaining reader.new)
+    ensures { HasAnswered C.has_told watched.now (R.remaining reader.old) (R.remaining reader.new)
         (W.contents writer.old) (W.contents writer.new) result }
 {
     let Some(asked) = hear(reader, is_over) else {
@@ -149,13 +162,13 @@ fn answer_one<J: Naming, H: Wait, R: Read, W: Write>(
 }
 
 // The page that answers a request. The one error is that an allocation failed.
-fn answer_to<J: Naming, H: Wait>(
+fn answer_to<G: Gate + Naming, C: JournalChecks, H: Wait>(
     rt: &H,
     alloc: Global,
-    watched: &Watched<'_, J>,
+    watched: &Watched<'_, G, C>,
     asked: PageRequest,
 ) -> Result<String, AllocError>
-    ensures { IfOk result (λ page. IsAnswerTo watched.now asked (string_bytes page)) }
+    ensures { IfOk result (λ page. IsAnswerTo C.has_told watched.now asked (string_bytes page)) }
 {
     match asked {
         PageRequest::Metrics => metrics_page(alloc, &watched.read(rt, alloc)?),

@@ -6,3 +6,4 @@ pub mod GivenNumbers
 pub mod Picked
 pub mod Spelled
 pub mod Promised
+pub mod Histories

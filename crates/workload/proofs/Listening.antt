@@ -6,13 +6,12 @@ use Rattle.std.proofs.KnownBytes.{Appends-nil, Appends-trans, Keeps-refl}
 use Rattle.std.proofs.Math.Seq.{take-length}
 use Rattle.line_runs.specs.declared.fault.ProgramFault.{ProgramFault}
 use Rattle.line_runs.specs.declared.fault.ProgramFault.TheVariants.{LineTooLong, Cut, Settle, Options, OutOfMemory, Device}
-use Rattle.hub.specs.Hubs.{AllSoundBooks, ConfigView, config_view}
+use Rattle.hub.specs.Hubs.{ConfigView}
 use Rattle.closed_store.specs.declared.closed.Closed.{Closed}
 use Rattle.line_runs.specs.Statuses.{status_of}
 use Rattle.workload.specs.Serving.{EndsAfter, HasChecked, HasListened, HasServed, IsClosed, IsFaultBefore, TellsPortFirst, TellsPortFor, greater_fault, listening_line}
 use Rattle.server_sessions.specs.declared.listener.Listener.{Listener}
-use Rattle.server_sessions.specs.declared.server.Server.{Server}
-use Rattle.server_sessions.specs.Ports.{IsPortFor, listener_of, port_of}
+use Rattle.server_sessions.specs.Ports.{IsPortFor, port_of}
 use Rattle.server_verdicts.specs.Judged.{IsCheckedAs}
 use Rattle.server_verdicts.specs.Verdicts.{TellsAll, TellsEach, TellsVerdicts, lines_text, verdict_line}
 
@@ -26,12 +25,9 @@ pub line_told : (old new : Option (List ℕ)) (line : List ℕ) (port : ℕ) →
 line_told old new line port is small adds =
     line_begun old new line port (length line) is small (subst (λ (l : List ℕ). Appends old new l) (sym (take-length line)) adds)
 
--- what a hub answered that was opened with this config
-pub is_closed : (view hub : ConfigView) (closed : Closed) → config_view closed.config ≡ hub → length closed.journals.items ≡ hub.parts → AllSoundBooks hub 0 closed.journals.items closed.counts.items
-    → hub ≡ view → IsClosed view closed
-is_closed view hub closed config parts books opened =
-    let P : ConfigView → Type 0 = λ v. AllSoundBooks v 0 closed.journals.items closed.counts.items in
-    record { config = config ∙ opened; parts = parts ∙ ap (λ (v : ConfigView). v.parts) opened; books = subst P opened books }
+-- a store that was closed, of a hub that was opened with this config
+pub is_closed : (view hub : ConfigView) (closed : Closed) → IsClosed hub closed → hub ≡ view → IsClosed view closed
+is_closed view hub closed is opened = subst (λ (v : ConfigView). IsClosed v closed) opened is
 
 -- a server told its port, closed its store, and told the verdicts
 pub closed_on : (view : ConfigView) (names : List (List ℕ)) (old between new : Option (List ℕ)) (closed : Closed) (told ended : Result (Unit {0}) ProgramFault)
@@ -142,10 +138,10 @@ pub no_store : (port : ℕ) (old new : Option (List ℕ)) (fault : ProgramFault)
 no_store port old new fault (inl same) = subst (λ (f : ProgramFault). TellsPortFirst port old new (Err f)) (sym same) tt
 no_store port old new fault (inr same) = subst (λ (f : ProgramFault). TellsPortFirst port old new (Err f)) (sym same) tt
 
--- the port is that of the listener whose server told it
-pub port_is : (asked : ℕ) (listener : Listener) (server : Server Listener) (old new : Option (List ℕ)) (ended : Result (Unit {0}) ProgramFault) → IsPortFor asked (port_of listener)
-    → listener_of server ≡ listener → TellsPortFirst (port_of (listener_of server)) old new ended → TellsPortFor asked old new ended
-port_is asked listener server old new ended for same first = (port_of (listener_of server), subst (λ (l : Listener). IsPortFor asked (port_of l)) (sym same) for, first)
+-- the port is that of the listener
+pub port_is : (asked : ℕ) (listener : Listener) (old new : Option (List ℕ)) (ended : Result (Unit {0}) ProgramFault) → IsPortFor asked (port_of listener) → TellsPortFirst (port_of listener) old new ended
+    → TellsPortFor asked old new ended
+port_is asked listener old new ended for first = (port_of listener, for, first)
 
 -- no port was reported
 pub no_port_for : (asked : ℕ) (writer : Option (List ℕ)) (fault : ProgramFault) → (fault ≡ OutOfMemory) ⊎ (fault ≡ Device) → TellsPortFor asked writer writer (Err fault)

@@ -11,8 +11,8 @@ use Rattle.plain_store.specs.declared.step.Act.TheVariants.{Put as PutAct, Get a
 use Rattle.plain_store.specs.declared.answer.Answer.{Answer}
 use Rattle.entry_list.specs.declared.kinds.Entry.{Entry}
 use Rattle.entry_list.specs.declared.kinds.Entry.TheVariants.{Began, Took, Answered}
-use Rattle.hub.specs.Seats.{Follows, SeatView, is_inside}
-use Rattle.server_sessions.specs.Telling.{IsServed}
+use Rattle.hub.specs.Operations.{IsOperation}
+use Rattle.hub.specs.Seats.{Follows, IsEntered, SeatView, is_inside}
 use Rattle.workload.specs.declared.load.mix.RoundKind.{RoundKind}
 use Rattle.workload.specs.declared.load.mix.RoundKind.TheVariants.{Put, Get, Find}
 use Rattle.workload.specs.declared.load.mix.Round.{Round}
@@ -47,12 +47,12 @@ began old new act told f =
     ∙ append-nil (filter_map act_in (old ++ Began act ∷ []))
     ∙ filter_map-append act_in old (Began act ∷ [])
 
--- what was served was begun, or nothing was
-served_began : (act : Act) (old new : SeatView) (answer : Answer) → IsServed act old answer new
+-- an operation that was answered was begun, or nothing was
+entered_began : (act : Act) (old new : SeatView) (answer : Answer) → IsEntered act old answer new
     → (filter_map act_in new.entries ≡ filter_map act_in old.entries) ⊎ (filter_map act_in new.entries ≡ filter_map act_in old.entries ++ act ∷ [])
-served_began act old new answer (inl served) = inr (began old.entries new.entries act (Some answer) served.0)
-served_began act old new answer (inr (refusal, is, inl unbegun)) = inl (ap (λ (s : SeatView). filter_map act_in s.entries) unbegun.1)
-served_began act old new answer (inr (refusal, is, inr stopped)) = inr (began old.entries new.entries act stopped.1.told stopped.1.entered)
+entered_began act old new answer (inl (recorded, going, goes, follows)) = inr (began old.entries new.entries act (Some answer) follows)
+entered_began act old new answer (inr (outside, (refusal, is, inl unbegun))) = inl (ap (λ (s : SeatView). filter_map act_in s.entries) unbegun.1)
+entered_began act old new answer (inr (outside, (refusal, is, inr stopped))) = inr (began old.entries new.entries act stopped.1.told stopped.1.entered)
 
 one_more : (drawn : List Act) (act : Act) (old new : List Entry) → ArePicked (filter_map act_in old) drawn
     → (filter_map act_in new ≡ filter_map act_in old) ⊎ (filter_map act_in new ≡ filter_map act_in old ++ act ∷ []) → ArePicked (filter_map act_in new) (drawn ++ act ∷ [])
@@ -65,13 +65,13 @@ one_round done state = rw add-one refl
 
 -- one round more
 pub round_more : (client keys done first : ℕ) (old new : SeatView) → old.name.client ≡ client → ArePicked (filter_map act_in old.entries) (acts_drawn client keys done first)
-    → ((answer : Answer) × IsServed (act_of_round old.name.client keys (done + 1) (round_from keys (state_after done first))) old answer new)
+    → ((answer : Answer) × IsOperation (act_of_round old.name.client keys (done + 1) (round_from keys (state_after done first))) old answer new)
     → ArePicked (filter_map act_in new.entries) (acts_drawn client keys (done + 1) first)
 round_more client keys done first old new same h served =
     subst (ArePicked (filter_map act_in new.entries)) (sym (map-range_with_len_more (λ at. act_of_round client keys (at + 1) (round_from keys (state_after at first))) 0 done done (omega arith)))
     (one_more (acts_drawn client keys done first) (act client) old.entries new.entries h
     (subst (λ (c : ℕ). (filter_map act_in new.entries ≡ filter_map act_in old.entries) ⊎ (filter_map act_in new.entries ≡ filter_map act_in old.entries ++ act c ∷ [])) same
-    (served_began (act old.name.client) old new served.0 served.1)))
+    (entered_began (act old.name.client) old new served.0 served.1.entered)))
   where
     act : ℕ → Act
     act c = act_of_round c keys (done + 1) (round_from keys (state_after done first))
@@ -80,25 +80,25 @@ round_more client keys done first old new same h served =
 
 -- by the kind that it drew
 of_kind : (keys nth : ℕ) (round : Round) (which : RoundKind) (act : Act) (old new : SeatView) (answer : Answer) → round.kind ≡ which
-    → act_of_kind which old.name.client (take (min round.count 4) (four_keys round.first keys)) nth round.searches_even ≡ act → IsServed act old answer new
-    → (told : Answer) × IsServed (act_of_round old.name.client keys nth round) old told new
+    → act_of_kind which old.name.client (take (min round.count 4) (four_keys round.first keys)) nth round.searches_even ≡ act → IsOperation act old answer new
+    → (told : Answer) × IsOperation (act_of_round old.name.client keys nth round) old told new
 of_kind keys nth round which act old new answer is same served = (
   answer,
-  subst (λ (k : RoundKind). IsServed (act_of_kind k old.name.client (take (min round.count 4) (four_keys round.first keys)) nth round.searches_even) old answer new) (sym is)
-      (subst (λ (a : Act). IsServed a old answer new) (sym same) served),
+  subst (λ (k : RoundKind). IsOperation (act_of_kind k old.name.client (take (min round.count 4) (four_keys round.first keys)) nth round.searches_even) old answer new) (sym is)
+      (subst (λ (a : Act). IsOperation a old answer new) (sym same) served),
 )
 
 pub puts : (keys nth : ℕ) (round : Round) (items : List Item) (old new : SeatView) (answer : Answer) → round.kind ≡ Put
-    → items ≡ take (min round.count 4) (map (item_of_round nth) (four_keys round.first keys)) → IsServed (PutAct old.name.client items) old answer new
-    → (told : Answer) × IsServed (act_of_round old.name.client keys nth round) old told new
+    → items ≡ take (min round.count 4) (map (item_of_round nth) (four_keys round.first keys)) → IsOperation (PutAct old.name.client items) old answer new
+    → (told : Answer) × IsOperation (act_of_round old.name.client keys nth round) old told new
 puts keys nth round items old new answer is same = of_kind keys nth round Put (PutAct old.name.client items) old new answer is
     (ap (PutAct old.name.client) (sym (take-map (item_of_round nth) (min round.count 4) (four_keys round.first keys)) ∙ sym same))
 
 pub gets : (keys nth : ℕ) (round : Round) (all : List (List ℕ)) (old new : SeatView) (answer : Answer) → round.kind ≡ Get
-    → all ≡ take (min round.count 4) (four_keys round.first keys) → IsServed (GetAct old.name.client all) old answer new
-    → (told : Answer) × IsServed (act_of_round old.name.client keys nth round) old told new
+    → all ≡ take (min round.count 4) (four_keys round.first keys) → IsOperation (GetAct old.name.client all) old answer new
+    → (told : Answer) × IsOperation (act_of_round old.name.client keys nth round) old told new
 gets keys nth round all old new answer is same = of_kind keys nth round Get (GetAct old.name.client all) old new answer is (ap (GetAct old.name.client) (sym same))
 
 pub finds : (keys nth : ℕ) (round : Round) (tag : List ℕ) (old new : SeatView) (answer : Answer) → round.kind ≡ Find → tag ≡ tag_of round.searches_even
-    → IsServed (FindAct old.name.client tag) old answer new → (told : Answer) × IsServed (act_of_round old.name.client keys nth round) old told new
+    → IsOperation (FindAct old.name.client tag) old answer new → (told : Answer) × IsOperation (act_of_round old.name.client keys nth round) old told new
 finds keys nth round tag old new answer is same = of_kind keys nth round Find (FindAct old.name.client tag) old new answer is (ap (FindAct old.name.client) (sym same))

@@ -1,5 +1,5 @@
 -- The seats of a load in their order: for `run_seats`, `join_seat` and `join_seats`.
-use Rattle.std.proofs.Common.{◌≡◌, ℕ, All, Option, Result, Ok, Err, cond, true, false, ◌+◌, List, [], ◌∷◌, ◌++◌, map, sym, ap, subst, ◌∙◌, append_assoc, arith}
+use Rattle.std.proofs.Common.{◌≡◌, ℕ, All, Option, Result, Ok, Err, cond, true, false, ◌+◌, List, [], ◌∷◌, ◌++◌, map, length, sym, ap, subst, ◌∙◌, append_assoc, arith}
 use Rattle.std.specs.Result.{is_ok}
 use Rattle.std.specs.List.{flat_map, range_with_len}
 use Rattle.std.proofs.lemmas.List.{append-nil, map-append, map-id}
@@ -8,6 +8,7 @@ use Rattle.std.proofs.lemmas.List.FromFn.{map-range_with_len_more}
 use Rattle.std.proofs.lemmas.List.Concat.{flat_map-append}
 use Rattle.std.specs.declared.thread.PromisedHandle.{PromisedHandle}
 use Rattle.closed_store.specs.declared.transcript.Transcript.{Transcript}
+use Rattle.server_sessions.specs.Telling.{SessionLeft}
 use Rattle.workload.specs.declared.load.seats.LoadSeat.{LoadSeat}
 use Rattle.workload.specs.declared.load.seats.Orders.{Orders}
 use Rattle.workload.specs.Rounds.{IsOfSeat, seat_of, seats_of, seats_of_tenant}
@@ -21,9 +22,9 @@ one_more_seat : (tenants seats tenant nth : ℕ) → seats_of tenants seats ++ s
 one_more_seat tenants seats tenant nth =
     ap (λ (l : List (ℕ × ℕ)). seats_of tenants seats ++ l) (map-range_with_len_more (λ (number : ℕ). (tenant, number)) 1 nth (nth + 1) (omega arith)) ∙ sym (append_assoc (seats_of tenants seats) (seats_of_tenant nth tenant) ((tenant, nth + 1) ∷ []))
 
--- the thread of a seat, which promised its transcript
+-- the thread of a seat, which promised what it leaves
 abbrev pub Handle : Type 0
-Handle = PromisedHandle (Option Transcript) LoadSeat
+Handle = PromisedHandle (Option SessionLeft) LoadSeat
 
 abbrev pub promised : Handle → ℕ × ℕ
 promised handle = (handle.promise.tenant, handle.promise.number)
@@ -52,11 +53,6 @@ pub ordered_more : (old new : List Handle) (handle : Handle) (orders : Orders) �
     → All (λ (h : Handle). h.promise.orders ≡ orders) old → All (λ (h : Handle). h.promise.orders ≡ orders) new
 ordered_more old new handle orders is same h = All-same (λ (h : Handle). h.promise.orders ≡ orders) new (old ++ handle ∷ []) is (All-push (λ (h : Handle). h.promise.orders ≡ orders) old handle h same)
 
--- a transcript for which there was room
-pub kept_if : {A E X : Type 0} {new : List X} (old : List X) (x : X) (r : Result A E) → is_ok r ≡ true → new ≡ cond (is_ok r) (old ++ x ∷ []) old → new ≡ old ++ x ∷ []
-kept_if old x (Ok a) ok is = is
-kept_if old x (Err e) ok is = absurd (let bad : false ≡ true = ok in cc)
-
 -- the seat that a thread promised
 pub seat_ended : (handle : Handle) (rest left given : List Handle) (old new : List Transcript) (transcript : Transcript) → rest ≡ handle ∷ left
     → new ≡ old ++ transcript ∷ [] → seat_of transcript ≡ promised handle → map seat_of old ++ map promised rest ≡ map promised given → map seat_of new ++ map promised left ≡ map promised given
@@ -67,6 +63,11 @@ seat_ended handle rest left given old new transcript is kept same so_far =
     ∙ ap (λ (seat : ℕ × ℕ). map seat_of old ++ (seat ∷ map promised left)) same
     ∙ ap (λ (l : List Handle). map seat_of old ++ map promised l) (sym is)
     ∙ so_far
+
+-- all seats have ended
+pub all_ended : (rest given : List Handle) (transcripts : List Transcript) → length rest ≡ 0 → map seat_of transcripts ++ map promised rest ≡ map promised given → map seat_of transcripts ≡ map promised given
+all_ended [] given transcripts none ended = sym (append-nil (map seat_of transcripts)) ∙ ended
+all_ended (handle ∷ rest) given transcripts none ended = absurd (omega (arith, none))
 
 pub drawn_more : (seed rounds keys tenant client : ℕ) (old new : List Transcript) (transcript : Transcript) → new ≡ old ++ transcript ∷ []
     → IsOfSeat seed rounds keys tenant client transcript → All (λ (t : Transcript). IsOfSeat seed rounds keys t.tenant t.client t) old → All (λ (t : Transcript). IsOfSeat seed rounds keys t.tenant t.client t) new

@@ -6,6 +6,8 @@ use Rattle.stamps.specs.Bounds.{IsParts}
 use Rattle.stamps.specs.declared.bounds.Limits.{Limits}
 use Rattle.hub.specs.Hubs.{AllSoundBooks, ConfigView, config_view}
 use Rattle.closed_store.specs.declared.closed.Closed.{Closed}
+use Rattle.history.specs.declared.entry.HistoryEntry.{HistoryEntry}
+use Rattle.server_sessions.specs.Histories.{IsOfHistory}
 use Rattle.line_protocol.specs.Stream.{terminated}
 use Rattle.line_runs.specs.Statuses.{status_of}
 use Rattle.line_runs.specs.declared.fault.ProgramFault.{ProgramFault}
@@ -49,12 +51,18 @@ TellsPortFirst port old new (Err Device) = Unit {0}
 abbrev pub TellsPortFor : ℕ → Option (List ℕ) → Option (List ℕ) → Result (Unit {0}) ProgramFault → Type 0
 TellsPortFor asked old new ended = (port : ℕ) × IsPortFor asked port × TellsPortFirst port old new ended
 
+-- A store that was closed is that of one history: the events of its journals are stretches of that, and each reply in its
+-- transcripts has its place there.
+abbrev pub HasHistory : Closed → Type 0
+HasHistory closed = ∥ ((seen : List HistoryEntry) × IsOfHistory seen closed) ∥₁
+
 -- What the close of a hub of this config answers: that config, and for each of its partitions, in their order, sound
--- journals of its tenants, or none, and the counts of their events.
+-- journals of its tenants, or none, and the counts of their events. It is all of the history of the store that was served.
 pub record IsClosed (view : ConfigView) (closed : Closed) : Type 0 where
   pub config : config_view closed.config ≡ view
   pub parts : length closed.journals.items ≡ view.parts
   pub books : AllSoundBooks view 0 closed.journals.items closed.counts.items
+  pub history : HasHistory closed
 
 -- What a server whose epochs were checked told of its tenants: nothing, where an allocation failed; or, of what was left
 -- of their journals in the store that it closed, that it is right with some epochs before it, or that an epoch is not.

@@ -12,7 +12,7 @@ mod mix;
 mod seats;
 mod tally;
 
-use crate::serve::open_hub;
+use crate::serve::{close_store, open_hub};
 use hub::{Closed, Config, Naming, NewStore, Sink};
 use joined::tell_kept;
 use kept::KeptEpochs;
@@ -150,7 +150,10 @@ fn run_new<
     let tenants = store.config.limits.len() as u32;
     let hub = open_hub::<J, S, H>(rt, alloc, store, sink)?;
     match run_seats(rt, alloc, &hub, tenants, seats, orders) {
-        Ok(transcripts) => Ok(hub.close(rt, transcripts)),
+        Ok(kept) => {
+            let (closed, _seen) = close_store(rt, hub, kept);
+            Ok(closed)
+        }
         Err(fault) => {
             let _ = hub.close(rt, Vec::new(alloc));
             Err(fault)

@@ -1,15 +1,20 @@
 //! A server: sessions over TCP, and the verdicts over the store that they left.
-ghost use Rattle.std.specs.Prelude.{◌≡◌, ◌<◌, ◌≤◌, ◌⊎◌, cond, Ok, Err, IfOk, IfErr, string_bytes};
+ghost use Rattle.std.specs.Prelude.{◌≡◌, ◌<◌, ◌≤◌, ◌⊎◌, cond, Ok, Err, IfOk, IfErr, IfSome, string_bytes};
 ghost use Rattle.line_runs.specs.declared.fault.ProgramFault.TheVariants.{Device, OutOfMemory as NoMemory};
+ghost use mathlib.Core.List.{IsPrefix};
+ghost use Rattle.history.specs.Legal.{IsLegal};
 ghost use Rattle.hub.specs.Hubs.{config_view};
-ghost use Rattle.workload.specs.Serving.{DoneOrRefused, IsFaultBefore, ServesAndTells, TellsOfPort, TellsPortFirst, TellsPortFor, greater_fault, listening_line};
-ghost use Rattle.server_sessions.specs.Ports.{listener_of, options_of, port_of};
+ghost use Rattle.workload.specs.Serving.{DoneOrRefused, IsClosed, IsFaultBefore, ServesAndTells, TellsOfPort, TellsPortFirst, TellsPortFor, greater_fault, listening_line};
+ghost use Rattle.server_sessions.specs.Histories.{IsOfHistory};
+ghost use Rattle.server_sessions.specs.Ports.{listener_of, options_of, port_of, transcripts_of};
 
 use command_line::{ServerOptions, VERSION};
-use hub::{Config, Hub, HubFault, Named, Naming, NewStore, Sink};
+use hub::{Closed, Config, Front, Hub, HubFault, Named, Naming, NewStore, Sink};
 use line_protocol::Name;
 use line_runs::{ProgramFault, write_text};
-use server_sessions::{Left, Listener, Open, OpenHub, Server, SessionOptions, serve_connections};
+use server_sessions::{
+    KeptTranscripts, Left, Listener, Open, OpenHub, Server, SessionOptions, serve_connections,
+};
 use server_status::{StatusPort, Watched, serve_and_report};
 use server_verdicts::{Checking, Known, endings_of, tell_checks, tell_verdicts};
 use std::alloc::{AllocError, Global};
@@ -19,6 +24,13 @@ use std::net::{Net, TcpListener, TcpStream};
 use std::sync::Wait;
 use std::thread::Threads;
 use std::time::{Clock, SystemTime, UNIX_EPOCH};
+
+/// Where a server's connections come from, and the port that reports how it stands, if it has one.
+#[derive(Drop)]
+struct Ports {
+    listener: Listener,
+    status: Option<StatusPort>,
+}
 
 /// The port that reports how a server stands, if it has one, and what is known of the journals, where epochs are checked.
 #[derive(Clone, Copy)]
@@ -72,14 +84,14 @@ pub fn run_server<
     let Ok(listener) = Listener::bind(rt, options.port) else {
         return Err(ProgramFault::Device);
     };
-    let server = server_of(alloc, listener, options)?;
     let status = bind_status(rt, options.status)?;
+    let ports = Ports { listener, status };
     if config.epoch == 0 {
         let store = NewStore::of(config);
-        serve_and_settle::<Brand, H, R, W>(rt, alloc, store, names, server, status, reader, writer)
+        serve_and_settle::<Brand, H, R, W>(rt, alloc, store, names, ports, options, reader, writer)
     } else {
         let store = NewStore::of(config);
-        serve_and_check::<Brand, H, R, W>(rt, alloc, store, names, server, status, reader, writer)
+        serve_and_check::<Brand, H, R, W>(rt, alloc, store, names, ports, options, reader, writer)
     }
 }
 
@@ -101,11 +113,11 @@ fn bind_status<H: Net<Listener = TcpListener, Stream = TcpStream>>(
 }
 
 // A server of these connections, counted or not as the options say, strict or not, and with puts that read first or not.
-fn server_of(
+fn server_of<G: Naming>(
     alloc: Global,
     listener: Listener,
     options: ServerOptions,
-) -> Result<Server<Listener>, AllocError>
+) -> Result<Server<Listener, G>, AllocError>
     ensures listener { IfOk result (λ server. listener_of server ≡ listener) }
     ensures strict { IfOk result (λ server. (options_of server).strict ≡ options.strict) }
     ensures newest { IfOk result (λ server. (options_of server).newest ≡ options.newest) }
@@ -117,11 +129,11 @@ fn server_of(
 }
 
 // The same server, whose sessions have no options.
-fn plain_server_of(
+fn plain_server_of<G: Naming>(
     alloc: Global,
     listener: Listener,
     options: ServerOptions,
-) -> Result<Server<Listener>, AllocError>
+) -> Result<Server<Listener, G>, AllocError>
     ensures { IfOk result (λ server. listener_of server ≡ listener) }
 {
     if options.stay {
@@ -142,17 +154,19 @@ fn serve_and_settle<
     alloc: Global,
     store: NewStore,
     names: &[Name],
-    server: Server<Listener>,
-    status: Option<StatusPort>,
+    ports: Ports,
+    options: ServerOptions,
     reader: &mut R,
     writer: &mut W,
 ) -> Result<(), ProgramFault>
     requires kept { store.config.epoch ≡ 0 }
     requires name { store.history.seen.book ≡ J.book }
     ensures { ServesAndTells (config_view store.config) names.now
-        (TellsPortFirst (port_of (listener_of server)))
+        (TellsPortFirst (port_of ports.listener))
         (W.contents writer.old) (W.contents writer.new) result }
 {
+    let Ports { listener, status } = ports;
+    let server = server_of(alloc, listener, options)?;
     let hub = open_hub::<J, (), H>(rt, alloc, store, ())?;
     let reporting = Reporting {
         port: status.as_ref(),
@@ -161,7 +175,7 @@ fn serve_and_settle<
     let told = serve_all(rt, alloc, &hub, names, &server, reporting, reader, writer);
     let left = server.left();
     let before = fault_of(&left);
-    let closed = hub.close(rt, left.transcripts);
+    let (closed, _seen) = close_store(rt, hub, left.kept);
     told?;
     if left.has_lost {
         return Err(ProgramFault::OutOfMemory);
@@ -181,17 +195,19 @@ fn serve_and_check<
     alloc: Global,
     store: NewStore,
     names: &[Name],
-    server: Server<Listener>,
-    status: Option<StatusPort>,
+    ports: Ports,
+    options: ServerOptions,
     reader: &mut R,
     writer: &mut W,
 ) -> Result<(), ProgramFault>
     requires cut { 0 < store.config.epoch }
     requires name { store.history.seen.book ≡ J.book }
     ensures { ServesAndTells (config_view store.config) names.now
-        (TellsPortFirst (port_of (listener_of server)))
+        (TellsPortFirst (port_of ports.listener))
         (W.contents writer.old) (W.contents writer.new) result }
 {
+    let Ports { listener, status } = ports;
+    let server = server_of(alloc, listener, options)?;
     let (hub, checking) = open_checked::<J, H>(rt, alloc, store)?;
     let reporting = Reporting {
         port: status.as_ref(),
@@ -200,7 +216,7 @@ fn serve_and_check<
     let told = serve_all(rt, alloc, &hub, names, &server, reporting, reader, writer);
     let left = server.left();
     let before = fault_of(&left);
-    let closed = hub.close(rt, left.transcripts);
+    let (closed, _seen) = close_store(rt, hub, left.kept);
     let known = checking.end(rt, alloc);
     told?;
     let limits = closed.config.limits;
@@ -210,7 +226,7 @@ fn serve_and_check<
 }
 
 // What kept a server from some of its connections, if anything did.
-fn fault_of(left: &Left) -> Result<(), ProgramFault>
+fn fault_of<G: Naming>(left: &Left<G>) -> Result<(), ProgramFault>
     ensures before { IsFaultBefore result }
     ensures exact { result
         ≡ cond left.now.has_refused (Err NoMemory) (cond left.now.has_failed (Err Device) (Ok tt)) }
@@ -284,13 +300,46 @@ pub(crate) fn open_hub<
     }
 }
 
+/// Closes a hub whose sessions left these transcripts, and answers what was seen of its history: the events of its journals are a
+/// stretch of that, and each reply in the transcripts has its place there.
+pub(crate) fn close_store<J: Naming + Send + Sync + Drop + 'static, H: Threads + Wait>(
+    rt: &H,
+    hub: OpenHub<J>,
+    kept: KeptTranscripts<Named<J, Open>>,
+) -> (Closed, Front<Named<J, Open>>)
+    ensures closed { IsClosed hub result.0 }
+    ensures transcripts { result.0.transcripts.items ≡ transcripts_of kept }
+    ensures history { ∥ IsOfHistory result.1 result.0 ∥₁ }
+{
+    let (transcripts, told) = kept.into_both();
+    let (closed, seen) = hub.close_with_history(rt, transcripts);
+    let seen = seen_by_all(seen.again(), &told);
+    (closed, seen)
+}
+
+// What was seen at the close of a store and by its seats, if any has seen something.
+fn seen_by_all<G: Naming>(at_close: Front<G>, by_seats: &Option<Front<G>>) -> Front<G>
+    ensures close { IsPrefix at_close result }
+    ensures seats { IfSome by_seats.now (λ seen. IsPrefix seen result) }
+    ensures legal { IsLegal at_close → IsLegal result }
+{
+    match by_seats {
+        Some(seen) => {
+            let mut all = at_close;
+            all.learn(seen);
+            all
+        }
+        None => at_close,
+    }
+}
+
 // Reports the port, and serves the connections, and the status port beside them.
 fn serve_all<J: Naming + Send + Sync, H: Threads + Wait + Clock + Sync, R: Read, W: Write>(
     rt: &H,
     alloc: Global,
     hub: &OpenHub<J>,
     names: &[Name],
-    server: &Server<Listener>,
+    server: &Server<Listener, Named<J, Open>>,
     reporting: Reporting<'_>,
     reader: &mut R,
     writer: &mut W,

@@ -5,14 +5,16 @@ ghost use Rattle.line_runs.specs.declared.fault.ProgramFault.TheVariants.{Device
 ghost use Rattle.plain_store.specs.declared.answer.Answer.{Answer as Told};
 ghost use Rattle.closed_store.specs.declared.transcript.Transcript.{Transcript as Left};
 ghost use Rattle.hub.specs.Seats.{IsNamed};
-ghost use Rattle.server_sessions.specs.Telling.{IsServed};
+ghost use Rattle.hub.specs.Operations.{IsOperation};
+ghost use Rattle.server_sessions.specs.Histories.{IsGivenIn};
+ghost use Rattle.server_sessions.specs.Ports.{transcripts_of};
 ghost use Rattle.workload.specs.Serving.{DoneOrRefused};
 ghost use Rattle.workload.specs.Rounds.{AreOfSeats, ArePicked, IsOfSeat, act_in, act_of_round, acts_drawn, seats_of};
 
 use crate::load::mix::{Draws, Round, RoundKind, four_keys, items_of, tag_of};
-use hub::{Naming, Transcript};
+use hub::{Named, Naming};
 use line_runs::ProgramFault;
-use server_sessions::{OpenHub, OpenSeat};
+use server_sessions::{KeptTranscripts, Open, OpenHub, OpenSeat, SessionLeft};
 use stamps::{Client, Counter};
 use std::alloc::Global;
 use std::sync::Wait;
@@ -31,7 +33,11 @@ pub(crate) struct Orders {
     pub ghost some_keys: { 0 < keys },
 }
 
-/// The seat of a client of a load. Its thread promises its transcript, or nothing where it found no memory.
+/// What the seat of a client left, of a store whose history J names.
+type SeatLeft<J> = SessionLeft<Named<J, Open>>;
+
+/// The seat of a client of a load. Its thread promises its transcript, and what the seat has seen of the store's history; or nothing
+/// where it found no memory.
 #[derive(Clone, Copy)]
 struct LoadSeat {
     tenant: u32,
@@ -39,15 +45,16 @@ struct LoadSeat {
     orders: Orders,
 }
 
-impl Promise<Option<Transcript>> for LoadSeat {
+impl<J: Naming> Promise<Option<SeatLeft<J>>> for LoadSeat {
     ghost use Rattle.std.specs.Prelude.{IfSome};
+    ghost use Rattle.server_sessions.specs.Histories.{IsGivenIn};
     ghost use Rattle.workload.specs.Rounds.{IsOfSeat};
 
-    ghost kept_by = { λ p r. IfSome r (IsOfSeat p.orders.seed p.orders.rounds p.orders.keys p.tenant p.number) };
+    ghost kept_by = { λ p r. IfSome r (λ its. IsOfSeat p.orders.seed p.orders.rounds p.orders.keys p.tenant p.number its.0 × IsGivenIn its.1 its.0) };
 }
 
-/// Has the seats of each tenant run, each in a thread of its own, and answers their transcripts. When it returns, these
-/// threads have ended. It is `Device` where a thread can't be started, once those that were begun by then have run to their
+/// Has the seats of each tenant run, each in a thread of its own, and answers their transcripts, with what these seats have seen. When it returns,
+/// these threads have ended. It is `Device` where a thread can't be started, once those that were begun by then have run to their
 /// end, and `OutOfMemory` where a seat or a transcript found no memory.
 pub(crate) fn run_seats<J: Naming + Send + Sync, H: Threads + Wait + Sync>(
     rt: &H,
@@ -56,22 +63,22 @@ pub(crate) fn run_seats<J: Naming + Send + Sync, H: Threads + Wait + Sync>(
     tenants: u32,
     seats: u16,
     orders: Orders,
-) -> Result<Vec<Transcript>, ProgramFault>
+) -> Result<KeptTranscripts<Named<J, Open>>, ProgramFault>
     requires tenants { tenants ≤ 64 }
     requires seats { seats ≤ 16 }
     ensures { DoneOrRefused
-        (λ ts. AreOfSeats orders.seed orders.rounds orders.keys (seats_of tenants seats) ts.items)
-        result }
+        (λ kept. AreOfSeats orders.seed orders.rounds orders.keys (seats_of tenants seats)
+        (transcripts_of kept)) result }
 {
     thread::scope(
         thread::scope_env(),
         rt,
-        |scope| -> Result<Vec<Transcript>, ProgramFault>
+        |scope| -> Result<KeptTranscripts<Named<J, Open>>, ProgramFault>
             requires tenants { tenants ≤ 64 }
             requires seats { seats ≤ 16 }
             ensures { DoneOrRefused
-                (λ ts. AreOfSeats orders.seed orders.rounds orders.keys
-                (seats_of tenants seats) ts.items) result }
+                (λ kept. AreOfSeats orders.seed orders.rounds orders.keys
+                (seats_of tenants seats) (transcripts_of kept)) result }
         {
             let Ok(mut handles) = Vec::with_capacity(alloc, tenants as usize * usize::from(seats))
             else {
@@ -98,57 +105,59 @@ pub(crate) fn run_seats<J: Naming + Send + Sync, H: Threads + Wait + Sync>(
 }
 
 /// Waits until these seats have done their rounds, and answers their transcripts.
-fn join_seats<H: Threads>(
+fn join_seats<J: Naming, H: Threads>(
     rt: &H,
     alloc: Global,
-    handles: Vec<PromisedHandle<Option<Transcript>, LoadSeat>>,
+    handles: Vec<PromisedHandle<Option<SeatLeft<J>>, LoadSeat>>,
     orders: Orders,
-) -> Result<Vec<Transcript>, ProgramFault>
+) -> Result<KeptTranscripts<Named<J, Open>>, ProgramFault>
     requires { All (λ h. h.promise.orders ≡ orders) handles.items }
     ensures all { IfOk result
-        (λ ts.
+        (λ kept.
         AreOfSeats orders.seed orders.rounds orders.keys
-        (map (λ h. (h.promise.tenant, h.promise.number)) handles.items) ts.items) }
+        (map (λ h. (h.promise.tenant, h.promise.number)) handles.items) (transcripts_of kept)) }
     ensures refused { IfErr result (λ fault. fault ≡ NoMemory) }
 {
-    let mut transcripts = Vec::new(alloc);
+    let mut kept = KeptTranscripts::new(Vec::new(alloc));
     let mut lacks_memory = false;
     for handle in handles {
-        if !join_seat(rt, handle, &mut transcripts) {
+        if !join_seat(rt, handle, &mut kept) {
             lacks_memory = true;
         }
     }
     if lacks_memory {
         return Err(ProgramFault::OutOfMemory);
     }
-    Ok(transcripts)
+    Ok(kept)
 }
 
 /// Waits until a seat has done its rounds, and answers whether its transcript could be kept.
-fn join_seat<H: Threads>(
+fn join_seat<J: Naming, H: Threads>(
     rt: &H,
-    handle: PromisedHandle<Option<Transcript>, LoadSeat>,
-    transcripts: &mut Vec<Transcript>,
+    handle: PromisedHandle<Option<SeatLeft<J>>, LoadSeat>,
+    kept: &mut KeptTranscripts<Named<J, Open>>,
 ) -> bool
     ensures kept { result ≡ true
         → (let promise = handle.promise in
         let orders = promise.orders in
         (t : Left)
         × IsOfSeat orders.seed orders.rounds orders.keys promise.tenant promise.number t
-        × (transcripts.new.items ≡ transcripts.old.items ++ t ∷ [])) }
-    ensures same { result ≡ false → transcripts.new.items ≡ transcripts.old.items }
+        × (transcripts_of kept.new ≡ transcripts_of kept.old ++ t ∷ [])) }
+    ensures same { result ≡ false
+        → transcripts_of kept.new ≡ transcripts_of kept.old }
 {
     match handle.join(rt) {
-        Some(transcript) => transcripts.push(transcript).is_ok(),
+        Some(left) => kept.keep(left),
         None => false,
     }
 }
 
-/// Does the rounds of one client. It answers its seat's transcript, or nothing where the seat found no memory, or the tenant
+/// Does the rounds of one client. It answers what its seat left, or nothing where the seat found no memory, or the tenant
 /// may not have so many clients.
-fn run_seat<J: Naming, H: Wait>(rt: &H, hub: &OpenHub<J>, of: LoadSeat) -> Option<Transcript>
+fn run_seat<J: Naming, H: Wait>(rt: &H, hub: &OpenHub<J>, of: LoadSeat) -> Option<SeatLeft<J>>
     ensures { IfSome result
-        (IsOfSeat of.orders.seed of.orders.rounds of.orders.keys of.tenant of.number) }
+        (λ its. IsOfSeat of.orders.seed of.orders.rounds of.orders.keys of.tenant of.number its.0
+        × IsGivenIn its.1 its.0) }
 {
     let client = Client::new(of.number)?;
     let base = Counter::new(0)?;
@@ -167,11 +176,13 @@ fn run_rounds<J: Naming, H: Wait>(
     seat: OpenSeat<'_, J>,
     draws: Draws,
     orders: Orders,
-) -> Transcript
-    ensures name { IsNamed result seat.entry.name }
+) -> SeatLeft<J>
+    ensures name { IsNamed result.0 seat.entry.name }
+    // Each reply that it was given has its place in what its seat has seen.
+    ensures given { seat.entry.entries ≡ [] → IsGivenIn result.1 result.0 }
     // What it began are some of the acts that it drew, in their order.
     ensures began { seat.entry.entries ≡ []
-        → ArePicked (filter_map act_in result.entries.items)
+        → ArePicked (filter_map act_in result.0.entries.items)
         (acts_drawn seat.entry.name.client orders.keys orders.rounds draws.state) }
 {
     let mut seat = seat;
@@ -180,7 +191,8 @@ fn run_rounds<J: Naming, H: Wait>(
         let round = draws.round(orders.keys);
         run_round(rt, &mut seat, done + 1, &round, orders.keys);
     }
-    seat.end(rt)
+    let seen = seat.seen();
+    (seat.end(rt), seen)
 }
 
 /// Does a round. Whatever is answered, the next round follows.
@@ -193,8 +205,9 @@ fn run_round<J: Naming, H: Wait>(
 )
     requires { 0 < keys }
     // It does just what was drawn.
-    ensures served { (answer : Told)
-        × IsServed (act_of_round seat.old.name.client keys nth round.now) seat.old answer seat.new }
+    ensures operated { (answer : Told)
+        × IsOperation
+        (act_of_round seat.old.name.client keys nth round.now) seat.old answer seat.new }
     ensures name { seat.new.name ≡ seat.old.name }
 {
     let count = (round.count as usize).min(MOST_KEYS);

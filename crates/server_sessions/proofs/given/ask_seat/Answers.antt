@@ -1,5 +1,4 @@
-use Rattle.plain_store.specs.declared.step.Act.TheVariants.{Get, Find}
-use Rattle.server_sessions.proofs.ToldOf.{asked_find, asked_get, asked_put, served_by}
+use Rattle.server_sessions.proofs.ToldOf.{asked_find, asked_get, asked_put}
 use Rattle.server_sessions.proofs.given.ask_seat.Goals as goal
 
 pub returns-in-Put-clause-answered : goal.returns-in-Put-clause-answered
@@ -9,9 +8,9 @@ returns-in-Put-clause-answered g c = λ is.
 pub returns-in-Get-clause-answered : goal.returns-in-Get-clause-answered
 returns-in-Get-clause-answered g c = λ is.
     asked_get c.args.newest _ c.args.request.now _ c.as_slice-in-Get.result.now c.args.seat.now c.get_all_into.new.self c.get_all_into.new.answer c.in-Get.is c.as_slice-in-Get.ensures
-    (served_by (Get c.args.seat.now.name.client c.as_slice-in-Get.result.now) c.args.seat.now c.get_all_into.new.self c.get_all_into.new.answer c.get_all_into.ensures.operated.entered)
+    (record { operated = c.get_all_into.ensures.operated; reports = (c.get_all_into.ensures.read, c.get_all_into.ensures.atomic) })
 
 pub returns-in-Find-clause-answered : goal.returns-in-Find-clause-answered
 returns-in-Find-clause-answered g c = λ is.
     asked_find c.args.newest _ c.args.request.now c.in-Find.tag c.args.seat.now c.find_into.new.self c.find_into.new.answer c.in-Find.is
-    (served_by (Find c.args.seat.now.name.client c.in-Find.tag) c.args.seat.now c.find_into.new.self c.find_into.new.answer c.find_into.ensures.operated.entered)
+    (record { operated = c.find_into.ensures.operated; reports = (c.find_into.ensures.listed, c.find_into.ensures.atomic) })

@@ -16,7 +16,7 @@ returns-then-ends-clause-keeps g c = record {
   tenant = search rules;
   told =
       told_line c.args.connection.now.terms.options.newest c.args.hub.now.epoch (g.W.Write.contents c.args.writer.now) (g.W.Write.contents c.make_room.new.writer) c.args.out.now.items c.put_answer.new.out.items c.make_room.new.out.items (answer_line c.answer.new.self.answer)
-      c.args.connection.now.seat c.answer.new.self.seat c.put_answer.ensures.text c.in_default.ensures.told c.in_ok-make_room.ensures.gathered;
+      c.args.connection.now.seat c.answer.new.self.seat c.put_answer.ensures.text c.in_default.ensures.answered.told c.in_ok-make_room.ensures.gathered;
   begun = search rules;
 }
 
@@ -26,7 +26,7 @@ returns-else-ends-clause-keeps g c = record {
   tenant = search rules;
   told =
       told_line c.args.connection.now.terms.options.newest c.args.hub.now.epoch (g.W.Write.contents c.args.writer.now) (g.W.Write.contents c.make_room.new.writer) c.args.out.now.items c.put_answer.new.out.items c.make_room.new.out.items (answer_line c.answer.new.self.answer)
-      c.args.connection.now.seat c.answer.new.self.seat c.put_answer.ensures.text c.in_default.ensures.told c.in_ok-make_room.ensures.gathered;
+      c.args.connection.now.seat c.answer.new.self.seat c.put_answer.ensures.text c.in_default.ensures.answered.told c.in_ok-make_room.ensures.gathered;
   begun = search rules;
 }
 
@@ -42,7 +42,7 @@ returns-in_err-make_room-clause-keeps g c = record {
       let new = g.W.Write.contents c.make_room.new.writer in
       let begun = c.in_err-make_room.ensures.begun in
       at_any c.from_residual.result (λ fault. BreaksTelling c.args.connection.now.terms.options.newest c.args.hub.now.epoch first last old new c.args.out.now.items)
-      (λ fault. breaks_line c.args.connection.now.terms.options.newest c.args.hub.now.epoch old new c.args.out.now.items c.put_answer.new.out.items (answer_line c.answer.new.self.answer) first last begun.0 c.put_answer.ensures.text c.in_default.ensures.told begun.1);
+      (λ fault. breaks_line c.args.connection.now.terms.options.newest c.args.hub.now.epoch old new c.args.out.now.items c.put_answer.new.out.items (answer_line c.answer.new.self.answer) first last begun.0 c.put_answer.ensures.text c.in_default.ensures.answered.told begun.1);
 }
 
 -- nothing is reported
@@ -51,7 +51,7 @@ pub returns-in-Some-clause-keeps : goal.returns-in-Some-clause-keeps
 returns-in-Some-clause-keeps g c = record {
   ready = search rules;
   tenant = search rules;
-  told = ([], Gathers-none (g.W.Write.contents c.args.writer.now) c.args.out.now.items, c.in-Some.ensures.untold);
+  told = ([], Gathers-none (g.W.Write.contents c.args.writer.now) c.args.out.now.items, c.in-Some.ensures.ended.untold);
   begun = search rules;
 }
 
@@ -59,7 +59,7 @@ pub returns-then-ends-clause-answered : goal.returns-then-ends-clause-answered
 returns-then-ends-clause-answered g c = λ is.
     let answer = c.answer.new.self.answer in
     ends_without_memory c.args.connection.now.terms.options c.args.hub.now c.args.connection.now.terms.names.now c.args.connection.now.seat c.answer.new.self.seat c.args.line.now answer (g.W.Write.contents c.args.writer.now) (g.W.Write.contents c.make_room.new.writer)
-    c.args.out.now.items c.make_room.new.out.items is c.in_default.ensures.line c.in_default.ensures.goes_on (c.ends-ends.ensures.0 c.if-ends.true)
+    c.args.out.now.items c.make_room.new.out.items is c.in_default.ensures.answered.line c.in_default.ensures.answered.goes_on (c.ends-ends.ensures.0 c.if-ends.true)
     (gathers_line (g.W.Write.contents c.args.writer.now) (g.W.Write.contents c.make_room.new.writer) c.args.out.now.items c.put_answer.new.out.items c.make_room.new.out.items (answer_line answer)
     c.put_answer.ensures.text c.in_ok-make_room.ensures.gathered)
 
@@ -67,14 +67,14 @@ pub returns-else-ends-clause-answered : goal.returns-else-ends-clause-answered
 returns-else-ends-clause-answered g c = λ is.
     let answer = c.answer.new.self.answer in
     goes_on c.args.connection.now.terms.options c.args.hub.now c.args.connection.now.terms.names.now c.args.connection.now.seat c.answer.new.self.seat c.args.line.now answer (g.W.Write.contents c.args.writer.now) (g.W.Write.contents c.make_room.new.writer)
-    c.args.out.now.items c.make_room.new.out.items is c.in_default.ensures.line c.in_default.ensures.goes_on
+    c.args.out.now.items c.make_room.new.out.items is c.in_default.ensures.answered.line c.in_default.ensures.answered.goes_on
     (gathers_line (g.W.Write.contents c.args.writer.now) (g.W.Write.contents c.make_room.new.writer) c.args.out.now.items c.put_answer.new.out.items c.make_room.new.out.items (answer_line answer)
     c.put_answer.ensures.text c.in_ok-make_room.ensures.gathered)
 
 pub returns-in-Some-clause-answered : goal.returns-in-Some-clause-answered
 returns-in-Some-clause-answered g c = λ is.
     ends_before c.args.connection.now.terms.options c.args.hub.now c.args.connection.now.terms.names.now c.args.connection.now.seat c.answer.new.self.seat c.in-Some.ending c.args.line.now (g.W.Write.contents c.args.writer.now) c.args.out.now.items
-    c.in-Some.ensures.ends c.in-Some.ensures.left
+    c.in-Some.ensures.ended.ends c.in-Some.ensures.ended.left
 
 pub returns-in_err-make_room-clause-broke : goal.returns-in_err-make_room-clause-broke
 returns-in_err-make_room-clause-broke g c =
@@ -88,7 +88,7 @@ returns-in_err-make_room-clause-broke g c =
     let new = g.W.Write.contents c.make_room.new.writer in
     let begun = c.in_err-make_room.ensures.begun in
     at_any c.from_residual.result (λ fault. IsLine line → BreaksOffIn options hub names first last (terminated line) old new c.args.out.now.items)
-    (λ fault is. breaks_at_line options hub names first last line c.answer.new.self.answer old new c.args.out.now.items c.put_answer.new.out.items begun.0 is c.in_default.ensures.line c.in_default.ensures.goes_on c.put_answer.ensures.text begun.1)
+    (λ fault is. breaks_at_line options hub names first last line c.answer.new.self.answer old new c.args.out.now.items c.put_answer.new.out.items begun.0 is c.in_default.ensures.answered.line c.in_default.ensures.answered.goes_on c.put_answer.ensures.text begun.1)
 
 pub returns-else-ends-clause-goes_on : goal.returns-else-ends-clause-goes_on
 returns-else-ends-clause-goes_on g c = λ none seated want. both_ways c.ends-ends.result c.if-ends.false (c.ends-ends.ensures.1 (seated, want))

@@ -12,11 +12,11 @@ made_with (Err e) more is = tt
 pub returns-in_ok-read-in-Metrics : goal.returns-in_ok-read-in-Metrics
 returns-in_ok-read-in-Metrics g c =
     let read = c.in_ok-read-in-Metrics in
-    subst (λ (asked : PageRequest). IfOk c.metrics_page.result (λ page. IsAnswerTo c.args.watched.now asked (string_bytes page))) (sym c.in-Metrics.is)
+    subst (λ (asked : PageRequest). IfOk c.metrics_page.result (λ page. IsAnswerTo g.C.JournalChecks.has_told c.args.watched.now asked (string_bytes page))) (sym c.in-Metrics.is)
     (made_with c.metrics_page.result (λ page is. (read.field-0, read.ensures, is)) c.metrics_page.ensures)
 
 pub returns-in_ok-read-in-Health : goal.returns-in_ok-read-in-Health
 returns-in_ok-read-in-Health g c =
     let read = c.in_ok-read-in-Health in
-    subst (λ (asked : PageRequest). IfOk c.health_page.result (λ page. IsAnswerTo c.args.watched.now asked (string_bytes page))) (sym c.in-Health.is)
+    subst (λ (asked : PageRequest). IfOk c.health_page.result (λ page. IsAnswerTo g.C.JournalChecks.has_told c.args.watched.now asked (string_bytes page))) (sym c.in-Health.is)
     (made_with c.health_page.result (λ page is. (read.field-0, read.ensures, is)) c.health_page.ensures)

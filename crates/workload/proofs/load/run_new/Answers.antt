@@ -6,7 +6,7 @@ use Rattle.workload.proofs.load.run_new.Goals as goal
 pub returns-in-Ok : goal.returns-in-Ok
 returns-in-Ok g c = record {
   done = (
-    is_closed (config_view c.args.store.config) _ c.close.result c.close.ensures.config c.close.ensures.parts c.close.ensures.books c.in_ok-hub.ensures.done,
+    is_closed (config_view c.args.store.config) _ c.close_store-closed.result.0 c.close_store-closed.ensures.closed c.in_ok-hub.ensures.done,
     search rules,
   );
   refused = tt;

@@ -8,16 +8,16 @@ pub returns-then-config-eq0 : goal.returns-then-config-eq0
 returns-then-config-eq0 g c = record {
   served = search rules;
   port =
-      port_is c.args.options.port c.in-Ok.listener c.in_ok-server.server (g.W.Write.contents c.args.writer.now) (g.W.Write.contents c.serve_and_settle.new.writer) c.serve_and_settle.result
-      c.in-Ok.ensures c.in_ok-server.ensures.listener c.serve_and_settle.ensures.port;
+      port_is c.args.options.port c.in-Ok.listener (g.W.Write.contents c.args.writer.now) (g.W.Write.contents c.serve_and_settle.new.writer) c.serve_and_settle.result
+      c.in-Ok.ensures c.serve_and_settle.ensures.port;
 }
 
 pub returns-else-config-eq0 : goal.returns-else-config-eq0
 returns-else-config-eq0 g c = record {
   served = search rules;
   port =
-      port_is c.args.options.port c.in-Ok.listener c.in_ok-server.server (g.W.Write.contents c.args.writer.now) (g.W.Write.contents c.serve_and_check.new.writer) c.serve_and_check.result
-      c.in-Ok.ensures c.in_ok-server.ensures.listener c.serve_and_check.ensures.port;
+      port_is c.args.options.port c.in-Ok.listener (g.W.Write.contents c.args.writer.now) (g.W.Write.contents c.serve_and_check.new.writer) c.serve_and_check.result
+      c.in-Ok.ensures c.serve_and_check.ensures.port;
 }
 
 pub returns-in_default : goal.returns-in_default
@@ -26,20 +26,12 @@ returns-in_default g c = record {
   port = (c.args.options.port, inr refl, tt);
 }
 
-pub returns-in_err-server : goal.returns-in_err-server
-returns-in_err-server g c = record {
-  served = search rules;
-  port =
-      let p = err_from_is_err_and c.from_residual.result c.from_residual.ensures.1 in
-      rw (p.1, p.2) (c.args.options.port, inr refl, tt);
-}
-
 pub returns-in_err-status : goal.returns-in_err-status
 returns-in_err-status g c = record {
   served =
-      let p = err_from_is_err_and c.from_residual-in_err-status.result c.from_residual-in_err-status.ensures.1 in
+      let p = err_from_is_err_and c.from_residual.result c.from_residual.ensures.1 in
       rw (p.1, p.2) (nothing_told (config_view c.args.config) c.args.names.now (g.W.Write.contents c.args.writer.now) c.in_err-status.field-0.0 c.in_err-status.ensures);
   port =
-      let p = err_from_is_err_and c.from_residual-in_err-status.result c.from_residual-in_err-status.ensures.1 in
+      let p = err_from_is_err_and c.from_residual.result c.from_residual.ensures.1 in
       rw (p.1, p.2) (no_port_for c.args.options.port (g.W.Write.contents c.args.writer.now) c.in_err-status.field-0.0 c.in_err-status.ensures);
 }

@@ -1,7 +1,7 @@
 use Rattle.std.proofs.Common.{◌∙◌, arith, ap, inr, rules}
 use Rattle.std.proofs.lemmas.Result.{err_from_is_err_and}
 use Rattle.hub.specs.Hubs.{ConfigView, config_view}
-use Rattle.server_sessions.specs.Ports.{listener_of, port_of}
+use Rattle.server_sessions.specs.Ports.{port_of}
 use Rattle.workload.proofs.Listening.{closed_on, is_closed, no_port, no_room_to_check, no_store, nothing_told, port_then_checked}
 use Rattle.workload.proofs.serve.serve_and_check.Goals as goal
 
@@ -9,22 +9,22 @@ pub returns : goal.returns
 returns g c = record {
   served =
       closed_on (config_view c.args.store.config) c.args.names.now (g.W.Write.contents c.args.writer.now) (g.W.Write.contents c.serve_all-told.new.writer) (g.W.Write.contents c.tell_checks-ended.new.writer)
-      c.close-closed.result c.tell_checks-ended.result c.ended_after.result c.in_ok-told.ensures.listened (is_closed (config_view c.args.store.config) _ c.close-closed.result c.close-closed.ensures.config c.close-closed.ensures.parts c.close-closed.ensures.books c.in_ok-hub.ensures.done) (λ kept. absurd (omega (arith, kept, c.requires.cut)))
+      c.close_store-closed.result.0 c.tell_checks-ended.result c.ended_after.result c.in_ok-told.ensures.listened (is_closed (config_view c.args.store.config) _ c.close_store-closed.result.0 c.close_store-closed.ensures.closed c.in_ok-hub.ensures.done) (λ kept. absurd (omega (arith, kept, c.requires.cut)))
       (λ cut. inr (
         c.in_ok-endings.endings,
-        c.in_ok-endings.ensures.limits ∙ ap (λ (v : ConfigView). v.limits) (c.close-closed.ensures.config ∙ c.in_ok-hub.ensures.done),
-        c.in_ok-endings.ensures.left.as_many ∙ c.close-closed.ensures.parts ∙ ap (λ (v : ConfigView). v.parts) c.in_ok-hub.ensures.done,
+        c.in_ok-endings.ensures.limits ∙ ap (λ (v : ConfigView). v.limits) (c.close_store-closed.ensures.closed.config ∙ c.in_ok-hub.ensures.done),
+        c.in_ok-endings.ensures.left.as_many ∙ c.close_store-closed.ensures.closed.parts ∙ ap (λ (v : ConfigView). v.parts) c.in_ok-hub.ensures.done,
         c.in_ok-endings.ensures.left,
         c.tell_checks-ended.ensures,
       ))
       (_, c.fault_of-before.ensures.before, c.ended_after.ensures);
   port =
-      port_then_checked (config_view c.args.store.config) c.close-closed.result c.args.names.now (port_of (listener_of c.args.server)) (g.W.Write.contents c.args.writer.now)
+      port_then_checked (config_view c.args.store.config) c.close_store-closed.result.0 c.args.names.now (port_of c.args.ports.listener) (g.W.Write.contents c.args.writer.now)
       (g.W.Write.contents c.serve_all-told.new.writer) (g.W.Write.contents c.tell_checks-ended.new.writer) c.tell_checks-ended.result c.ended_after.result
-      c.in_ok-told.ensures.port (inr (
+      (rw c.in_ok-server.ensures.listener at c.in_ok-told.ensures.port) (inr (
         c.in_ok-endings.endings,
-        c.in_ok-endings.ensures.limits ∙ ap (λ (v : ConfigView). v.limits) (c.close-closed.ensures.config ∙ c.in_ok-hub.ensures.done),
-        c.in_ok-endings.ensures.left.as_many ∙ c.close-closed.ensures.parts ∙ ap (λ (v : ConfigView). v.parts) c.in_ok-hub.ensures.done,
+        c.in_ok-endings.ensures.limits ∙ ap (λ (v : ConfigView). v.limits) (c.close_store-closed.ensures.closed.config ∙ c.in_ok-hub.ensures.done),
+        c.in_ok-endings.ensures.left.as_many ∙ c.close_store-closed.ensures.closed.parts ∙ ap (λ (v : ConfigView). v.parts) c.in_ok-hub.ensures.done,
         c.in_ok-endings.ensures.left,
         c.tell_checks-ended.ensures,
       )) (_, c.fault_of-before.ensures.before, c.ended_after.ensures);
@@ -35,18 +35,18 @@ returns-in_err-endings g c = record {
   served =
       let p = err_from_is_err_and c.from_residual-in_err-endings.result c.from_residual-in_err-endings.ensures.1 in
       rw (p.1, p.2) (no_room_to_check (config_view c.args.store.config) c.args.names.now (g.W.Write.contents c.args.writer.now) (g.W.Write.contents c.serve_all-told.new.writer)
-      c.close-closed.result c.in_ok-told.ensures.listened (is_closed (config_view c.args.store.config) _ c.close-closed.result c.close-closed.ensures.config c.close-closed.ensures.parts c.close-closed.ensures.books c.in_ok-hub.ensures.done) c.requires.cut);
+      c.close_store-closed.result.0 c.in_ok-told.ensures.listened (is_closed (config_view c.args.store.config) _ c.close_store-closed.result.0 c.close_store-closed.ensures.closed c.in_ok-hub.ensures.done) c.requires.cut);
   port = search rules;
 }
 
 pub returns-in_err-hub : goal.returns-in_err-hub
 returns-in_err-hub g c = record {
   served =
-      let p = err_from_is_err_and c.from_residual.result c.from_residual.ensures.1 in
+      let p = err_from_is_err_and c.from_residual-in_err-hub.result c.from_residual-in_err-hub.ensures.1 in
       rw (p.1, p.2) (nothing_told (config_view c.args.store.config) c.args.names.now (g.W.Write.contents c.args.writer.now) c.in_err-hub.field-0.0 c.in_err-hub.ensures.refused);
   port =
-      let p = err_from_is_err_and c.from_residual.result c.from_residual.ensures.1 in
-      rw (p.1, p.2) (no_store (port_of (listener_of c.args.server)) (g.W.Write.contents c.args.writer.now) (g.W.Write.contents c.args.writer.now) c.in_err-hub.field-0.0 c.in_err-hub.ensures.refused);
+      let p = err_from_is_err_and c.from_residual-in_err-hub.result c.from_residual-in_err-hub.ensures.1 in
+      rw (p.1, p.2) (no_store (port_of c.args.ports.listener) (g.W.Write.contents c.args.writer.now) (g.W.Write.contents c.args.writer.now) c.in_err-hub.field-0.0 c.in_err-hub.ensures.refused);
 }
 
 pub returns-in_err-told : goal.returns-in_err-told
@@ -55,5 +55,13 @@ returns-in_err-told g c = record {
   port =
       let p = err_from_is_err_and c.from_residual-in_err-told.result c.from_residual-in_err-told.ensures.1 in
       let now = g.W.Write.contents c.serve_all-told.new.writer in
-      rw (p.1, p.2) (no_port (port_of (listener_of c.args.server)) (g.W.Write.contents c.args.writer.now) now now c.in_err-told.field-0.0 c.in_err-told.ensures.listened);
+      rw (p.1, p.2) (no_port (port_of c.args.ports.listener) (g.W.Write.contents c.args.writer.now) now now c.in_err-told.field-0.0 c.in_err-told.ensures.listened);
+}
+
+pub returns-in_err-server : goal.returns-in_err-server
+returns-in_err-server g c = record {
+  served = search rules;
+  port =
+      let p = err_from_is_err_and c.from_residual.result c.from_residual.ensures.1 in
+      rw (p.1, p.2) tt;
 }

@@ -5,4 +5,4 @@ use Rattle.server_status.proofs.reading.Watched.read_partitions.Given as goal
 
 -- those of the partitions so far, while each was there
 abbrev pub invariant-loop-partition : goal.invariant-loop-partition
-invariant-loop-partition g l = IsTrue l.is_whole → AreRowsBefore l.self l.partition l.rows.items
+invariant-loop-partition g l = IsTrue l.is_whole → AreRowsBefore g.C.JournalChecks.has_told l.self l.partition l.rows.items

@@ -1,6 +1,7 @@
-use Rattle.std.proofs.Common.{sym, ◌∙◌}
-use Rattle.workload.proofs.Promised.{kept_if}
 use Rattle.workload.proofs.load.seats.join_seat.Goals as goal
 
 pub returns-in-Some-clause-kept : goal.returns-in-Some-clause-kept
-returns-in-Some-clause-kept g c is = (c.in-Some.transcript, c.in-Some.ensures, kept_if c.args.transcripts.now.items _ c.push.result (sym c.is_ok.ensures.value ∙ is) c.push.ensures.items)
+returns-in-Some-clause-kept g c is = (c.in-Some.left.0, c.in-Some.ensures.0, rw is at c.keep.ensures)
+
+pub returns-in-Some-clause-same : goal.returns-in-Some-clause-same
+returns-in-Some-clause-same g c is = let lost = rw is at c.keep.ensures in lost.0

@@ -1,8 +1,9 @@
-use Rattle.std.proofs.Common.{◌≡◌, ap, ◌∙◌, sym, subst, true, false}
+use Rattle.std.proofs.Common.{◌≡◌, List, length, ap, ◌∙◌, sym, subst, true, false, arith}
 use Rattle.std.proofs.lemmas.List.Elements.{All-head, All-rest, All-same}
 use Rattle.workload.specs.declared.load.seats.Orders.{Orders}
 use Rattle.workload.specs.Rounds.{IsOfSeat}
-use Rattle.workload.proofs.Promised.{Handle, drawn_more, seat_ended}
+use Rattle.server_sessions.specs.Ports.{transcripts_of}
+use Rattle.workload.proofs.Promised.{Handle, all_ended, drawn_more, seat_ended}
 use Rattle.workload.proofs.load.seats.join_seats.Goals as goal
 
 pub loop-handle-preserved : goal.loop-handle-preserved
@@ -23,3 +24,11 @@ loop-handle-preserved-then-not-join_seat g c = record {
   drawn = rw (c.join_seat.ensures.same c.if-not-join_seat.true) c.loop-handle.invariant.drawn;
   left = All-rest (λ (h : Handle). h.promise.orders ≡ c.args.orders) c.in-Some.handle _ _ c.in-Some.ensures.steps.0 c.loop-handle.invariant.left;
 }
+
+pub returns-clause-all : goal.returns-clause-all
+returns-clause-all g c =
+    let rest : List Handle = c.loop-handle.handle-iterator.rest.items in
+    let none : length rest ≡ 0 = omega (arith, c.in-None.ensures.steps.0) in record {
+      named = all_ended rest c.args.handles.items (transcripts_of c.loop-handle.kept) none (c.loop-handle.invariant.named c.if-lacks_memory.false);
+      drawn = c.loop-handle.invariant.drawn;
+    }

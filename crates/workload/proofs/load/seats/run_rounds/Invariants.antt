@@ -1,5 +1,6 @@
 use Rattle.std.proofs.Common.{◌≡◌, []}
 use Rattle.std.specs.List.{filter_map}
+use Rattle.server_sessions.specs.SeatAnswers.{AreGiven}
 use Rattle.workload.specs.Rounds.{ArePicked, act_in, acts_drawn, state_after}
 use Rattle.workload.proofs.load.seats.run_rounds.Given as goal
 
@@ -8,4 +9,5 @@ invariant-loop-done g l = record {
   name : l.seat.name ≡ l.initial.seat.name;
   state : l.draws.state ≡ state_after l.done l.initial.draws.state;
   began : l.initial.seat.entries ≡ [] → ArePicked (filter_map act_in l.seat.entries) (acts_drawn l.initial.seat.name.client l.orders.keys l.done l.initial.draws.state);
+  given : l.initial.seat.entries ≡ [] → AreGiven l.seat;
 }

@@ -1,0 +1,109 @@
+-- What the seat of a connection answers, by all that its calls promise, and what is written of it so.
+use Rattle.std.specs.Prelude.{◌≡◌, ◌⊎◌, ◌<◌, ◌*◌, ℕ, Bool, List, [], ◌++◌, true, false, cond, nat_lt}
+use Rattle.std.specs.List.{flat_map}
+use Rattle.stamps.specs.declared.record.Item.{Item}
+use Rattle.plain_store.specs.Words.{Key, Tag}
+use Rattle.plain_store.specs.declared.refusal.Refusal.{Refusal}
+use Rattle.plain_store.specs.declared.refusal.Refusal.TheVariants.{NoTenant, Busy}
+use Rattle.plain_store.specs.declared.step.Act.{Act}
+use Rattle.plain_store.specs.declared.step.Act.TheVariants.{Put as PutAct, Get as GetAct, Find as FindAct}
+use Rattle.plain_store.specs.declared.answer.Answer.{Answer}
+use Rattle.plain_store.specs.declared.answer.Answer.TheVariants.{Refused, Ready, Keeps}
+use Rattle.hub.specs.Atomic.{IsReadAtomic}
+use Rattle.hub.specs.Limits.{max_calls}
+use Rattle.hub.specs.Operations.{IsLater, IsOperation, ReportsList, ReportsRead, ReportsWrite}
+use Rattle.hub.specs.ReadsFirst.{IsReadAndWritten}
+use Rattle.hub.specs.Replies.{AreServed, IfDone, IfListed, IfRead, IsDrawn}
+use Rattle.hub.specs.Seats.{SeatView, sight}
+use Rattle.line_protocol.specs.AnswerSpelling.{answer_line}
+use Rattle.line_protocol.specs.declared.request.Request.{Request}
+use Rattle.line_protocol.specs.declared.request.Request.TheVariants.{Hello, Put, Get, Find, Keep, Bye}
+
+-- The seat ran an operation of this act, and the answer reports what it entered meanwhile: each reply has its place in the
+-- history that the seat has seen.
+pub record IsServed (act : Act) (Reports : SeatView → Answer → SeatView → Type 0) (old : SeatView) (answer : Answer)
+    (new : SeatView) : Type 0 where
+  pub operated : IsOperation act old answer new
+  pub reports : Reports old answer new
+
+-- that a write is done, under the next stamp, answers replies that this operation entered
+abbrev pub ReportsPut : List Item → SeatView → Answer → SeatView → Type 0
+ReportsPut items old answer new =
+    IfDone answer (IsDrawn old.name.client old.counter new.counter) × ReportsWrite items old answer new
+
+-- what a read reports was in replies that this operation entered, and is read atomic, by the puts of the history
+abbrev pub ReportsGet : List Key → SeatView → Answer → SeatView → Type 0
+ReportsGet keys old answer new =
+    ReportsRead keys old answer new × IfRead answer (λ told. ∥ IsReadAtomic new.seen new.name.tenant told ∥₁)
+
+-- and so is what a search reports
+abbrev pub ReportsFind : Tag → SeatView → Answer → SeatView → Type 0
+ReportsFind tag old answer new =
+    ReportsList tag old answer new × IfListed answer (λ told. ∥ IsReadAtomic new.seen new.name.tenant told ∥₁)
+
+-- a put is served; or, where puts read first, its keys are read and then it is
+abbrev pub IsPut : Bool → List Item → SeatView → Answer → SeatView → Type 0
+IsPut false items old answer new = IsServed (PutAct old.name.client items) (ReportsPut items) old answer new
+IsPut true items old answer new = IsReadAndWritten items old answer new × IsLater (2 * max_calls) old new
+
+-- What a seat of a store of so many tenants answers to a request: `hello` is refused 12; a put, a get and a find are
+-- served; `keep` is answered by its number, and refused 10 where the seat's tenant is not there. `bye` is not answered.
+abbrev pub IsAnswered : Bool → ℕ → Request → SeatView → Answer → SeatView → Type 0
+IsAnswered newest tenants (Hello name client base) old answer new = (answer ≡ Refused Busy) × (new ≡ old)
+IsAnswered newest tenants (Put items) old answer new = IsPut newest items old answer new
+IsAnswered newest tenants (Get keys) old answer new =
+    IsServed (GetAct old.name.client keys) (ReportsGet keys) old answer new
+IsAnswered newest tenants (Find tag) old answer new =
+    IsServed (FindAct old.name.client tag) (ReportsFind tag) old answer new
+IsAnswered newest tenants (Keep keep) old answer new =
+    (answer ≡ cond (nat_lt old.name.tenant tenants) (Keeps keep) (Refused NoTenant)) × (new ≡ old)
+IsAnswered newest tenants Bye old answer new = ⊥
+
+-- the entries so far are returned where journals are cut, and stay where none is
+abbrev pub IsDrained : ℕ → SeatView → SeatView → Type 0
+IsDrained epoch old new = (epoch ≡ 0 → new ≡ old) × (0 < epoch → new ≡ record old { entries = [] })
+
+-- what a seat answers to a request, with its entries returned then where journals are cut
+abbrev pub IsAnsweredAndDrained : Bool → ℕ → ℕ → Request → SeatView → Answer → SeatView → Type 0
+IsAnsweredAndDrained newest epoch tenants request old answer new =
+    (between : SeatView) × IsAnswered newest tenants request old answer between × (between.name ≡ old.name)
+    × IsDrained epoch between new
+
+-- what a line is answered where a seat is: what the seat answers to a request; or a refusal, and the seat stays as it was
+abbrev pub IsToldNext : Bool → ℕ → SeatView → Answer → SeatView → Type 0
+IsToldNext newest epoch old answer new =
+    ((tenants : ℕ) × (request : Request) × IsAnsweredAndDrained newest epoch tenants request old answer new)
+    ⊎ ((cause : Refusal) × (answer ≡ Refused cause) × (new ≡ old))
+
+-- the lines that refuse for these causes, one after the other
+abbrev pub refusals_text : List Refusal → List ℕ
+refusals_text = flat_map (λ cause. answer_line (Refused cause))
+
+-- The text is what was written of a seat since it was opened so, line by line, and it has come to this view. Its entries may
+-- have been returned since.
+pub data ToldSince (newest : Bool) (epoch : ℕ) (opened : SeatView) : SeatView → List ℕ → Type 0 where
+  Nothing : ToldSince newest epoch opened opened []
+  OneMore : (old : SeatView) (answer : Answer) (new : SeatView) (text : List ℕ) → ToldSince newest epoch opened old text
+      → IsToldNext newest epoch old answer new → ToldSince newest epoch opened new (text ++ answer_line answer)
+  Returned : (old : SeatView) (new : SeatView) (text : List ℕ) → ToldSince newest epoch opened old text
+      → IsDrained epoch old new → ToldSince newest epoch opened new text
+
+-- a seat that was just opened
+abbrev pub IsFresh : SeatView → Type 0
+IsFresh seat = (seat.entries ≡ []) × (seat.sent ≡ 0) × (seat.stopped ≡ false)
+
+-- each reply among the seat's entries was given to a call of it, at its place in the history that it has seen
+abbrev pub AreGiven : SeatView → Type 0
+AreGiven seat = AreServed (sight seat) 0 seat.sent [] seat.entries
+
+-- What was written of a seat: refusals before it was opened, its counter, and then what it answered. Each reply that is left
+-- among its entries was given to a call of it, at its place in the history that it has seen.
+pub record IsToldBySeat (newest : Bool) (epoch : ℕ) (seat : SeatView) (text : List ℕ) : Type 0 where
+  pub causes : List Refusal
+  pub opened : SeatView
+  pub fresh : IsFresh opened
+  pub session : seat.name ≡ opened.name
+  pub told : List ℕ
+  pub since : ToldSince newest epoch opened seat told
+  pub spelled : text ≡ refusals_text causes ++ (answer_line (Ready opened.name.counter) ++ told)
+  pub given : AreGiven seat
