@@ -3,10 +3,12 @@ import collections
 import pathlib
 import re
 
+from begin import give_up
+
 TOP = pathlib.Path(__file__).resolve().parent.parent
 CRATES = TOP / "crates"
 LIMITS = TOP / "tools" / "limits.txt"
-TESTS = {"tests_base", "tests_integration", "tests_programs", "tests_surface", "tests_threads", "tests_rows"}
+TESTS = {"tests_base", "tests_integration", "tests_programs", "tests_rows", "tests_server", "tests_surface", "tests_threads", "tests_verdicts"}
 MODEL = "oracle"
 """A program that has the names of the definitions that it evaluates."""
 REQUIRED = {"StandsFor"}
@@ -18,6 +20,24 @@ TYPE = re.compile(r"(?:pub(?:\([a-z ]+\))? )?(?:struct|enum|union|trait|type) (\
 DEFINED = re.compile(r"(?:pub )?(?:record|data) (\w+)")
 ROOM = re.compile(r"(?<![\w.])(?:529|716|717|745|1452|3001|3003)\b(?!\.)")
 """Sizes of encoded values, which follow from the limits of `stamps`."""
+BOUND = re.compile(r"[<≤] ?(?:16|32|64|128)(?![\w.])|2 \^ 40(?!\w)")
+"""The limits of `stamps` that contracts and definitions bound something by: keys, bytes of a key, a tag and a value, partitions, tenants, counters."""
+WALK = """
+server_sessions/src/line_session.rt: answer_lines answer_piece answer_waiting answer_next answer answer_request answer_by_seat
+server_sessions/src/given.rt: ask_seat ask_put
+hub/src/seat.rt: put_all_into run
+hub/src/operation.rt: perform exchange send_calls
+hub/src/dispatcher.rt: dispatch serve_free serve_under
+shard/src/shard.rt: serve_round serve_staged serve serve_message
+traced_book/src/traced.rt: serve_into
+partition/src/book.rt: serve_admitted
+partition/src/enter.rt: enter
+partition/src/shelf.rt: apply_into
+prepare_commit/src/cell.rt: apply_into prepare
+prepare_commit/src/versions.rt: insert
+version_chain/src/chains.rt: insert_from
+"""
+"""The functions from a line of a session to the chain of an item that it writes. Each calls the next one."""
 COSTS = {"gate_minutes", "proof_minutes", "tests_minutes", "function_megabytes"}
 FILES_OF_ALL = {"lib.rt", "main.rt", "mod.rt"}
 
@@ -104,6 +124,30 @@ def rooms(sources):
             for it in ROOM.findall(re.sub(r"(?://|--).*", "", line))]
 
 
+def bounds(sources):
+    """Each limit of the store that stands as a number outside of `stamps`, where a change of it has to be followed."""
+    return [place(path, number, it.strip()) for files in (sources.code, sources.definitions) for path, number, line in lines(files)
+            for it in BOUND.findall(re.sub(r"(?://|--).*", "", line)) if crate_of(path) not in TESTS | {"stamps"}]
+
+
+def body_of(text, name):
+    """The number of the line that declares this function, and the lines from there to its end."""
+    for number, line in enumerate(text, 1):
+        if declared := re.match(rf"(\s*)(?:pub(?:\([a-z ]+\))? )?fn {name}\b", line):
+            return number, text[number - 1 : text.index(declared[1] + "}", number)]
+    return None, []
+
+
+def frames(sources):
+    """Each function of the walk, by its place. Where one of them does not call the next, the walk has to be written anew."""
+    walk = [(path, name) for path, names in (row.split(": ") for row in WALK.split("\n") if row) for name in names.split()]
+    found = [body_of(sources.code.get(path, []), name) for path, name in walk]
+    for (path, name), (number, body), (_, then) in zip(walk, found, [*walk[1:], walk[-1]]):
+        if number is None or (path, name) != walk[-1] and not any(re.search(rf"(?<!fn )\b{then}(?:::<[^>]*>)?\(", line) for line in body):
+            give_up(f"the walk of a put: {name} of crates/{path} does not call {then}, so WALK of tools/counting.py has to be written anew")
+    return [place(path, number, name) for (path, name), (number, _) in zip(walk, found)]
+
+
 def edits(_):
     return [str(it.relative_to(TOP)) for pattern in ("*/must-fail/*.edit", "*/wrong-bodies/*.edit", "*/wrong-bodies.edits") for it in sorted(CRATES.glob(pattern))]
 
@@ -116,6 +160,8 @@ COUNTS = {
     "names": ("names of types with several meanings", names),
     "files": ("file names that stand in several places", files),
     "rooms": ("sizes of encoded values as numbers", rooms),
+    "bounds": ("limits of the store as numbers in contracts and definitions", bounds),
+    "frames": ("functions from a line of a session to the chain that it writes", frames),
     "edits": ("files of edits", edits),
 }
 """What each count is of, and what gives its places. Those that have a line in the limits are bounded."""
@@ -135,6 +181,14 @@ def limits():
     if wrong:
         raise ValueError(f"{', '.join(sorted(wrong))}: lacks, or is neither a cost nor a count")
     return found
+
+
+def told_over(found, most):
+    """Prints a sentence for each count that is over its limit, and says whether there is one."""
+    over = [name for name in found if name in most and len(found[name]) > most[name]]
+    for name in over:
+        print(f"{name}: {len(found[name])} {COUNTS[name][0]}, {most[name]:.0f} at most; tools/counts {name} prints them")
+    return bool(over)
 
 
 def lowered(found):

@@ -1,8 +1,9 @@
-//! Tests over the public items of the programs. As `tests_integration`, this crate is nothing but tests.
+//! Tests over the public items of the programs. Beside them stand `devices`, `epochs` and `stores` alone, of which `tests_server` takes too.
 #![tactic(auto)]
 
-#[cfg(test)]
-mod stores;
+pub mod devices;
+pub mod epochs;
+pub mod stores;
 #[cfg(test)]
 mod verdict_tests;
 #[cfg(test)]

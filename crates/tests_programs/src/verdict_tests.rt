@@ -1,7 +1,7 @@
 //! The verdict over what a real hub left.
 ghost use Rattle.std.specs.Prelude.{◌≡◌};
 
-use super::stores::{opened, store};
+use crate::stores::{opened, store};
 use hub::{Gate, Hub, Naming, NewStore, Seat, Transcript};
 use plain_store::Answer;
 use settle::settle;

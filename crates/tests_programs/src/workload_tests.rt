@@ -1,105 +1,13 @@
 //! The programs over readers and writers that are slow, small or fail. What they answer otherwise is said by the rows of
 //! `tests_rows`.
+use crate::devices::{MANY, Narrow, OF_A_DEVICE, Slow, run_over};
 use line_runs::{End, ProgramFault, RunFault, run_cell};
 use std::alloc::Global;
-use std::io::{self, Read, Write};
-use std::net::{Net, TcpListener, TcpStream};
-use std::sync::Wait;
-use std::thread::Threads;
-use std::time::Clock;
-use workload::run_words;
 
+mod checked;
 mod connection;
-mod epochs;
-mod health;
 mod keeping;
 mod limits;
-mod server;
-mod stay;
-
-/// Gives so many bytes a read, and fails where no read is left.
-#[derive(Drop)]
-struct Slow<'a> {
-    bytes: &'a [u8],
-    most: usize,
-    reads_left: usize,
-}
-
-impl Read for Slow<'_> {
-    fn read(&mut self, buf: &mut [u8]) -> io::Result<usize> {
-        if self.reads_left == 0 {
-            return Err(io::Error::from(io::ErrorKind::Other));
-        }
-        self.reads_left -= 1;
-        let n = self.bytes.len().min(buf.len()).min(self.most);
-        buf[..n].copy_from_slice(&self.bytes[..n]);
-        self.bytes = &self.bytes[n..];
-        Ok(n)
-    }
-}
-
-/// Gives what is asked for.
-fn whole(bytes: &[u8]) -> Slow<'_> {
-    Slow {
-        bytes,
-        most: MANY,
-        reads_left: MANY,
-    }
-}
-
-/// Counts its writes. It takes so many bytes in all, and fails where no write is left, or no flush.
-#[derive(Drop)]
-struct Narrow {
-    taken: Vec<u8>,
-    room: usize,
-    writes_left: usize,
-    writes: usize,
-    flushes_left: usize,
-}
-
-impl Narrow {
-    fn new(alloc: Global, room: usize, writes_left: usize) -> Narrow {
-        Narrow {
-            taken: Vec::new(alloc),
-            room,
-            writes_left,
-            writes: 0,
-            flushes_left: MANY,
-        }
-    }
-}
-
-impl Write for Narrow {
-    fn write(&mut self, buf: &[u8]) -> io::Result<usize> {
-        if self.writes_left == 0 {
-            return Err(io::Error::from(io::ErrorKind::Other));
-        }
-        self.writes_left -= 1;
-        self.writes = self.writes.saturating_add(1);
-        let n = buf.len().min(self.room);
-        self.taken.extend_from_slice(&buf[..n])?;
-        self.room -= n;
-        Ok(n)
-    }
-
-    fn flush(&mut self) -> io::Result<()> {
-        if self.flushes_left == 0 {
-            return Err(io::Error::from(io::ErrorKind::ConnectionReset));
-        }
-        self.flushes_left -= 1;
-        Ok(())
-    }
-}
-
-const MANY: usize = 1 << 30;
-
-/// The lines of a session, and what they are answered.
-type Talk = (&'static str, &'static str);
-
-const FIRST: Talk = (
-    "hello t 1\nput x=1 y=1\nget x y\nbye\n",
-    "ready 0\ndone 1.1\nread x@1.1=1 y@1.1=1\nbye\n",
-);
 
 /// How a run over one cell ends, and what was written.
 fn run_over_cell(
@@ -180,63 +88,6 @@ fn a_device_that_fails_ends_the_run(rt: HostRuntime) {
         );
     }
 }
-
-/// The words of this line.
-fn split(alloc: Global, line: &str) -> Option<Vec<String>> {
-    let mut words = Vec::new(alloc);
-    for word in line.split(' ') {
-        words.push(word.to_string(alloc).ok()?).ok()?;
-    }
-    Some(words)
-}
-
-/// What a run of the program came to.
-#[derive(Drop)]
-struct Ran {
-    status: u8,
-    output: Vec<u8>,
-    fault: Vec<u8>,
-}
-
-impl Ran {
-    fn is(&self, status: u8, fault: &str) -> bool {
-        self.status == status && self.fault.as_slice() == fault.as_bytes()
-    }
-}
-
-/// A run where so many bytes may be told of a fault.
-fn run_over<
-    R: Threads
-        + Wait
-        + Clock
-        + Net<Listener = TcpListener, Stream = TcpStream>
-        + Clone
-        + Send
-        + Sync
-        + Drop
-        + 'static,
->(
-    rt: &R,
-    alloc: Global,
-    line: &str,
-    mut reader: Slow<'_>,
-    mut writer: Narrow,
-    room: usize,
-) -> Option<Ran> {
-    let words = split(alloc, line)?;
-    let mut errors = Narrow::new(alloc, room, MANY);
-    let status = run_words(rt, alloc, &words, &mut reader, &mut writer, &mut errors);
-    let Narrow { taken: output, .. } = writer;
-    let Narrow { taken: fault, .. } = errors;
-    Some(Ran {
-        status,
-        output,
-        fault,
-    })
-}
-
-/// What is reported where a device failed.
-const OF_A_DEVICE: &str = "ramp: Device\n";
 
 #[test]
 fn a_fault_has_its_status(rt: HostRuntime) {

@@ -10,9 +10,9 @@ use hub::{Config, Gate, Hub, Named, Naming, NewStore, Transcript};
 use line_protocol::Name;
 use stamps::limits::{MAX_PARTS, MAX_TENANTS};
 use std::alloc::Global;
-use std::io::{self, ErrorKind};
+use std::io::{self, ErrorKind, Read};
 use std::marker::Brand;
-use workload::{Open, SessionOptions, run_session_as, tell_verdicts};
+use workload::{Open, SessionLeft, SessionOptions, run_session_as, tell_verdicts};
 
 /// What is no longer than this is cut at each place.
 const SHORT: usize = 200;
@@ -118,19 +118,25 @@ fn is_new_store_right<J: Naming + Send + Sync + Drop + 'static, H: Handles>(
 }
 
 /// Runs a session whose answers nobody counts: its transcript, and whether it ended well.
-fn run<'s, G: Gate + Naming, H: Handles>(
+fn run<'s, G: Gate + Naming, H: Handles, R: Read>(
     rt: &H,
     alloc: Global,
     hub: &'s Hub<G>,
     names: &'s [Name],
     manner: SessionOptions,
-    reader: &mut Pieces<'_>,
+    reader: &mut R,
     writer: &mut Taken,
 ) -> (Option<Transcript>, bool) {
-    let (transcript, ended, _) = run_session_as(
-        rt, alloc, hub, names, manner, None, reader, writer,
-    );
-    (transcript, ended.is_ok())
+    let (left, ended, _) = run_session_as(rt, alloc, hub, names, manner, None, reader, writer);
+    (transcript_of(left), ended.is_ok())
+}
+
+/// The transcript of a session's seat, if it opened one.
+fn transcript_of<G: Naming>(left: Option<SessionLeft<G>>) -> Option<Transcript> {
+    match left {
+        Some((transcript, _)) => Some(transcript),
+        None => None,
+    }
 }
 
 /// How the store that the words ask for is made.

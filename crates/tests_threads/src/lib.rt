@@ -1,9 +1,8 @@
-//! Tests over the public items of the running store and of the verdict over it. As `tests_integration`, this crate is nothing but tests.
+//! Tests over the public items of the running store. Beside them stands `asking` alone, of which `tests_verdicts` takes too.
 #![tactic(auto)]
 
+pub mod asking;
 #[cfg(test)]
 mod hub_tests;
-#[cfg(test)]
-mod settle_tests;
 #[cfg(test)]
 mod shard_tests;

@@ -112,7 +112,7 @@ fn job<J: Naming>(
         client: Client::new(1)?,
         ticket: 1,
         partition: 0,
-        call: Call::Commit(Stamp::ZERO),
+        call: Call::Discard(Stamp::ZERO),
         reply: None,
     };
     let call = SeatCall {

@@ -1,17 +1,17 @@
 //! Sessions whose devices fail.
 ghost use Rattle.std.specs.Prelude.{◌≡◌};
 
-use super::super::stores::{names, opened, store};
-use super::super::verdict_tests::seated;
-use super::{FIRST, MANY, Narrow, Slow, Talk, whole};
-use hub::{Closed, Gate, Hub, Naming, NewStore, Transcript};
+use crate::devices::{FIRST, MANY, Narrow, Slow, Talk, whole};
+use crate::stores::{are_settled, names, opened, store};
+use crate::verdict_tests::seated;
+use hub::{Gate, Hub, Naming, NewStore, Transcript};
 use line_runs::RunFault;
 use std::alloc::Global;
 use std::io::{self, Write};
 use std::marker::Brand;
 use std::sync::Wait;
 use std::thread::Threads;
-use workload::{run_session, tell_verdicts};
+use workload::run_session;
 
 const LONG: Talk = (
     "hello t 1\nput x=1 y=1\nget x y\nget x\nfind red\nbye\n",
@@ -86,14 +86,6 @@ fn two_sessions<G: Gate + Naming, R: Wait>(
     let ample = Narrow::new(alloc, MANY, MANY);
     let next = played(rt, alloc, hub, after, ample, transcripts)?;
     Some((first, next))
-}
-
-/// Whether both tenants are settled.
-pub(super) fn are_settled(alloc: Global, closed: &Closed) -> Option<bool> {
-    let names = names()?;
-    let mut verdict = Narrow::new(alloc, MANY, MANY);
-    let _ = tell_verdicts(alloc, closed, &names, &mut verdict);
-    Some(verdict.taken.as_slice() == b"settled t yes\nsettled u yes\n".as_slice())
 }
 
 /// What both sessions came to, where what they left is settled.

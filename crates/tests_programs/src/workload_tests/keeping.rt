@@ -1,7 +1,7 @@
 //! What a `keep` line sets: the number of its session's tenant, and that of no other.
 ghost use Rattle.std.specs.Prelude.{◌≡◌};
 
-use super::{MANY, Narrow, whole};
+use crate::devices::{MANY, Narrow, whole};
 use hub::{Closed, Config, Hub, Named, Naming, NewStore};
 use line_protocol::Name;
 use plain_store::Call;

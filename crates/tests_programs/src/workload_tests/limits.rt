@@ -1,5 +1,5 @@
 //! With ample memory a store has as many tenants as the words name.
-use super::{MANY, Narrow, run_over, whole};
+use crate::devices::{MANY, Narrow, run_over, whole};
 use std::alloc::Global;
 use std::net::{Net, TcpListener, TcpStream};
 use std::sync::Wait;

@@ -1,7 +1,7 @@
 //! Collections, after each event and after many.
 ghost use Rattle.std.specs.Prelude.{◌≡◌, ◌<◌, ◌≤◌};
 
-use super::asking::{opened, seated, store, two_items};
+use crate::asking::{opened, seated, store, two_items};
 use hub::{Closed, Gate, Hub, Naming, NewStore};
 use partition::{Book, Journal};
 use plain_store::{Call, ReadReply, Reply};

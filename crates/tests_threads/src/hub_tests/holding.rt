@@ -2,7 +2,7 @@
 //! at partition 1, or waits for partition 0 too.
 ghost use Rattle.std.specs.Prelude.{◌≡◌, ◌≤◌};
 
-use super::asking::{config, seated, told, two_items};
+use crate::asking::{config, seated, told, two_items};
 use hub::{Gate, Hub, Named, Naming, NewStore};
 use plain_store::Answer;
 use stamps::{Item, Key};

@@ -1,7 +1,7 @@
 //! Four seats of two tenants, each in a thread of its own.
 ghost use Rattle.std.specs.Prelude.{◌≡◌};
 
-use super::asking::{opened, seated, store, two_items};
+use crate::asking::{opened, seated, store, two_items};
 use hub::{Gate, Hub, Naming, NewStore, Seat};
 use plain_store::Answer;
 use stamps::Item;

@@ -1,7 +1,7 @@
 //! One seat after another.
 ghost use Rattle.std.specs.Prelude.{◌≡◌};
 
-use super::asking::{opened, seated, store, told, two_items, two_keys};
+use crate::asking::{opened, seated, store, told, two_items, two_keys};
 use hub::{EntryList, Gate, Hub, Naming, NewStore, Taken};
 use plain_store::{Answer, Refusal, Reply};
 use stamps::{Client, Counter, Item, Key};

@@ -2,7 +2,7 @@
 //! each of its journals is handed over.
 ghost use Rattle.std.specs.Prelude.{◌≡◌, ◌<◌, ◌≤◌};
 
-use super::asking::{seated, two_items};
+use crate::asking::{seated, two_items};
 use hub::{Closed, Config, Front, Gate, Hub, Named, Naming, NewStore, Sink};
 use partition::{Epoch, EventList};
 use plain_store::{Answer, Call, Refusal};
