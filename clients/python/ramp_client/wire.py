@@ -16,7 +16,7 @@ UNENDED = f"sent {LINE_LIMIT} bytes without a line's end"
 
 
 def cut_lines(begun: str, told: bytes, wanted: Exchange) -> str:
-    """Appends whole lines to the answers, as many as are wanted, and returns the rest.
+    """Appends whole lines to the answers, as many as are missing, and returns the rest.
 
     Decoding as Latin-1 keeps each byte as one character, so a byte that is not ASCII is found when the line is read."""
     *whole, rest = (begun + told.decode("latin-1")).split("\n", wanted.count - len(wanted.answers))

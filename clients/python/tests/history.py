@@ -12,7 +12,7 @@ from typing import Optional
 
 Stamp = tuple[int, int]
 
-UNDER_WAY, DONE, UNKNOWN, NOT_DONE = "under way", "done", "unknown", "not done"
+UNDER_WAY, DONE, UNKNOWN, NOT_DONE = "in flight", "done", "unknown", "not done"
 
 
 def stamp_of(text: str) -> Stamp:

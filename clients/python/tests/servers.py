@@ -137,7 +137,7 @@ class Scripted:
                 if word == "hear":
                     heard = lines.readline()
                     if heard != text + b"\n":
-                        raise AssertionError(f"wanted {text!r}, heard {heard!r}")
+                        raise AssertionError(f"expected {text!r}, heard {heard!r}")
                 elif word in ("say", "raw"):
                     connection.sendall(text + (b"\n" if word == "say" else b""))
                 self.left.pop(0)
