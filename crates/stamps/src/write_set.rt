@@ -1,7 +1,8 @@
 //! Write sets.
-ghost use Rattle.std.specs.Prelude.{◌≡◌, ◌≢◌, ◌↔◌, AllPairs, IsSome, IfSome, IsTrue, Contains};
+ghost use Rattle.std.specs.Prelude.{◌≡◌, ◌≢◌, ◌<◌, ◌≤◌, ◌-◌, ◌↔◌, AllPairs, IsSome, IfSome, IsTrue, Contains, length, take, drop, replicate};
 ghost use Rattle.stamps.specs.Key.{IsAscending, IsTransactionKeys, sorted_keys};
-ghost use Rattle.stamps.specs.WriteSet.{IsWriteSet, contains_key};
+ghost use Rattle.stamps.specs.Limits.{max_keys};
+ghost use Rattle.stamps.specs.WriteSet.{IsWriteSet, contains_key, first_key};
 
 use crate::{Key, limits};
 use std::fmt;
@@ -68,10 +69,30 @@ impl WriteSet {
             return None;
         }
         let mut all = [keys[0]; WriteSet::MAX_LEN];
-        let sorted = &mut all[..keys.len()];
-        sorted.copy_from_slice(keys);
+        all[..keys.len()].copy_from_slice(keys);
+        WriteSet::of_prefix(all, keys.len())
+    }
+
+    /// The write set of the first `len` of these keys, which are 1 to 16 and may stand in any order. `None` where one stands twice. It
+    /// sorts them where they lie.
+    #[inline(always)]
+    pub fn of_prefix(keys: [Key; WriteSet::MAX_LEN], len: usize) -> Option<WriteSet>
+        requires some { 0 < len }
+        requires few { len ≤ max_keys }
+        ensures exact { IsSome result ↔ IsTransactionKeys (take len keys) }
+        ensures value { IfSome result (λ writes. writes ≡ sorted_keys (take len keys)) }
+    {
+        let mut keys = keys;
+        let sorted = &mut keys[..len];
         sorted.sort_unstable();
-        WriteSet::new(sorted)
+        if !is_ascending(sorted) {
+            return None;
+        }
+        repeat_first(&mut keys, len);
+        Some(WriteSet {
+            keys,
+            len: len as u8,
+        })
     }
 
     /// Whether there is a write set of these keys, in any order: they are 1 to 16, and none stands twice.
@@ -101,6 +122,20 @@ impl WriteSet {
 impl fmt::Debug for WriteSet {
     fn fmt<W: fmt::Write>(&self, f: &mut fmt::Formatter<W>) -> fmt::Result {
         f.debug_tuple("WriteSet").field(&self.as_slice()).finish()
+    }
+}
+
+/// Has each key behind the first `len` be the first one.
+fn repeat_first(keys: &mut [Key], len: usize)
+    requires some { 0 < len }
+    requires room { len ≤ length keys.old }
+    ensures kept { take len keys.new ≡ take len keys.old }
+    ensures rest { drop len keys.new
+        ≡ replicate (length keys.old - len) (first_key (take len keys.old)) }
+{
+    let first = keys[0];
+    for at in len..keys.len() {
+        keys[at] = first;
     }
 }
 
