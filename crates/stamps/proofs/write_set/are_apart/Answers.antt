@@ -1,7 +1,7 @@
-use Rattle.std.proofs.Common.{◌≡◌, ◌≢◌, ◌+◌, ◌<◌, ℕ, List, [], true, false, length, length-take-le, take, get_or, arith, refl, sym, ◌∙◌, ap, inl, inr}
+use Rattle.std.proofs.Common.{◌≡◌, ◌<◌, ℕ, List, length, length-take-le, take, get_or, arith, sym, ◌∙◌, ap, inl, inr}
 use Rattle.std.specs.Prelude.{Contains}
 use Rattle.std.proofs.lemmas.Bool.{both_ways, cases_lt}
-use Rattle.std.proofs.lemmas.List.{get_or_read, get_or-take, get_or_default}
+use Rattle.std.proofs.lemmas.List.{get_or-take, get_or_default}
 use Rattle.stamps.proofs.write_set.are_apart.Goals as goal
 
 -- one that stands among the first of these keys stands at a place below
