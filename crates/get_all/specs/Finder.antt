@@ -2,7 +2,7 @@
 use Rattle.std.specs.Prelude.{◌≡◌, ℕ, ◌+◌, ◌*◌, ◌≤◌, min, List, Bool, true, false, ◌||◌, nat_lt, length, map, flat_map}
 use Rattle.std.specs.Prelude.{[], cond, Option, Some, None}
 use Rattle.std.specs.List.{list_any, list_all}
-use Rattle.stamps.specs.Limits.{max_keys}
+use Rattle.stamps.specs.Limits.{max_found}
 use Rattle.stamps.specs.WriteSet.{contains_key}
 use Rattle.plain_store.specs.declared.calls.Call.TheVariants.{Found}
 use Rattle.plain_store.specs.declared.message.Message.{Message}
@@ -68,9 +68,9 @@ asked_after taken partition = record { partition = partition; has_told = has_tol
 pub record IsAsking (setup : Setup) (finder : Finder) (taken : List Message) : Type 0 where
   pub unread : finder.reads ≡ false
   pub no_reads : list_all is_no_read taken ≡ true
-  pub total : finder.total ≡ min (total_found taken) (max_keys + 1)
-  pub keys : total_found taken ≤ max_keys → finder.keys ≡ keys_told taken
-  pub counted : total_found taken ≤ max_keys → length (keys_told taken) ≡ total_found taken
+  pub total : finder.total ≡ min (total_found taken) (max_found + 1)
+  pub keys : total_found taken ≤ max_found → finder.keys ≡ keys_told taken
+  pub counted : total_found taken ≤ max_found → length (keys_told taken) ≡ total_found taken
   pub distinct : one_twice (keys_told taken) ≡ false
   pub homes : (key : Key) → contains_key (keys_told taken) key ≡ true → has_told taken (home setup key) ≡ true
   pub answered : (p : ℕ) (tag : Tag) → is_answered taken p (Found tag) ≡ has_told taken p
@@ -78,7 +78,7 @@ pub record IsAsking (setup : Setup) (finder : Finder) (taken : List Message) : T
 -- and once each has
 pub record IsReadingFound (finder : Finder) (taken : List Message) : Type 0 where
   pub reads : finder.reads ≡ true
-  pub few : nat_lt max_keys (total_found taken) ≡ false
+  pub few : nat_lt max_found (total_found taken) ≡ false
   pub stands : StandsForRead (all_keys_found taken) finder.reader taken
 
 -- the finder of a search that has not ended holds what the replies told and showed
@@ -109,7 +109,7 @@ pub record TakesFind (setup : Setup) (tag : Tag) (taken : List Message) (message
 abbrev pub calls_left : Finder → ℕ
 calls_left finder =
     cond finder.has_ended 0
-    (cond (list_all (λ asked. asked.has_told) finder.asked) 0 (2 * max_keys)
+    (cond (list_all (λ asked. asked.has_told) finder.asked) 0 (2 * max_found)
     + cond finder.reads (read_left finder.reader) 0)
 
 -- how many an answer asks for

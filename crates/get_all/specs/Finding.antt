@@ -2,7 +2,7 @@
 use Rattle.std.specs.Prelude.{◌≡◌, ℕ, List, [], ◌∷◌, ◌++◌, Bool, false, ◌&&◌, ◌||◌, ◌==◌, nat_lt, cond, not, Option}
 use Rattle.std.specs.Prelude.{Some, None}
 use Rattle.std.specs.List.{list_any}
-use Rattle.stamps.specs.Limits.{max_keys}
+use Rattle.stamps.specs.Limits.{max_found}
 use Rattle.plain_store.specs.FoundKeys.{Findings}
 use Rattle.plain_store.specs.declared.calls.Call.{Call}
 use Rattle.plain_store.specs.declared.calls.Call.TheVariants.{Found}
@@ -27,7 +27,7 @@ any_stray setup taken = list_any (λ message. is_stray setup message.partition m
 abbrev pub has_ended : Setup → List Message → Bool
 has_ended setup taken =
     any_stray setup taken
-    || (all_found setup taken && (nat_lt max_keys (total_found taken) || has_read (all_keys_found taken) taken))
+    || (all_found setup taken && (nat_lt max_found (total_found taken) || has_read (all_keys_found taken) taken))
 
 -- whether a reply is to one of the search's calls: until each partition told what it found to those, and from then on
 -- to those of the read

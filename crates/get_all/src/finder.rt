@@ -3,7 +3,7 @@ ghost use Rattle.std.specs.Prelude.{◌≡◌, ◌+◌, ◌≤◌, ◌==◌, [],
 ghost use Rattle.std.specs.List.{list_all};
 ghost use Rattle.stamps.specs.Bounds.{IsParts};
 ghost use Rattle.stamps.specs.Key.{home_of};
-ghost use Rattle.stamps.specs.Limits.{max_keys};
+ghost use Rattle.stamps.specs.Limits.{max_found};
 ghost use Rattle.plain_store.specs.Finding.{carrying};
 ghost use Rattle.plain_store.specs.Words.{is_tagged};
 
@@ -51,7 +51,7 @@ pub struct Finder {
     reader: Reader,
     has_ended: bool,
     ghost parts_in_range: { IsParts parts },
-    ghost total_in_range: { total ≤ max_keys + 1 },
+    ghost total_in_range: { total ≤ max_found + 1 },
     ghost keys_counted: { length keys ≤ total },
 }
 
@@ -101,7 +101,7 @@ impl Finder {
     ghost use Rattle.std.specs.Prelude.{◌≡◌, ◌≢◌, ℕ, ◌+◌, ◌*◌, ◌<◌, ◌≤◌, ◌↔◌, min, true, false, ◌||◌, List, [], ◌++◌, map, length, IsTrue};
     ghost use Rattle.std.specs.List.{list_all};
     ghost use Rattle.stamps.specs.Key.{IsTransactionKeys, sorted_keys};
-    ghost use Rattle.stamps.specs.Limits.{max_keys};
+    ghost use Rattle.stamps.specs.Limits.{max_found};
     ghost use Rattle.get_all.specs.Reader.{is_last, is_no_read, StandsFor as StandsForRead, TakesRead, told_by, calls_left as read_left, calls_asked as read_asked};
     ghost use Rattle.get_all.specs.ReadProgress.{late_by, readings_by};
     ghost use Rattle.stamps.specs.Bounds.{IsParts};
@@ -116,7 +116,7 @@ impl Finder {
     ghost use Rattle.get_all.specs.Finder.{StandsFor, TakesFind, listed, calls_left, calls_asked};
 
     /// The most items that a search lists.
-    const MAX_ITEMS: u32 = limits::MAX_KEYS as u32;
+    const MAX_ITEMS: u32 = limits::MAX_FOUND as u32;
 
     /// A finder of the items of this tag in a store of so many partitions (1 to 64), which took no reply yet.
     pub fn new(tag: Tag, parts: u32) -> Finder
@@ -244,8 +244,8 @@ impl Finder {
     /// Adds what this partition found.
     fn add(&mut self, partition: u32, found: &Found)
         ensures asked { self.new.asked ≡ map (with_told partition) self.old.asked }
-        ensures total { self.new.total ≡ min (self.old.total + found.now.count) (max_keys + 1) }
-        ensures keys { self.new.total ≤ max_keys → self.new.keys ≡ self.old.keys ++ found.now.keys }
+        ensures total { self.new.total ≡ min (self.old.total + found.now.count) (max_found + 1) }
+        ensures keys { self.new.total ≤ max_found → self.new.keys ≡ self.old.keys ++ found.now.keys }
         ensures same { self.new ≡ record self.old {
           asked = self.new.asked;
           total = self.new.total;
@@ -267,11 +267,11 @@ impl Finder {
 
     /// Begins to read what was found, or ends where there is nothing or too much.
     fn begin(&mut self) -> FindMove
-        ensures too_many { max_keys < self.old.total
+        ensures too_many { max_found < self.old.total
             → (result ≡ FindMove.TooMany) × (self.new ≡ record self.old { has_ended = true }) }
-        ensures nothing { self.old.total ≤ max_keys → (IsTransactionKeys self.old.keys → ⊥)
+        ensures nothing { self.old.total ≤ max_found → (IsTransactionKeys self.old.keys → ⊥)
             → (result ≡ FindMove.List []) × (self.new ≡ record self.old { has_ended = true }) }
-        ensures found { self.old.total ≤ max_keys → IsTransactionKeys self.old.keys
+        ensures found { self.old.total ≤ max_found → IsTransactionKeys self.old.keys
             → (result ≡ FindMove.Begin (sorted_keys self.old.keys))
             × (self.new.tag ≡ self.old.tag) × (self.new.parts ≡ self.old.parts)
             × (self.new.asked ≡ self.old.asked) × (self.new.has_ended ≡ self.old.has_ended)
@@ -279,7 +279,7 @@ impl Finder {
             → IsTrue (list_all is_no_read taken)
             → StandsForRead (sorted_keys self.old.keys) self.new.reader taken) }
         ensures few { list_all (λ asked. asked.has_told) self.old.asked ≡ true
-            → calls_asked result + calls_left self.new ≤ 2 * max_keys }
+            → calls_asked result + calls_left self.new ≤ 2 * max_found }
     {
         if self.total > Finder::MAX_ITEMS {
             self.end();

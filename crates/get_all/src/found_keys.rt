@@ -9,4 +9,4 @@ pub(crate) fn filler() -> Key {
 }
 
 /// Keys that a search found: up to 16.
-pub type FoundKeys = SmallList<Key, { limits::MAX_KEYS }>;
+pub type FoundKeys = SmallList<Key, { limits::MAX_FOUND }>;

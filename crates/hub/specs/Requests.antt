@@ -1,6 +1,6 @@
 -- What an operation is asked to do.
 use Rattle.std.specs.Prelude.{ℕ, ◌+◌, ◌*◌, min, length, Result}
-use Rattle.stamps.specs.Limits.{max_keys}
+use Rattle.stamps.specs.Limits.{max_found, max_keys}
 use Rattle.plain_store.specs.declared.refusal.Refusal.{Refusal}
 use Rattle.plain_store.specs.declared.step.Act.{Act}
 use Rattle.plain_store.specs.declared.step.Act.TheVariants.{Put as PutAct, Get as GetAct, Find as FindAct}
@@ -34,4 +34,4 @@ test_of session (Find tag) = test_idle session
 abbrev pub calls_for : ℕ → SeatRequest → ℕ
 calls_for parts (Put items) = 2 * min (length items.now) max_keys
 calls_for parts (Get keys) = 2 * min (length keys.now) max_keys
-calls_for parts (Find tag) = parts + 2 * max_keys
+calls_for parts (Find tag) = parts + 2 * max_found

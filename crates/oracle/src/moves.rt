@@ -193,7 +193,7 @@ fn search_move(alloc: Global, setup: &Setup, replies: &[Message]) -> Result<Move
         ≡ search_move setup.now (total_found replies.now) (all_keys_found replies.now)) }
 {
     let total = finding::total_found(replies);
-    if total > limits::MAX_KEYS as u64 {
+    if total > limits::MAX_FOUND as u64 {
         return Ok(Move::Fails(Refusal::TooMany, Vec::new(alloc)));
     }
     if total == 0 {

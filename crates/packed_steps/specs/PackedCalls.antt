@@ -2,7 +2,7 @@
 use Rattle.std.specs.Prelude.{◌<◌, ◌^◌, ◌==◌, ℕ, nat_lt, min, List, [], ◌∷◌, ◌++◌, length, Option, Some, None, if◌then◌else◌}
 use Rattle.std.specs.List.{AllByRecursion}
 use Rattle.std.specs.Int.{w64, to_le_bytes}
-use Rattle.stamps.specs.Limits.{max_keys}
+use Rattle.stamps.specs.Limits.{max_found}
 use Rattle.stamps.specs.Bounds.{IsKeep}
 use Rattle.stamps.specs.Stamp.{IsStamp}
 use Rattle.stamps.specs.Key.{IsKey}
@@ -95,7 +95,7 @@ IsStoreReply (ToDiscard reply) = Unit {0}
 -- so many items, and the first of their keys: all of them, or 16
 abbrev pub found_from : ℕ → List (List ℕ) → Option Findings
 found_from count keys =
-    if length keys == min count max_keys then Some (record { count = count; keys = keys }) else None
+    if length keys == min count max_found then Some (record { count = count; keys = keys }) else None
 
 unfoldable pub some_found_at : ℕ → List ℕ → Option (Findings × List ℕ)
 some_found_at count bytes = do

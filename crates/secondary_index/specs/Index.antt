@@ -4,7 +4,7 @@ use Rattle.std.specs.Prelude.{length, take, Option, Some, None, bytes_eq, refl}
 use Rattle.std.specs.Coded.{Coded, code_by, coded×, coded_ℕ, coded_list}
 use Rattle.std.specs.FinMap.{FinMap, get, contains_key, len, entries, code}
 use Rattle.stamps.specs.Key.{key_cmp, sorted_keys}
-use Rattle.stamps.specs.Limits.{max_keys}
+use Rattle.stamps.specs.Limits.{max_found}
 use Rattle.plain_store.specs.Words.{Key, Tag, Findings, is_tagged}
 use Rattle.plain_store.specs.Log.{distinct}
 
@@ -25,7 +25,7 @@ index_code =
 
 -- how many keys these are, and the first 16 of them in byte order
 abbrev pub findings_of : List Key → Findings
-findings_of keys = record { count = length keys; keys = take max_keys (sorted_keys keys) }
+findings_of keys = record { count = length keys; keys = take max_found (sorted_keys keys) }
 
 -- the keys that carry a tag; none carries the empty one
 abbrev pub keys_under : Tags → Tag → List Key

@@ -2,6 +2,7 @@
 ghost use Rattle.std.specs.Prelude.{◌≡◌, ◌+◌, ◌^◌, ◌<◌, ◌≤◌, ◌↔◌, min, List, [], ◌∷◌, IfOk, IsTrue};
 ghost use Rattle.std.specs.FinMap as map;
 ghost use Rattle.secondary_index.specs.Index.{HasPlace, Setting, IsIndexOf, keys_under, keys_last_set_to, findings_of};
+ghost use Rattle.stamps.specs.Limits.{max_found};
 
 use crate::entries::{self, TaggedKey};
 use crate::pairs::{self, Pair};
@@ -146,7 +147,7 @@ impl TagIndex {
         ensures value { result ≡ findings_of (keys_under self.now.tags tag.now) }
         ensures law { (settings : List Setting) → IsIndexOf self.now.tags settings
             → result ≡ findings_of (keys_last_set_to settings tag.now) }
-        ensures visits { visits.new ≡ visits.old + min 16 result.count }
+        ensures visits { visits.new ≡ visits.old + min max_found result.count }
     {
         let (first, count) = pairs::under(&self.pairs, tag);
         if count == 0 {

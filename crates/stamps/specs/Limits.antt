@@ -5,6 +5,10 @@ use Rattle.std.specs.Prelude.{ℕ, ◌^◌, ◌-◌}
 abbrev pub max_keys : ℕ
 max_keys = 16
 
+-- the most keys that a search returns, which are read as one transaction
+abbrev pub max_found : ℕ
+max_found = 16
+
 -- the most bytes of a key
 abbrev pub max_key_len : ℕ
 max_key_len = 32

@@ -3,6 +3,9 @@
 /// The most keys that a transaction names.
 pub const MAX_KEYS: usize = 16;
 
+/// The most keys that a search returns. They are read as one transaction, so it is `MAX_KEYS` at most.
+pub const MAX_FOUND: usize = 16;
+
 /// The most bytes of a key.
 pub const MAX_KEY_LEN: usize = 32;
 

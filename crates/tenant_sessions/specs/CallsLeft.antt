@@ -1,6 +1,6 @@
 -- How many calls a client's running transaction may still ask for, by what it is.
 use Rattle.std.specs.Prelude.{ℕ, ◌+◌, ◌*◌, cond, length, Option, Some, None}
-use Rattle.stamps.specs.Limits.{max_keys}
+use Rattle.stamps.specs.Limits.{max_found}
 use Rattle.plain_store.specs.History.{Intent, Writes, Gets, Finds}
 use Rattle.put_all.specs.Writer.{calls_left as write_left}
 use Rattle.get_all.specs.Reader.{calls_left as read_left}
@@ -33,4 +33,4 @@ calls_sent move waiting = cond (sends_calls move) waiting (length (ending move))
 abbrev pub most_calls : ℕ → Intent → ℕ
 most_calls parts (Writes stamp items) = 2 * length items
 most_calls parts (Gets keys) = 2 * length keys
-most_calls parts (Finds tag) = parts + 2 * max_keys
+most_calls parts (Finds tag) = parts + 2 * max_found
