@@ -1,7 +1,8 @@
 -- What an operation makes room for.
-use Rattle.std.specs.Prelude.{◌≡◌, ℕ, ◌+◌, ◌-◌, ◌≤◌, Bool, true, false, vec_len}
+use Rattle.std.specs.Prelude.{◌≡◌, ℕ, ◌+◌, ◌-◌, ◌≤◌, Bool, true, false, map, vec_len}
 use Rattle.std.specs.VecDeque.{deque_capacity, deque_len}
 use Rattle.history.specs.declared.rule.Naming.{Ghosts}
+use Rattle.shard.specs.Asked.{asked_by}
 use Rattle.hub.specs.Limits.{max_calls}
 use Rattle.hub.specs.declared.dispatcher.Dispatcher.{Dispatcher}
 use Rattle.tenant_sessions.specs.declared.moves.MoveKind.{MoveKind}
@@ -25,6 +26,14 @@ pub record SameRoom {G : Type 0} {naming : Ghosts G} (old new : Dispatcher G nam
   pub places : deque_capacity new.calls ≡ deque_capacity old.calls
   pub boxes : new.boxes ≡ old.boxes
   pub ends : new.spare ≡ old.spare
+
+-- Calls are served where they wait: each is still there and asks what it asked, and none was sent or handed over.
+pub record ServesHere {G : Type 0} {naming : Ghosts G} (old new : Dispatcher G naming) : Type 0 where
+  pub sent : new.sent ≡ old.sent
+  pub room : SameRoom old new
+  pub served : new.served ≡ old.served
+  pub calls : (deque_len new.calls ≡ deque_len old.calls) × (new.queued ≡ old.queued)
+  pub asked : map asked_by new.calls.items ≡ map asked_by old.calls.items
 
 -- how many replies are still to come: to calls that are no longer staged, and to those with workers
 abbrev pub awaited : {G : Type 0} {naming : Ghosts G} → Dispatcher G naming → ℕ

@@ -389,7 +389,7 @@ impl<'a, G: Naming> Dispatcher<'a, G> {
 }
 
 impl<'a, G: Gate + Naming> Dispatcher<'a, G> {
-    ghost use Rattle.hub.specs.Rooms.{HasPlaces, HasRoom, SameRoom};
+    ghost use Rattle.hub.specs.Rooms.{HasPlaces, HasRoom, ServesHere};
 
     /// Stages the call in this box as the seat's call of this number, for `dispatch`, once it has passed the gate, with what the
     /// seat has seen of the history: that shows of which put it is.
@@ -494,12 +494,7 @@ impl<'a, G: Gate + Naming> Dispatcher<'a, G> {
 
     /// Serves the staged calls whose partitions are free, and answers the place of the first one whose partition was not.
     fn serve_free<R: Wait>(&mut self, rt: &R) -> usize
-        ensures sent { self.new.sent ≡ self.old.sent }
-        ensures room { SameRoom self.old self.new }
-        ensures served { self.new.served ≡ self.old.served }
-        ensures calls { (deque_len self.new.calls ≡ deque_len self.old.calls)
-            × (self.new.queued ≡ self.old.queued) }
-        ensures asked { map asked_by self.new.calls.items ≡ map asked_by self.old.calls.items }
+        ensures { ServesHere self.old self.new }
     {
         let shards = self.shards;
         let mut left = self.calls.len();
@@ -523,12 +518,7 @@ impl<'a, G: Gate + Naming> Dispatcher<'a, G> {
 
     /// Waits for the partitions of the staged calls from this place on that are left, and serves them.
     fn serve_held<R: Wait>(&mut self, rt: &R, from: usize)
-        ensures sent { self.new.sent ≡ self.old.sent }
-        ensures room { SameRoom self.old self.new }
-        ensures served { self.new.served ≡ self.old.served }
-        ensures calls { (deque_len self.new.calls ≡ deque_len self.old.calls)
-            × (self.new.queued ≡ self.old.queued) }
-        ensures asked { map asked_by self.new.calls.items ≡ map asked_by self.old.calls.items }
+        ensures { ServesHere self.old self.new }
     {
         let shards = self.shards;
         for at in from..self.calls.len() {
@@ -545,12 +535,7 @@ impl<'a, G: Gate + Naming> Dispatcher<'a, G> {
 
     /// Serves the staged calls of a partition whose lock is held.
     fn serve_under(&mut self, shard: &Shard<G>, state: &mut ShardState<G>) -> FollowUp
-        ensures sent { self.new.sent ≡ self.old.sent }
-        ensures room { SameRoom self.old self.new }
-        ensures served { self.new.served ≡ self.old.served }
-        ensures calls { (deque_len self.new.calls ≡ deque_len self.old.calls)
-            × (self.new.queued ≡ self.old.queued) }
-        ensures asked { map asked_by self.new.calls.items ≡ map asked_by self.old.calls.items }
+        ensures { ServesHere self.old self.new }
     {
         state.serve_round(&shard.config, self.gate, &mut self.calls)
     }

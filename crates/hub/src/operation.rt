@@ -165,7 +165,7 @@ fn enter_decided<G: Naming>(
 }
 
 impl<'a, G: Gate + Naming> RunningOperation<'a, G> {
-    ghost use Rattle.std.specs.Prelude.{◌≡◌, ◌<◌, ◌≤◌, ◌+◌, ◌^◌, ℕ, [], ◌∷◌, ◌++◌, List, Option, true, false, None, Some, Ok, Err, OnOk, OnErr, IfOk, IfErr, IsSome, IsNone, IsTrue, ◌↔◌, cond, length, map, slice_get};
+    ghost use Rattle.std.specs.Prelude.{◌≡◌, ◌<◌, ◌≤◌, ◌+◌, ◌^◌, ℕ, [], ◌∷◌, ◌++◌, List, Option, true, false, None, Some, Ok, Err, OnOk, OnErr, IsSome, IsNone, IsTrue, ◌↔◌, length, map, slice_get};
     ghost use Rattle.stamps.specs.Bounds.{IsParts};
     ghost use Rattle.plain_store.specs.declared.calls.Reply.{Reply as Served};
     ghost use Rattle.plain_store.specs.declared.answer.Answer.{Answer as Said};
@@ -175,6 +175,7 @@ impl<'a, G: Gate + Naming> RunningOperation<'a, G> {
     ghost use Rattle.entry_list.specs.declared.kinds.Entry.{Entry as Entered};
     ghost use Rattle.shard.specs.declared.jobs.Fault.{Fault as Broken};
     ghost use Rattle.hub.specs.Limits.{max_calls};
+    ghost use Rattle.hub.specs.Operating.{GoesOnAs, IsUnderWayAt, KeepsSession, OnlyEnters, OnlySends, ReadsAt, StillFollows, StillServed};
     ghost use Rattle.hub.specs.Rooms.{HasPlaces, HasRoom, awaited};
     ghost use Rattle.tenant_sessions.specs.CallsLeft.{calls_left, calls_waiting, calls_sent};
     ghost use Rattle.plain_store.specs.declared.refusal.Refusal.{Refusal as Why};
@@ -184,11 +185,10 @@ impl<'a, G: Gate + Naming> RunningOperation<'a, G> {
     ghost use Rattle.tenant_sessions.specs.Showing.{IfTells};
     ghost use Rattle.hub.specs.Sights.{SeatSight, sight_of};
     ghost use mathlib.Core.List.{IsPrefix};
-    ghost use Rattle.hub.specs.Replies.{AreServed, IsDrawn, IsStampOf, IsToldFor, IsToldOf, IsUnder, Reads};
+    ghost use Rattle.hub.specs.Replies.{AreServed, IsDrawn, IsStampOf, IsToldFor, IsToldOf, IsUnder};
     ghost use Rattle.stamps.specs.Stamp.{stamp};
-    ghost use Rattle.hub.specs.Seats.{at_seat, is_final, is_unrecorded, outcome_of, spare, told_by, EndsSo, Follows, Extends};
+    ghost use Rattle.hub.specs.Seats.{at_seat, is_final, is_unrecorded, outcome_of, spare, EndsSo, Follows, Extends};
     ghost use Rattle.shard.specs.Asked.{without_reply};
-    ghost use Rattle.shard.specs.declared.shard.Staged.{Staged as Waiting};
     ghost use Rattle.plain_store.specs.Run.{call_message};
     ghost use Rattle.plain_store.specs.declared.message.Message.{Message as Sent};
     ghost use Rattle.tenant_sessions.specs.Running.{waiting_calls, RunningStands};
@@ -196,7 +196,7 @@ impl<'a, G: Gate + Naming> RunningOperation<'a, G> {
     ghost use Rattle.hub.specs.Taken.{replies_in};
     ghost use Rattle.hub.specs.Staging.{AreStagedBehind, IsStagedNext};
     ghost use Rattle.history.specs.Legal.{IsLegal, IsOfPut};
-    ghost use Rattle.hub.specs.Evidence.{AreOfPuts, IsUnderWay, MayBeDecided};
+    ghost use Rattle.hub.specs.Evidence.{AreOfPuts, MayBeDecided};
     ghost use Rattle.tenant_sessions.specs.Moves.{sends_calls};
     ghost use Rattle.tenant_sessions.specs.Sending.{SendsSo, waiting_of};
     ghost use Rattle.tenant_sessions.specs.declared.moves.MoveKind.TheVariants.{Decided as Decides};
@@ -250,9 +250,7 @@ impl<'a, G: Gate + Naming> RunningOperation<'a, G> {
         ensures place { OnOk result (IsSome self.new.place) }
         ensures fault { OnOk result (IsNone self.new.fault) }
         ensures awaited { awaited self.new.queues ≡ awaited self.old.queues }
-        ensures session { self.new.session ≡ self.old.session }
-        ensures seen { self.new.seen ≡ self.old.seen }
-        ensures name { self.new.name ≡ self.old.name }
+        ensures keeps { KeepsSession self.old self.new }
         ensures first { self.new.first ≡ self.old.first }
     {
         self.queues.reserve(request.most_calls(parts))?;
@@ -291,11 +289,7 @@ impl<'a, G: Gate + Naming> RunningOperation<'a, G> {
             (IsDrawn self.old.name.client self.old.session.counter self.new.session.counter)
             request.now answer.new self.old.entries.items self.new.entries.items) }
         ensures counter { self.old.session.counter ≤ self.new.session.counter }
-        ensures served { (start : List Entered)
-            → AreServed (sight_of self.old.name self.old.seen) self.old.first (self.old.first
-            + self.old.queues.sent) start self.old.entries.items
-            → AreServed (sight_of self.old.name self.new.seen) self.old.first (self.old.first
-            + self.new.queues.sent) start self.new.entries.items }
+        ensures served { StillServed self.old self.new }
         ensures refused { (refusal : Why) → test_of self.old.session request.now ≡ Err refusal
             → answer.new ≡ Answer.Refused refusal }
         // Each of its calls was answered.
@@ -303,9 +297,7 @@ impl<'a, G: Gate + Naming> RunningOperation<'a, G> {
         ensures outcome { result ≡ outcome_of self.new.fault self.new.place }
         ensures entered { (told : Option Said)
             × Follows self.old.entries.items told self.new.entries.items }
-        ensures seen { IsPrefix self.old.seen self.new.seen }
-        ensures name { self.new.name ≡ self.old.name }
-        ensures first { self.new.first ≡ self.old.first }
+        ensures goes_on { GoesOnAs self.old self.new }
     {
         let client = self.name.client;
         match request.start(&mut self.session, client, parts) {
@@ -357,10 +349,8 @@ impl<'a, G: Gate + Naming> RunningOperation<'a, G> {
         ensures few { (self.old.first ≤ self.new.first)
             × (self.new.first ≤ self.old.first + max_calls) }
         ensures entries { self.new.entries ≡ self.old.entries }
-        ensures session { self.new.session ≡ self.old.session }
+        ensures keeps { KeepsSession self.old self.new }
         ensures queues { self.new.queues ≡ self.old.queues }
-        ensures seen { self.new.seen ≡ self.old.seen }
-        ensures name { self.new.name ≡ self.old.name }
     {
         let sent = self.queues.sent() as u64;
         self.first += sent;
@@ -382,34 +372,21 @@ impl<'a, G: Gate + Naming> RunningOperation<'a, G> {
             + calls_left self.old.session.running) self.old.queues }
         requires puts { ∥ AreOfPuts
             self.old.seen self.old.name.tenant (waiting_of self.old.session.running) ∥₁ }
-        requires under_way { ∥ IsUnderWay
-            (sight_of self.old.name self.old.seen) own self.old.entries.items
-            self.old.session.running (told_by self.old.place answer.old) ∥₁ }
+        requires under_way { IsUnderWayAt
+            (sight_of self.old.name self.old.seen) own self.old answer.old }
         ensures outcome { result ≡ outcome_of self.new.fault self.new.place }
         ensures few { replies_in self.new.entries.items
             ≤ replies_in self.old.entries.items + takes }
         ensures ends { OnOk result (is_final answer.new ≡ true) }
         ensures awaited { OnOk result (awaited self.new.queues ≡ 0) }
         ensures answered { OnOk result (IsNone self.new.place) }
-        ensures entered { (start : List Entered)
-            → Follows start (told_by self.old.place answer.old) self.old.entries.items
-            → Follows start (told_by self.new.place answer.new) self.new.entries.items }
+        ensures entered { StillFollows self.old answer.old self.new answer.new }
         ensures read { (setup : Setup) (asked : Asked) (start : List Entered) → IsStampOf own asked
-            → Reads
-            (sight_of self.old.name self.old.seen) setup asked start self.old.entries.items
-            self.old.session.running (told_by self.old.place answer.old)
-            → Reads
-            (sight_of self.old.name self.new.seen) setup asked start self.new.entries.items
-            self.new.session.running (told_by self.new.place answer.new) }
-        ensures served { (start : List Entered)
-            → AreServed (sight_of self.old.name self.old.seen) self.old.first (self.old.first
-            + self.old.queues.sent) start self.old.entries.items
-            → AreServed (sight_of self.old.name self.new.seen) self.old.first (self.old.first
-            + self.new.queues.sent) start self.new.entries.items }
+            → ReadsAt (sight_of self.old.name self.old.seen) setup asked start self.old answer.old
+            → ReadsAt (sight_of self.old.name self.new.seen) setup asked start self.new answer.new }
+        ensures served { StillServed self.old self.new }
         ensures counter { self.old.session.counter ≤ self.new.session.counter }
-        ensures seen { IsPrefix self.old.seen self.new.seen }
-        ensures name { self.new.name ≡ self.old.name }
-        ensures first { self.new.first ≡ self.old.first }
+        ensures goes_on { GoesOnAs self.old self.new }
     {
         if !self.send_calls(rt, false) {
             self.fault = Some(Fault::NoTenant);
@@ -429,34 +406,21 @@ impl<'a, G: Gate + Naming> RunningOperation<'a, G> {
     fn take_replies<R: Wait>(&mut self, rt: &R, own: Stamp, takes: usize, answer: &mut Answer)
         requires room { max_calls + spare self.old.place ≤ self.old.entries.room }
         requires calls { HasRoom (calls_left self.old.session.running) self.old.queues }
-        requires under_way { ∥ IsUnderWay
-            (sight_of self.old.name self.old.seen) own self.old.entries.items
-            self.old.session.running (told_by self.old.place answer.old) ∥₁ }
+        requires under_way { IsUnderWayAt
+            (sight_of self.old.name self.old.seen) own self.old answer.old }
         ensures over { IsSome self.old.fault
             → (self.new.fault ≡ self.old.fault) × (self.new.entries ≡ self.old.entries) }
         ensures awaited { IsNone self.new.fault → awaited self.new.queues ≡ 0 }
         ensures few { replies_in self.new.entries.items
             ≤ replies_in self.old.entries.items + takes }
         ensures ends { EndsSo self.old.place answer.old → EndsSo self.new.place answer.new }
-        ensures entered { (start : List Entered)
-            → Follows start (told_by self.old.place answer.old) self.old.entries.items
-            → Follows start (told_by self.new.place answer.new) self.new.entries.items }
+        ensures entered { StillFollows self.old answer.old self.new answer.new }
         ensures read { (setup : Setup) (asked : Asked) (start : List Entered) → IsStampOf own asked
-            → Reads
-            (sight_of self.old.name self.old.seen) setup asked start self.old.entries.items
-            self.old.session.running (told_by self.old.place answer.old)
-            → Reads
-            (sight_of self.old.name self.new.seen) setup asked start self.new.entries.items
-            self.new.session.running (told_by self.new.place answer.new) }
-        ensures served { (start : List Entered)
-            → AreServed (sight_of self.old.name self.old.seen) self.old.first (self.old.first
-            + self.old.queues.sent) start self.old.entries.items
-            → AreServed (sight_of self.old.name self.new.seen) self.old.first (self.old.first
-            + self.new.queues.sent) start self.new.entries.items }
+            → ReadsAt (sight_of self.old.name self.old.seen) setup asked start self.old answer.old
+            → ReadsAt (sight_of self.old.name self.new.seen) setup asked start self.new answer.new }
+        ensures served { StillServed self.old self.new }
         ensures counter { self.old.session.counter ≤ self.new.session.counter }
-        ensures seen { IsPrefix self.old.seen self.new.seen }
-        ensures name { self.new.name ≡ self.old.name }
-        ensures first { self.new.first ≡ self.old.first }
+        ensures goes_on { GoesOnAs self.old self.new }
     {
         for taken in 0..MOST_CALLS {
             if taken >= takes || !self.queues.awaits() {
@@ -490,13 +454,11 @@ impl<'a, G: Gate + Naming> RunningOperation<'a, G> {
         requires own { (reply.now.tenant ≡ self.old.name.tenant)
             × (reply.now.seat ≡ self.old.name.seat) }
         requires front { IsPrefix reply.now.front self.old.seen }
-        requires under_way { ∥ IsUnderWay
-            (sight_of self.old.name self.old.seen) own self.old.entries.items
-            self.old.session.running (told_by self.old.place answer.old) ∥₁ }
+        requires under_way { IsUnderWayAt
+            (sight_of self.old.name self.old.seen) own self.old answer.old }
         ensures calls { HasRoom (calls_left self.new.session.running) self.new.queues }
-        ensures under_way { ∥ IsUnderWay
-            (sight_of self.old.name self.new.seen) own self.new.entries.items
-            self.new.session.running (told_by self.new.place answer.new) ∥₁ }
+        ensures under_way { IsUnderWayAt
+            (sight_of self.old.name self.new.seen) own self.new answer.new }
         ensures took { (place : ℕ) (told : Served) → IsNone self.old.fault
             → reply.now.outcome ≡ Ok place → reply.now.message.value.reply ≡ Some told
             → IsUnder own reply.now.message.value.call
@@ -512,16 +474,12 @@ impl<'a, G: Gate + Naming> RunningOperation<'a, G> {
         ensures replies { replies_in self.new.entries.items
             ≤ replies_in self.old.entries.items + 1 }
         ensures ends { EndsSo self.old.place answer.old → EndsSo self.new.place answer.new }
-        ensures entered { (start : List Entered)
-            → Follows start (told_by self.old.place answer.old) self.old.entries.items
-            → Follows start (told_by self.new.place answer.new) self.new.entries.items }
+        ensures entered { StillFollows self.old answer.old self.new answer.new }
         ensures read { (sight : SeatSight) (setup : Setup) (asked : Asked) (start : List Entered)
             → IsStampOf own asked → reply.now.tenant ≡ sight.tenant → reply.now.seat ≡ sight.seat
             → IsPrefix reply.now.front sight.seen
-            → Reads sight setup asked start self.old.entries.items self.old.session.running
-            (told_by self.old.place answer.old)
-            → Reads sight setup asked start self.new.entries.items self.new.session.running
-            (told_by self.new.place answer.new) }
+            → ReadsAt sight setup asked start self.old answer.old
+            → ReadsAt sight setup asked start self.new answer.new }
         ensures served { (first last : ℕ) (start : List Entered)
             → reply.now.tenant ≡ self.old.name.tenant → reply.now.seat ≡ self.old.name.seat
             → IsPrefix reply.now.front self.old.seen → first < reply.now.number
@@ -532,9 +490,7 @@ impl<'a, G: Gate + Naming> RunningOperation<'a, G> {
             (sight_of self.old.name self.new.seen) first last start self.new.entries.items }
         ensures sent { self.old.queues.sent ≤ self.new.queues.sent }
         ensures counter { self.old.session.counter ≤ self.new.session.counter }
-        ensures seen { IsPrefix self.old.seen self.new.seen }
-        ensures name { self.new.name ≡ self.old.name }
-        ensures first { self.new.first ≡ self.old.first }
+        ensures goes_on { GoesOnAs self.old self.new }
     {
         if self.fault.is_some() {
             return;
@@ -561,13 +517,11 @@ impl<'a, G: Gate + Naming> RunningOperation<'a, G> {
         requires own { (reply.now.tenant ≡ self.old.name.tenant)
             × (reply.now.seat ≡ self.old.name.seat) }
         requires front { IsPrefix reply.now.front self.old.seen }
-        requires under_way { ∥ IsUnderWay
-            (sight_of self.old.name self.old.seen) own self.old.entries.items
-            self.old.session.running (told_by self.old.place answer.old) ∥₁ }
+        requires under_way { IsUnderWayAt
+            (sight_of self.old.name self.old.seen) own self.old answer.old }
         ensures calls { HasRoom (calls_left self.new.session.running) self.new.queues }
-        ensures under_way { ∥ IsUnderWay
-            (sight_of self.old.name self.new.seen) own self.new.entries.items
-            self.new.session.running (told_by self.new.place answer.new) ∥₁ }
+        ensures under_way { IsUnderWayAt
+            (sight_of self.old.name self.new.seen) own self.new answer.new }
         ensures took { (told : Served) → reply.now.message.value.reply ≡ Some told
             → IsUnder own reply.now.message.value.call
             → Extends (self.old.entries.items
@@ -578,16 +532,12 @@ impl<'a, G: Gate + Naming> RunningOperation<'a, G> {
         ensures replies { replies_in self.new.entries.items
             ≤ replies_in self.old.entries.items + 1 }
         ensures ends { EndsSo self.old.place answer.old → EndsSo self.new.place answer.new }
-        ensures entered { (start : List Entered)
-            → Follows start (told_by self.old.place answer.old) self.old.entries.items
-            → Follows start (told_by self.new.place answer.new) self.new.entries.items }
+        ensures entered { StillFollows self.old answer.old self.new answer.new }
         ensures read { (sight : SeatSight) (setup : Setup) (asked : Asked) (start : List Entered)
             → IsStampOf own asked → reply.now.outcome ≡ Ok place → reply.now.tenant ≡ sight.tenant
             → reply.now.seat ≡ sight.seat → IsPrefix reply.now.front sight.seen
-            → Reads sight setup asked start self.old.entries.items self.old.session.running
-            (told_by self.old.place answer.old)
-            → Reads sight setup asked start self.new.entries.items self.new.session.running
-            (told_by self.new.place answer.new) }
+            → ReadsAt sight setup asked start self.old answer.old
+            → ReadsAt sight setup asked start self.new answer.new }
         ensures served { (first last : ℕ) (start : List Entered) → reply.now.outcome ≡ Ok place
             → reply.now.tenant ≡ self.old.name.tenant → reply.now.seat ≡ self.old.name.seat
             → IsPrefix reply.now.front self.old.seen → first < reply.now.number
@@ -598,9 +548,7 @@ impl<'a, G: Gate + Naming> RunningOperation<'a, G> {
             (sight_of self.old.name self.new.seen) first last start self.new.entries.items }
         ensures sent { self.old.queues.sent ≤ self.new.queues.sent }
         ensures counter { self.old.session.counter ≤ self.new.session.counter }
-        ensures seen { IsPrefix self.old.seen self.new.seen }
-        ensures name { self.new.name ≡ self.old.name }
-        ensures first { self.new.first ≡ self.old.first }
+        ensures goes_on { GoesOnAs self.old self.new }
     {
         let message = &*reply.message;
         let Some(told) = &message.reply else {
@@ -648,16 +596,12 @@ impl<'a, G: Gate + Naming> RunningOperation<'a, G> {
         ensures room { self.old.entries.room + spare self.new.place
             ≤ self.new.entries.room + spare self.old.place }
         ensures ends { EndsSo self.old.place answer.old → EndsSo self.new.place answer.new }
-        ensures entered { (start : List Entered)
-            → Follows start (told_by self.old.place answer.old) self.old.entries.items
-            → Follows start (told_by self.new.place answer.new) self.new.entries.items }
+        ensures entered { StillFollows self.old answer.old self.new answer.new }
         ensures read { (sight : SeatSight) (setup : Setup) (asked : Asked) (start : List Entered)
-            → Reads sight setup asked start self.old.entries.items self.old.session.running
-            (told_by self.old.place answer.old)
+            → ReadsAt sight setup asked start self.old answer.old
             → IfTells asked (moved taken.now self.old.readings.value)
             (IsToldOf sight setup asked start self.old.entries.items)
-            → Reads sight setup asked start self.new.entries.items self.new.session.running
-            (told_by self.new.place answer.new) }
+            → ReadsAt sight setup asked start self.new answer.new }
         ensures kept { Extends self.old.entries.items self.new.entries.items }
         ensures served { (first last : ℕ) (start : List Entered)
             → AreServed
@@ -710,36 +654,26 @@ impl<'a, G: Gate + Naming> RunningOperation<'a, G> {
     fn enter_end(&mut self, taken: &MoveKind, answer: &mut Answer)
         requires last { is_last (moved taken.now self.old.readings.value) ≡ true }
         requires room { spare self.old.place ≤ self.old.entries.room }
-        ensures readings { self.new.readings ≡ self.old.readings }
-        ensures queues { self.new.queues ≡ self.old.queues }
+        ensures only { OnlyEnters self.old self.new }
         ensures answered { IsNone self.new.place }
         ensures told { (rows : Told) → IsSome self.old.place
             → answer.new ≡ at_seat (answer_of (moved taken.now self.old.readings.value) rows) }
         ensures replies { replies_in self.new.entries.items ≡ replies_in self.old.entries.items }
-        ensures session { self.new.session ≡ self.old.session }
-        ensures fault { self.new.fault ≡ self.old.fault }
         ensures room { self.old.entries.room + spare self.new.place
             ≤ self.new.entries.room + spare self.old.place }
         ensures ends { EndsSo self.old.place answer.old → EndsSo self.new.place answer.new }
-        ensures entered { (start : List Entered)
-            → Follows start (told_by self.old.place answer.old) self.old.entries.items
-            → Follows start (told_by self.new.place answer.new) self.new.entries.items }
+        ensures entered { StillFollows self.old answer.old self.new answer.new }
         ensures read { (sight : SeatSight) (setup : Setup) (asked : Asked) (start : List Entered)
-            → Reads sight setup asked start self.old.entries.items self.old.session.running
-            (told_by self.old.place answer.old)
+            → ReadsAt sight setup asked start self.old answer.old
             → IfTells asked (moved taken.now self.old.readings.value)
             (IsToldOf sight setup asked start self.old.entries.items)
-            → Reads sight setup asked start self.new.entries.items self.new.session.running
-            (told_by self.new.place answer.new) }
+            → ReadsAt sight setup asked start self.new answer.new }
         ensures kept { Extends self.old.entries.items self.new.entries.items }
         ensures served { (first last : ℕ) (start : List Entered)
             → AreServed
             (sight_of self.old.name self.old.seen) first last start self.old.entries.items
             → AreServed
             (sight_of self.old.name self.new.seen) first last start self.new.entries.items }
-        ensures seen { self.new.seen ≡ self.old.seen }
-        ensures name { self.new.name ≡ self.old.name }
-        ensures first { self.new.first ≡ self.old.first }
     {
         if !self.place.is_some() {
             return;
@@ -752,22 +686,16 @@ impl<'a, G: Gate + Naming> RunningOperation<'a, G> {
     fn enter_answer(&mut self, answer: &Answer)
         requires place { IsSome self.old.place }
         requires room { spare self.old.place ≤ self.old.entries.room }
-        ensures queues { self.new.queues ≡ self.old.queues }
-        ensures readings { self.new.readings ≡ self.old.readings }
+        ensures only { OnlyEnters self.old self.new }
         ensures answered { IsNone self.new.place }
         ensures answer { self.new.entries.items
             ≡ self.old.entries.items ++ Entry.Answered answer.now ∷ [] }
         ensures replies { replies_in self.new.entries.items ≡ replies_in self.old.entries.items }
-        ensures session { self.new.session ≡ self.old.session }
-        ensures fault { self.new.fault ≡ self.old.fault }
         ensures room { self.old.entries.room + spare self.new.place
             ≤ self.new.entries.room + spare self.old.place }
         ensures entered { (start : List Entered) → Follows start None self.old.entries.items
             → Follows start (Some answer.now) self.new.entries.items }
         ensures kept { Extends self.old.entries.items self.new.entries.items }
-        ensures seen { self.new.seen ≡ self.old.seen }
-        ensures name { self.new.name ≡ self.old.name }
-        ensures first { self.new.first ≡ self.old.first }
     {
         if self.place.take().is_some() {
             self.entries.push_answered(answer);
@@ -778,15 +706,10 @@ impl<'a, G: Gate + Naming> RunningOperation<'a, G> {
     fn push_took(&mut self, number: u64, partition: u32, place: u64, reply: &Reply)
         requires { 0 < self.old.entries.room }
         ensures room { self.new.entries.room + 1 ≡ self.old.entries.room }
-        ensures queues { self.new.queues ≡ self.old.queues }
+        ensures only { OnlyEnters self.old self.new }
         ensures took { self.new.entries.items
             ≡ self.old.entries.items ++ Entry.Took number partition place reply.now ∷ [] }
-        ensures session { self.new.session ≡ self.old.session }
         ensures place { self.new.place ≡ self.old.place }
-        ensures fault { self.new.fault ≡ self.old.fault }
-        ensures seen { self.new.seen ≡ self.old.seen }
-        ensures name { self.new.name ≡ self.old.name }
-        ensures first { self.new.first ≡ self.old.first }
     {
         self.entries.push_took(number, partition, place, reply);
     }
@@ -801,10 +724,7 @@ impl<'a, G: Gate + Naming> RunningOperation<'a, G> {
             → HasRoom calls self.new.queues }
         ensures sent { self.new.queues.sent
             ≡ self.old.queues.sent + calls_waiting self.old.session.running }
-        ensures rest { (self.new.name ≡ self.old.name) × (self.new.session ≡ self.old.session)
-            × (self.new.entries ≡ self.old.entries) × (self.new.first ≡ self.old.first)
-            × (self.new.place ≡ self.old.place) × (self.new.fault ≡ self.old.fault)
-            × (self.new.readings ≡ self.old.readings) × (self.new.seen ≡ self.old.seen) }
+        ensures rest { OnlySends self.old self.new }
     {
         self.stage_calls(commits);
         self.queues.dispatch(rt)
@@ -826,10 +746,7 @@ impl<'a, G: Gate + Naming> RunningOperation<'a, G> {
             + self.old.queues.sent)
             (map (call_message self.old.name.client self.old.session.ticket)
             (waiting_calls setup asked taken)) self.old.queues.calls.items self.new.queues.calls.items }
-        ensures rest { (self.new.name ≡ self.old.name) × (self.new.session ≡ self.old.session)
-            × (self.new.entries ≡ self.old.entries) × (self.new.first ≡ self.old.first)
-            × (self.new.place ≡ self.old.place) × (self.new.fault ≡ self.old.fault)
-            × (self.new.readings ≡ self.old.readings) × (self.new.seen ≡ self.old.seen) }
+        ensures rest { OnlySends self.old self.new }
     {
         let count = self.session.pending_calls().unwrap();
         for nth in 0..count {
@@ -855,10 +772,7 @@ impl<'a, G: Gate + Naming> RunningOperation<'a, G> {
             (slice_get
             (map (call_message self.old.name.client self.old.session.ticket)
             (waiting_calls setup asked taken)) nth) self.old.queues.calls.items self.new.queues.calls.items }
-        ensures rest { (self.new.name ≡ self.old.name) × (self.new.session ≡ self.old.session)
-            × (self.new.entries ≡ self.old.entries) × (self.new.first ≡ self.old.first)
-            × (self.new.place ≡ self.old.place) × (self.new.fault ≡ self.old.fault)
-            × (self.new.readings ≡ self.old.readings) × (self.new.seen ≡ self.old.seen) }
+        ensures rest { OnlySends self.old self.new }
     {
         let mut message = self.queues.take_box(commits);
         let is_made = self.session.call_over(self.name.client, nth, &mut message);
@@ -875,10 +789,7 @@ impl<'a, G: Gate + Naming> RunningOperation<'a, G> {
             + calls) self.old.queues → HasRoom calls self.new.queues }
         ensures sent { (told : List Shown)
             → self.new.queues.sent ≡ self.old.queues.sent + length (ending (moved taken.now told)) }
-        ensures rest { (self.new.name ≡ self.old.name) × (self.new.session ≡ self.old.session)
-            × (self.new.entries ≡ self.old.entries) × (self.new.first ≡ self.old.first)
-            × (self.new.place ≡ self.old.place) × (self.new.fault ≡ self.old.fault)
-            × (self.new.readings ≡ self.old.readings) × (self.new.seen ≡ self.old.seen) }
+        ensures rest { OnlySends self.old self.new }
     {
         if !taken.has_ending(0) {
             return true;
@@ -902,10 +813,7 @@ impl<'a, G: Gate + Naming> RunningOperation<'a, G> {
             (map (call_message self.old.name.client ticket)
             (ending
             (moved taken.now told))) self.old.queues.calls.items self.new.queues.calls.items }
-        ensures rest { (self.new.name ≡ self.old.name) × (self.new.session ≡ self.old.session)
-            × (self.new.entries ≡ self.old.entries) × (self.new.first ≡ self.old.first)
-            × (self.new.place ≡ self.old.place) × (self.new.fault ≡ self.old.fault)
-            × (self.new.readings ≡ self.old.readings) × (self.new.seen ≡ self.old.seen) }
+        ensures rest { OnlySends self.old self.new }
     {
         for nth in 0..MOST_CALLS as u32 {
             if !taken.has_ending(nth) {
@@ -931,10 +839,7 @@ impl<'a, G: Gate + Naming> RunningOperation<'a, G> {
             (map (call_message self.old.name.client ticket)
             (ending
             (moved taken.now told))) nth) self.old.queues.calls.items self.new.queues.calls.items }
-        ensures rest { (self.new.name ≡ self.old.name) × (self.new.session ≡ self.old.session)
-            × (self.new.entries ≡ self.old.entries) × (self.new.first ≡ self.old.first)
-            × (self.new.place ≡ self.old.place) × (self.new.fault ≡ self.old.fault)
-            × (self.new.readings ≡ self.old.readings) × (self.new.seen ≡ self.old.seen) }
+        ensures rest { OnlySends self.old self.new }
     {
         let mut message = self.queues.take_box(false);
         let is_made = taken.ending_into(self.name.client, ticket, nth, &mut message);
@@ -955,10 +860,7 @@ impl<'a, G: Gate + Naming> RunningOperation<'a, G> {
             + self.old.queues.sent)
             (Some
             (without_reply message.value)) self.old.queues.calls.items self.new.queues.calls.items }
-        ensures rest { (self.new.name ≡ self.old.name) × (self.new.session ≡ self.old.session)
-            × (self.new.entries ≡ self.old.entries) × (self.new.first ≡ self.old.first)
-            × (self.new.place ≡ self.old.place) × (self.new.fault ≡ self.old.fault)
-            × (self.new.readings ≡ self.old.readings) × (self.new.seen ≡ self.old.seen) }
+        ensures rest { OnlySends self.old self.new }
     {
         let number = self.first + 1 + self.queues.sent() as u64;
         self.queues.stage(&self.name, number, message, &self.seen);

@@ -1,5 +1,5 @@
 //! A client's session.
-ghost use Rattle.std.specs.Prelude.{◌≡◌, ◌<◌, ◌≤◌, ◌+◌, ◌-◌, ◌^◌, ◌↔◌, ◌⊎◌, [], ◌∷◌, ◌++◌, true, false, Some, OnOk, IfErr, IfSome, IfNone};
+ghost use Rattle.std.specs.Prelude.{◌≡◌, ◌<◌, ◌≤◌, ◌+◌, ◌-◌, ◌^◌, ◌↔◌, ◌⊎◌, [], true, false, Some, OnOk, IfErr, IfSome, IfNone};
 ghost use Rattle.plain_store.specs.declared.step.Act.TheVariants.{Put, Get as GetAll, Find};
 ghost use Rattle.history.specs.Legal.{IsLegal};
 ghost use Rattle.hub.specs.Rooms.{awaited};
@@ -301,13 +301,8 @@ impl<'a, G: Gate + Naming> Seat<'a, G> {
     fn finish<R: Wait>(&mut self, rt: &R, sent: bool, told: Result<(), Fault>, answer: &mut Answer)
         ensures served { OnOk told (answer.new ≡ answer.old) }
         ensures refused { IfErr told (λ fault. answer.new ≡ Answer.Refused (refusal_of fault)) }
-        ensures stopped { self.new.stopped ≡ self.old.stopped }
-        ensures sent { self.new.sent ≡ self.old.sent }
-        ensures entries { self.new.entries ≡ self.old.entries }
-        ensures seen { self.new.seen ≡ self.old.seen }
-        ensures counter { self.new.counter ≡ self.old.counter }
-        ensures name { self.new.name ≡ self.old.name }
-        ensures parts { self.new.parts ≡ self.old.parts }
+        // What contracts see of the seat is as it was.
+        ensures stays { self.new ≡ self.old }
     {
         if sent {
             self.ticket = self.ticket.saturating_add(1);

@@ -22,14 +22,14 @@ pub returns-clause-read : goal.returns-clause-read
 returns-clause-read g c name setup asked start reads moves =
     let P : List Reading → Type 0 = λ told. IfTells asked (moved c.args.taken.now told) (IsToldOf name setup asked start c.args.self.now.entries.items) in
     reads-ended name setup asked start _ c.enter_answer.new.self.entries.items _ c.enter_answer.new.self.session.running c.enter_answer.new.self.place _ (moved c.args.taken.now c.deref.result.now) c.tell_end.new.answer
-    c.enter_answer.ensures.answer (ap (λ (s : ClientSession). s.running) c.enter_answer.ensures.session) c.enter_answer.ensures.answered c.tell_end.ensures.exact reads
+    c.enter_answer.ensures.answer (ap (λ (s : ClientSession). s.running) c.enter_answer.ensures.only.session) c.enter_answer.ensures.answered c.tell_end.ensures.exact reads
     (subst P (sym c.deref.ensures) moves)
 
 pub returns-clause-served : goal.returns-clause-served
 returns-clause-served g c first last start are =
     let name = c.args.self.now.name in
     let R : List HistoryEntry → Type 0 = λ s. AreServed (sight_of name s) first last start c.enter_answer.new.self.entries.items in
-    subst R (sym c.enter_answer.ensures.seen)
+    subst R (sym c.enter_answer.ensures.only.seen)
     (served-answered (sight_of name c.args.self.now.seen) first last start c.args.self.now.entries.items c.enter_answer.new.self.entries.items c.tell_end.new.answer c.enter_answer.ensures.answer are)
 
 pub returns-clause-told : goal.returns-clause-told

@@ -38,14 +38,14 @@ returns-clause-read g c name setup asked start stamped is its own pre reads =
     came-taken name reply.front asked reply.partition reply.tenant reply.seat reply.number c.args.place reply.message.value m reply.outcome _ pre is has its own reply.came of
     (subst (λ (from : Message). IsTakenFor from m) c.deref-message.ensures same) in
     let served = reads-served name setup asked start c.args.self.now.entries.items c.push_took.new.self.entries.items c.args.self.now.session c.push_took.new.self.session c.move_into.new.self c.args.self.now.place c.push_took.new.self.place c.args.answer.now _ _ _ _ _ _
-    c.push_took.ensures.took c.push_took.ensures.session c.push_took.ensures.place enters c.move_into.ensures.shown reads in
+    c.push_took.ensures.took c.push_took.ensures.only.session c.push_took.ensures.place enters c.move_into.ensures.shown reads in
     c.follow.ensures.read name setup asked start served.0 served.1
 
 -- what was under way is, with what is seen now
 pub returns-clause-under_way : goal.returns-clause-under_way
 returns-clause-under_way g c =
     let before = c.args.self.now in
-    let seen = prefix_join _ _ _ (prefix_is _ _ (sym c.push_took.ensures.seen)) c.follow.ensures.seen in
+    let seen = prefix_join _ _ _ (prefix_is _ _ (sym c.push_took.ensures.only.seen)) c.follow.ensures.seen in
     let now = sight_of before.name c.follow.new.self.seen in
     ∥∥₁_map c.requires.under_way
     (under_way_on (sight_of before.name before.seen) now c.args.own _ _ _ _ _ _ (record { tenant = refl; seat = refl; seen = seen })
@@ -69,9 +69,9 @@ follow-requires-clause-decided g c stamp is =
     let P : ℕ → Type 0 = λ t. MayBeDecided before.seen t stamp in
     let R : List HistoryEntry → Type 0 = λ l. MayBeDecided l kept.name.tenant stamp in
     ∥∥₁_map₂ c.requires.under_way before.legal (λ u legal.
-    subst R (sym c.push_took.ensures.seen) (subst P (sym (ap (λ (n : SeatName). n.tenant) c.push_took.ensures.name))
+    subst R (sym c.push_took.ensures.only.seen) (subst P (sym (ap (λ (n : SeatName). n.tenant) c.push_took.ensures.only.name))
     (under_way_decided sight c.args.own before.entries.items kept.session.running _ _ c.deref-message.result.now _ (Took reply.number reply.partition c.args.place c.in-Some.told) stamp legal enters c.move_into.ensures.shown (ap (λ k. moved k c.move_into.new.readings) is)
-    (subst Q (sym c.push_took.ensures.session) u))))
+    (subst Q (sym c.push_took.ensures.only.session) u))))
 
 pub returns-clause-served : goal.returns-clause-served
 returns-clause-served g c first last start is its own pre behind up_to are =
@@ -80,22 +80,22 @@ returns-clause-served g c first last start is its own pre behind up_to are =
     let between = sight_of c.push_took.new.self.name c.push_took.new.self.seen in
     let has : reply.message.value.reply ≡ Some c.in-Some.told = cc in
     served-same (sight_of c.push_took.new.self.name c.follow.new.self.seen) (sight_of c.args.self.now.name c.follow.new.self.seen) first first last last start c.follow.new.self.entries.items c.follow.new.self.entries.items
-    (sights _ _ _ _ (sym c.push_took.ensures.name) refl) refl (omega arith) refl
+    (sights _ _ _ _ (sym c.push_took.ensures.only.name) refl) refl (omega arith) refl
     (c.follow.ensures.served first last start
     (served-took between before reply.front first last start c.args.self.now.entries.items c.push_took.new.self.entries.items reply.partition reply.tenant reply.seat reply.number c.args.place reply.message.value reply.outcome _
-    pre c.push_took.ensures.took (sights _ _ _ _ c.push_took.ensures.name c.push_took.ensures.seen) is has its own behind up_to reply.came are))
+    pre c.push_took.ensures.took (sights _ _ _ _ c.push_took.ensures.only.name c.push_took.ensures.only.seen) is has its own behind up_to reply.came are))
 
 pub returns-clause-counter : goal.returns-clause-counter
 returns-clause-counter g c =
-    let before = ap (λ (s : ClientSession). s.counter) c.push_took.ensures.session in
+    let before = ap (λ (s : ClientSession). s.counter) c.push_took.ensures.only.session in
     let after = ap (λ (s : ClientSession). s.counter) c.follow.ensures.session in
     omega (arith, before, after, c.move_into.ensures.counter)
 
 -- what the move sends, it may send
 pub follow-requires-clause-calls : goal.follow-requires-clause-calls
 follow-requires-clause-calls g c =
-    let before = ap (λ (s : ClientSession). calls_left s.running) c.push_took.ensures.session in
-    room_stays c.args.self.now.queues c.push_took.new.self.queues _ _ c.push_took.ensures.queues (omega (arith, before, c.move_into.ensures.calls)) c.requires.calls
+    let before = ap (λ (s : ClientSession). calls_left s.running) c.push_took.ensures.only.session in
+    room_stays c.args.self.now.queues c.push_took.new.self.queues _ _ c.push_took.ensures.only.queues (omega (arith, before, c.move_into.ensures.calls)) c.requires.calls
 
 pub returns-clause-replies : goal.returns-clause-replies
 returns-clause-replies g c =
@@ -103,4 +103,4 @@ returns-clause-replies g c =
 
 -- the calls that the move asks for are sent after those before
 pub returns-clause-sent : goal.returns-clause-sent
-returns-clause-sent g c = omega (arith, ap (λ q. q.sent) c.push_took.ensures.queues, c.follow.ensures.counted)
+returns-clause-sent g c = omega (arith, ap (λ q. q.sent) c.push_took.ensures.only.queues, c.follow.ensures.counted)

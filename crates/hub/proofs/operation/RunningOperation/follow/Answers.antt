@@ -18,16 +18,16 @@ returns-then-not-send_ending-clause-calls g c =
     let before = c.args.self.now in
     let last = sym (c.is_last.ensures before.readings.value) ∙ c.if-is_last.true in
     c.send_ending.ensures.room _
-    (room_at_end before.queues c.enter_end.new.self.queues (moved c.args.taken.now before.readings.value) _ (calls_waiting before.session.running) _ last c.enter_end.ensures.queues
-    (ap (λ r. moved c.args.taken.now r.value) c.enter_end.ensures.readings) c.requires.calls)
+    (room_at_end before.queues c.enter_end.new.self.queues (moved c.args.taken.now before.readings.value) _ (calls_waiting before.session.running) _ last c.enter_end.ensures.only.queues
+    (ap (λ r. moved c.args.taken.now r.value) c.enter_end.ensures.only.readings) c.requires.calls)
 
 pub returns-else-not-send_ending-clause-calls : goal.returns-else-not-send_ending-clause-calls
 returns-else-not-send_ending-clause-calls g c =
     let before = c.args.self.now in
     let last = sym (c.is_last.ensures before.readings.value) ∙ c.if-is_last.true in
     c.send_ending.ensures.room _
-    (room_at_end before.queues c.enter_end.new.self.queues (moved c.args.taken.now before.readings.value) _ (calls_waiting before.session.running) _ last c.enter_end.ensures.queues
-    (ap (λ r. moved c.args.taken.now r.value) c.enter_end.ensures.readings) c.requires.calls)
+    (room_at_end before.queues c.enter_end.new.self.queues (moved c.args.taken.now before.readings.value) _ (calls_waiting before.session.running) _ last c.enter_end.ensures.only.queues
+    (ap (λ r. moved c.args.taken.now r.value) c.enter_end.ensures.only.readings) c.requires.calls)
 
 -- so did those that it waits for
 pub returns-then-not-send_asked-clause-calls : goal.returns-then-not-send_asked-clause-calls
@@ -58,7 +58,7 @@ returns-else-not-send_ending-clause-sent g c none =
     let before = c.args.self.now in
     let told = before.readings.value in
     let last = sym (c.is_last.ensures told) ∙ c.if-is_last.true in
-    omega (arith, c.send_ending.ensures.sent told, ap (λ q. q.sent) c.enter_end.ensures.queues, sent_at_end (moved c.args.taken.now told) (calls_waiting before.session.running) last)
+    omega (arith, c.send_ending.ensures.sent told, ap (λ q. q.sent) c.enter_end.ensures.only.queues, sent_at_end (moved c.args.taken.now told) (calls_waiting before.session.running) last)
 
 pub returns-else-sends-clause-sent : goal.returns-else-sends-clause-sent
 returns-else-sends-clause-sent g c none =
@@ -78,10 +78,10 @@ returns-else-sends-clause-sent g c none =
     ]
 
 pub returns-then-not-send_ending-clause-counted : goal.returns-then-not-send_ending-clause-counted
-returns-then-not-send_ending-clause-counted g c = omega (arith, c.send_ending.ensures.sent [], ap (λ q. q.sent) c.enter_end.ensures.queues)
+returns-then-not-send_ending-clause-counted g c = omega (arith, c.send_ending.ensures.sent [], ap (λ q. q.sent) c.enter_end.ensures.only.queues)
 
 pub returns-else-not-send_ending-clause-counted : goal.returns-else-not-send_ending-clause-counted
-returns-else-not-send_ending-clause-counted g c = omega (arith, c.send_ending.ensures.sent [], ap (λ q. q.sent) c.enter_end.ensures.queues)
+returns-else-not-send_ending-clause-counted g c = omega (arith, c.send_ending.ensures.sent [], ap (λ q. q.sent) c.enter_end.ensures.only.queues)
 
 pub returns-else-sends-clause-counted : goal.returns-else-sends-clause-counted
 returns-else-sends-clause-counted g c =
@@ -103,10 +103,10 @@ returns-else-sends-clause-seen g c =
     ]
 
 pub returns-then-not-send_ending-clause-seen : goal.returns-then-not-send_ending-clause-seen
-returns-then-not-send_ending-clause-seen g c = prefix_is _ _ (sym (c.send_ending.ensures.rest.7 ∙ c.enter_end.ensures.seen))
+returns-then-not-send_ending-clause-seen g c = prefix_is _ _ (sym (c.send_ending.ensures.rest.7 ∙ c.enter_end.ensures.only.seen))
 
 pub returns-else-not-send_ending-clause-seen : goal.returns-else-not-send_ending-clause-seen
-returns-else-not-send_ending-clause-seen g c = prefix_is _ _ (sym (c.send_ending.ensures.rest.7 ∙ c.enter_end.ensures.seen))
+returns-else-not-send_ending-clause-seen g c = prefix_is _ _ (sym (c.send_ending.ensures.rest.7 ∙ c.enter_end.ensures.only.seen))
 
 -- by which each reply so far stands
 pub returns-then-not-send_asked-clause-served : goal.returns-then-not-send_asked-clause-served

@@ -107,8 +107,12 @@ returns-else-not-enter_begun-clause-served g c start are =
     c.exchange.ensures.served start
     (served-later (sight_of before.name before.seen) (sight_of before.name c.enter_begun.new.seen) before.first _ start before.entries.items (record { tenant = refl; seat = refl; seen = c.enter_begun.ensures.later }) are)
 
-pub returns-else-not-enter_begun-clause-seen : goal.returns-else-not-enter_begun-clause-seen
-returns-else-not-enter_begun-clause-seen g c = prefix_join _ _ _ c.enter_begun.ensures.later c.exchange.ensures.seen
+pub returns-else-not-enter_begun-clause-goes_on : goal.returns-else-not-enter_begun-clause-goes_on
+returns-else-not-enter_begun-clause-goes_on g c = record {
+  name = c.exchange.ensures.goes_on.name;
+  first = c.exchange.ensures.goes_on.first;
+  seen = prefix_join _ _ _ c.enter_begun.ensures.later c.exchange.ensures.goes_on.seen;
+}
 
 -- where the put is not entered, nothing was sent
 pub returns-then-not-enter_begun-clause-served : goal.returns-then-not-enter_begun-clause-served
@@ -128,8 +132,8 @@ returns-in-Err-clause-served g c start are =
     let name = c.args.self.now.name in
     let Q : ℕ → Type 0 = λ n. AreServed (sight_of name c.enter_answer.new.self.seen) first (first + n) start c.enter_answer.new.self.entries.items in
     let R : List HistoryEntry → Type 0 = λ s. AreServed (sight_of name s) first (first + c.args.self.now.queues.sent) start c.enter_answer.new.self.entries.items in
-    subst Q (sym (ap (λ q. q.sent) c.enter_answer.ensures.queues))
-    (subst R (sym c.enter_answer.ensures.seen) (served-answered (sight_of name c.args.self.now.seen) first _ start c.args.self.now.entries.items c.enter_answer.new.self.entries.items c.tell_refusal.new.answer c.enter_answer.ensures.answer are))
+    subst Q (sym (ap (λ q. q.sent) c.enter_answer.ensures.only.queues))
+    (subst R (sym c.enter_answer.ensures.only.seen) (served-answered (sight_of name c.args.self.now.seen) first _ start c.args.self.now.entries.items c.enter_answer.new.self.entries.items c.tell_refusal.new.answer c.enter_answer.ensures.answer are))
 
 -- what begins sends no more than there was made room for
 pub exchange-requires-clause-calls : goal.exchange-requires-clause-calls
@@ -142,4 +146,4 @@ exchange-requires-clause-calls g c =
 
 pub returns-in-Err-clause-outcome : goal.returns-in-Err-clause-outcome
 returns-in-Err-clause-outcome g c =
-    answered-outcome c.enter_answer.new.self.fault c.enter_answer.new.self.place (subst (λ (f : Option Fault). IsNone f) (sym c.enter_answer.ensures.fault) c.requires.fault) c.enter_answer.ensures.answered
+    answered-outcome c.enter_answer.new.self.fault c.enter_answer.new.self.place (subst (λ (f : Option Fault). IsNone f) (sym c.enter_answer.ensures.only.fault) c.requires.fault) c.enter_answer.ensures.answered

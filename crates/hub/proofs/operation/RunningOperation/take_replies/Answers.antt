@@ -30,7 +30,7 @@ loop-taken-preserved g c =
     let at = sight_of name before.seen in
     let learned = sight_of name c.learn.new.self in
     let more : IsLaterSight at learned = record { tenant = refl; seat = refl; seen = c.learn.ensures.this } in
-    let ends : IsLaterSight learned (sight_of name after.seen) = record { tenant = refl; seat = refl; seen = entered.seen } in
+    let ends : IsLaterSight learned (sight_of name after.seen) = record { tenant = refl; seat = refl; seen = entered.goes_on.seen } in
     let first = c.args.self.now.first in
     let later : before.queues.sent ≤ c.keep.new.self.sent = omega (arith, c.next_reply.ensures.sent, entered.sent, c.keep.ensures.sent) in
     let last = first + c.keep.new.self.sent in
@@ -43,7 +43,7 @@ loop-taken-preserved g c =
           (is.0 ∙ was.0, is.1 ∙ was.1);
       few = (omega arith, omega (arith, entered.replies, so_far.few.1));
       ends = λ ended. entered.ends (so_far.ends ended);
-      under_way = ∥∥₁_map entered.under_way (under_way_same _ _ c.args.own _ _ _ _ _ _ (sights _ _ _ _ entered.name refl) refl refl refl);
+      under_way = ∥∥₁_map entered.under_way (under_way_same _ _ c.args.own _ _ _ _ _ _ (sights _ _ _ _ entered.goes_on.name refl) refl refl refl);
       entered = λ start follows. entered.entered start (so_far.entered start follows);
       read = λ setup asked start stamped reads.
           reads-later learned (sight_of name after.seen) setup asked start _ _ _ ends
@@ -57,7 +57,7 @@ loop-taken-preserved g c =
           (served-same learned (sight_of before.name c.learn.new.self) first first (first + before.queues.sent) last start before.entries.items before.entries.items (sights _ _ _ _ so_far.name refl) refl (omega (arith, later)) refl
           (served-later at learned first (first + before.queues.sent) start before.entries.items more (so_far.served start are))));
       counter = omega (arith, entered.counter, so_far.counter);
-      seen = prefix_join _ _ _ so_far.seen (prefix_join _ _ _ c.learn.ensures.this entered.seen);
-      name = entered.name ∙ so_far.name;
-      first = entered.first ∙ so_far.first;
+      seen = prefix_join _ _ _ so_far.seen (prefix_join _ _ _ c.learn.ensures.this entered.goes_on.seen);
+      name = entered.goes_on.name ∙ so_far.name;
+      first = entered.goes_on.first ∙ so_far.first;
     }

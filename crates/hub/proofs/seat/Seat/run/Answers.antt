@@ -26,8 +26,8 @@ returns-clause-entered g c =
     let started = c.in-Ok.ensures.began ∙ (λ i. (c.self.view_is i).entries ++ Began (act_of (c.self.view_is i).name.client c.args.request.now) ∷ []) in
     let start = c.args.self.now.entries ++ Began (act_of c.args.self.now.name.client c.args.request.now) ∷ [] in
     let entries = c.perform-told.new.self.entries.items in
-    let same = c.finish.ensures.entries ∙ ap (λ e. e.items) c.count-sent.ensures.entries in
-    let stops = c.finish.ensures.stopped ∙ c.is_err-self-inside.ensures.value in
+    let same = (ap (λ (s : SeatView). s.entries) c.finish.ensures.stays) ∙ ap (λ e. e.items) c.count-sent.ensures.entries in
+    let stops = (ap (λ (s : SeatView). s.stopped) c.finish.ensures.stays) ∙ c.is_err-self-inside.ensures.value in
     let told = c.perform-told.ensures.entered in
     let follows = subst (λ (es : List Entry). Follows es told.0 entries) started told.1 in
     entered-as (act_of c.args.self.now.name.client c.args.request.now) c.finish.new.answer c.args.self.now c.finish.new.self going
@@ -48,25 +48,25 @@ returns-clause-later g c =
     let started = c.in-Ok.ensures.began ∙ (λ i. (c.self.view_is i).entries ++ Began (act_of (c.self.view_is i).name.client c.args.request.now) ∷ []) in
     let start = c.args.self.now.entries in
     let entries = c.perform-told.new.self.entries.items in
-    let same = c.finish.ensures.entries ∙ ap (λ e. e.items) c.count-sent.ensures.entries in
+    let same = (ap (λ (s : SeatView). s.entries) c.finish.ensures.stays) ∙ ap (λ e. e.items) c.count-sent.ensures.entries in
     let told = c.perform-told.ensures.entered in
     let name = c.prepare.new.self.name in
-    let named = c.in-Ok.ensures.name ∙ ap (λ (s : SeatView). s.name) c.self.view_is in
+    let named = c.in-Ok.ensures.keeps.name ∙ ap (λ (s : SeatView). s.name) c.self.view_is in
     let since = c.in-Ok.ensures.first ∙ ap (λ (s : SeatView). s.sent) c.self.view_is in
-    let counted = ap (λ (s : ClientSession). s.counter) c.in-Ok.ensures.session ∙ ap (λ (s : SeatView). s.counter) c.self.view_is in
-    let seen = c.finish.ensures.seen ∙ c.count-sent.ensures.seen in
+    let counted = ap (λ (s : ClientSession). s.counter) c.in-Ok.ensures.keeps.session ∙ ap (λ (s : SeatView). s.counter) c.self.view_is in
+    let seen = (ap (λ (s : SeatView). s.seen) c.finish.ensures.stays) ∙ c.count-sent.ensures.keeps.seen in
     let last = c.prepare.new.self.first + c.perform-told.new.self.queues.sent in
-    let later : last ≤ c.finish.new.self.sent = omega (arith, c.finish.ensures.sent, c.count-sent.ensures.first, c.perform-told.ensures.first) in
+    let later : last ≤ c.finish.new.self.sent = omega (arith, (ap (λ (s : SeatView). s.sent) c.finish.ensures.stays), c.count-sent.ensures.first, c.perform-told.ensures.goes_on.first) in
     record {
-      name = c.finish.ensures.name ∙ c.count-sent.ensures.name ∙ c.perform-told.ensures.name ∙ named;
-      parts = c.finish.ensures.parts ∙ ap (λ (s : SeatView). s.parts) c.self.view_is;
+      name = (ap (λ (s : SeatView). s.name) c.finish.ensures.stays) ∙ c.count-sent.ensures.keeps.name ∙ c.perform-told.ensures.goes_on.name ∙ named;
+      parts = (ap (λ (s : SeatView). s.parts) c.finish.ensures.stays) ∙ ap (λ (s : SeatView). s.parts) c.self.view_is;
       kept = rw same (extends-after start _ _ (follows-extends _ told.0 entries (subst (λ (es : List Entry). Follows es told.0 entries) started told.1)));
-      seen = prefix_join _ _ _ (prefix_is _ _ (sym (c.in-Ok.ensures.seen ∙ ap (λ (s : SeatView). s.seen) c.self.view_is))) (prefix_join _ _ _ c.perform-told.ensures.seen (prefix_is _ _ (sym seen)));
+      seen = prefix_join _ _ _ (prefix_is _ _ (sym (c.in-Ok.ensures.keeps.seen ∙ ap (λ (s : SeatView). s.seen) c.self.view_is))) (prefix_join _ _ _ c.perform-told.ensures.goes_on.seen (prefix_is _ _ (sym seen)));
       served = served-same (sight_of name c.perform-told.new.self.seen) (sight c.finish.new.self) c.prepare.new.self.first c.args.self.now.sent last c.finish.new.self.sent start entries c.finish.new.self.entries
-          (sights _ _ _ _ (c.finish.ensures.name ∙ c.count-sent.ensures.name ∙ c.perform-told.ensures.name) seen) (sym since) later same
+          (sights _ _ _ _ ((ap (λ (s : SeatView). s.name) c.finish.ensures.stays) ∙ c.count-sent.ensures.keeps.name ∙ c.perform-told.ensures.goes_on.name) seen) (sym since) later same
           (c.perform-told.ensures.served start (served-began (sight_of name c.prepare.new.self.seen) _ _ start _ _ started));
-      sent = (omega (arith, since, c.finish.ensures.sent, c.count-sent.ensures.few.0, c.perform-told.ensures.first), omega (arith, since, c.finish.ensures.sent, c.count-sent.ensures.few.1, c.perform-told.ensures.first));
-      counter = omega (arith, counted, c.perform-told.ensures.counter, c.finish.ensures.counter, ap (λ (s : ClientSession). s.counter) c.count-sent.ensures.session);
+      sent = (omega (arith, since, (ap (λ (s : SeatView). s.sent) c.finish.ensures.stays), c.count-sent.ensures.few.0, c.perform-told.ensures.goes_on.first), omega (arith, since, (ap (λ (s : SeatView). s.sent) c.finish.ensures.stays), c.count-sent.ensures.few.1, c.perform-told.ensures.goes_on.first));
+      counter = omega (arith, counted, c.perform-told.ensures.counter, (ap (λ (s : SeatView). s.counter) c.finish.ensures.stays), ap (λ (s : ClientSession). s.counter) c.count-sent.ensures.keeps.session);
     }
 
 pub returns-in-Some-clause-later : goal.returns-in-Some-clause-later
@@ -77,20 +77,20 @@ returns-clause-told g c =
     let started = c.in-Ok.ensures.began ∙ (λ i. (c.self.view_is i).entries ++ Began (act_of (c.self.view_is i).name.client c.args.request.now) ∷ []) in
     let start = c.args.self.now.entries ++ Began (act_of c.args.self.now.name.client c.args.request.now) ∷ [] in
     let parts : c.parts-parts.result ≡ c.args.self.now.parts = c.parts-parts.ensures.value ∙ ap (λ (s : SeatView). s.parts) c.self.view_is in
-    let named = c.in-Ok.ensures.name ∙ ap (λ (s : SeatView). s.name) c.self.view_is in
-    let counted = ap (λ (s : ClientSession). s.counter) c.in-Ok.ensures.session ∙ ap (λ (s : SeatView). s.counter) c.self.view_is in
+    let named = c.in-Ok.ensures.keeps.name ∙ ap (λ (s : SeatView). s.name) c.self.view_is in
+    let counted = ap (λ (s : ClientSession). s.counter) c.in-Ok.ensures.keeps.session ∙ ap (λ (s : SeatView). s.counter) c.self.view_is in
     let after = c.finish.new.self.counter in
     let now = sight c.finish.new.self in
     let ran = sight_of c.prepare.new.self.name c.perform-told.new.self.seen in
-    let same : now ≡ ran = sights _ _ _ _ (c.finish.ensures.name ∙ c.count-sent.ensures.name ∙ c.perform-told.ensures.name) (c.finish.ensures.seen ∙ c.count-sent.ensures.seen) in
+    let same : now ≡ ran = sights _ _ _ _ ((ap (λ (s : SeatView). s.name) c.finish.ensures.stays) ∙ c.count-sent.ensures.keeps.name ∙ c.perform-told.ensures.goes_on.name) ((ap (λ (s : SeatView). s.seen) c.finish.ensures.stays) ∙ c.count-sent.ensures.keeps.seen) in
     let U : SeatSight → Type 0 = λ v. IsToldFor v c.parts-parts.result (IsDrawn c.prepare.new.self.name.client c.prepare.new.self.session.counter c.perform-told.new.self.session.counter) c.args.request.now c.finish.new.answer start c.finish.new.self.entries in
     let P : ℕ → Type 0 = λ n. IsToldFor now n (IsDrawn c.args.self.now.name.client c.args.self.now.counter after) c.args.request.now c.finish.new.answer start c.finish.new.self.entries in
     let Q : ℕ → Type 0 = λ n. IsToldFor now c.parts-parts.result (IsDrawn c.args.self.now.name.client n after) c.args.request.now c.finish.new.answer start c.finish.new.self.entries in
     let R : SeatName → Type 0 = λ s. IsToldFor now c.parts-parts.result (IsDrawn s.client c.prepare.new.self.session.counter after) c.args.request.now c.finish.new.answer start c.finish.new.self.entries in
     let S : ℕ → Type 0 = λ n. IsToldFor now c.parts-parts.result (IsDrawn c.prepare.new.self.name.client c.prepare.new.self.session.counter n) c.args.request.now c.finish.new.answer start c.finish.new.self.entries in
-    subst P parts (subst Q counted (subst R named (subst S (sym (c.finish.ensures.counter ∙ ap (λ (s : ClientSession). s.counter) c.count-sent.ensures.session))
+    subst P parts (subst Q counted (subst R named (subst S (sym ((ap (λ (s : SeatView). s.counter) c.finish.ensures.stays) ∙ ap (λ (s : ClientSession). s.counter) c.count-sent.ensures.keeps.session))
     (subst U (sym same) (reads-run ran c.parts-parts.result _ c.perform-told.result c.args.request.now start _ c.perform-told.new.self.entries.items c.finish.new.self.entries c.perform-told.new.answer c.finish.new.answer
-    c.perform-told.ensures.read started c.finish.ensures.served c.finish.ensures.refused (c.finish.ensures.entries ∙ ap (λ e. e.items) c.count-sent.ensures.entries))))))
+    c.perform-told.ensures.read started c.finish.ensures.served c.finish.ensures.refused ((ap (λ (s : SeatView). s.entries) c.finish.ensures.stays) ∙ ap (λ e. e.items) c.count-sent.ensures.entries))))))
 
 -- a refusal reports no stamp
 pub returns-in-Some-clause-told : goal.returns-in-Some-clause-told
@@ -101,13 +101,13 @@ returns-in-Some-clause-told g c =
 pub returns-clause-few : goal.returns-clause-few
 returns-clause-few g c =
     let started = c.in-Ok.ensures.began ∙ (λ i. (c.self.view_is i).entries ++ Began (act_of (c.self.view_is i).name.client c.args.request.now) ∷ []) in
-    omega (arith, c.perform-told.ensures.few, replies-other c.args.self.now.entries c.prepare.new.self.entries.items _ refl started, ap replies_in (c.finish.ensures.entries ∙ ap (λ e. e.items) c.count-sent.ensures.entries))
+    omega (arith, c.perform-told.ensures.few, replies-other c.args.self.now.entries c.prepare.new.self.entries.items _ refl started, ap replies_in ((ap (λ (s : SeatView). s.entries) c.finish.ensures.stays) ∙ ap (λ e. e.items) c.count-sent.ensures.entries))
 
 -- what is seen is a legal history
 pub returns-clause-legal : goal.returns-clause-legal
 returns-clause-legal g c =
     let P : List HistoryEntry → Type 0 = λ l. ∥ IsLegal l ∥₁ in
-    subst P (sym (c.finish.ensures.seen)) c.count-sent.new.self.legal
+    subst P (sym (ap (λ (s : SeatView). s.seen) c.finish.ensures.stays)) c.count-sent.new.self.legal
 
 pub returns-in-Some-clause-legal : goal.returns-in-Some-clause-legal
 returns-in-Some-clause-legal g c =
