@@ -1,7 +1,10 @@
 -- A place that is lent, in which a value lies of which something is said.
-use Rattle.std.proofs.Common.{◌≡◌, Option, Some, None, subst, refl}
-use Rattle.std.specs.Prelude.{IsSomeAnd, Result, OnErr}
-use Rattle.partition.proofs.Books.{OnErr-always}
+use Rattle.std.proofs.Common.{◌≡◌, ℕ, List, Option, Some, None, Result, Err, subst, refl}
+use Rattle.std.specs.Prelude.{IsSomeAnd}
+use Rattle.plain_store.specs.declared.calls.Call.{Call}
+use Rattle.plain_store.specs.declared.calls.Reply.{Reply}
+use Rattle.partition.specs.Accounts.{Account}
+use Rattle.partition.specs.Serving.{EntersCall}
 
 -- what follows from what is said of a value is said of the one in the place
 pub carried : {A : Type 0} {P Q : A → Type 0} → ((a : A) → P a → Q a) → (place : Option A) → IsSomeAnd place P → IsSomeAnd place Q
@@ -17,6 +20,7 @@ pub found : {A : Type 0} (P : A → Type 0) (place : Option A) → IsSomeAnd pla
 found P (Some a) p = (a, refl, p)
 found P None p = absurd p
 
--- both of two facts hold at an error
-pub OnErr-both : {T E A B : Type 0} (result : Result T E) → A → B → OnErr result (A × B)
-OnErr-both result a b = let both : _ × _ = (a, b) in OnErr-always result both
+-- where a call was not served, none is entered
+pub none-entered : {A E : Type 0} (old new : List Account) (tenant seat number : ℕ) (call : Call) (place_in : A → ℕ) (reply_in : A → Option Reply) (result : Result A E) (e : E) → result ≡ Err e → new ≡ old
+    → EntersCall old new tenant seat number call place_in reply_in result
+none-entered old new tenant seat number call place_in reply_in result e is same = rw is (record { entered = tt; reply = tt; place = tt; unchanged = same })

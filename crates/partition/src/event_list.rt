@@ -1,6 +1,7 @@
 //! Events, packed one behind the other.
 ghost use Rattle.std.specs.Prelude.{◌≡◌, ◌+◌, ◌<◌, ◌≤◌, ◌^◌, ◌++◌, ◌∷◌, ◌↔◌, [], length, count_by, Some, IsTrue, slice_get, IfOk, OnOk, OnErr};
 ghost use Rattle.std.specs.Option.{option_map};
+ghost use Rattle.packed.specs.Laying.{PutsValue};
 ghost use Rattle.packed.specs.Reading.{number_at};
 ghost use Rattle.partition.specs.Events.{event, is_reply_to};
 ghost use Rattle.partition.specs.Accounts.{is_of_seat, is_of_collector};
@@ -239,11 +240,8 @@ impl<'a> PackEntry for EventParts<'a> {
 fn put_event(out: &mut Buffer, seat: u64, number: u64, call: &Call, reply: &Reply)
     requires room { length out.old.items + max_event_bytes ≤ out.old.capacity }
     requires fits { IsTrue (is_reply_to call.now reply.now) }
-    ensures packed { out.new.items
-        ≡ out.old.items ++ packed_event (event seat number call.now reply.now) }
-    ensures stored { IsStoreEvent (event seat number call.now reply.now) }
-    ensures few { length out.new.items ≤ length out.old.items + max_event_bytes }
-    ensures room { out.old.capacity ≤ out.new.capacity }
+    ensures { PutsValue (packed_event (event seat number call.now reply.now)) max_event_bytes
+        (IsStoreEvent (event seat number call.now reply.now)) out.old out.new }
 {
     put_number(out, seat);
     put_number(out, number);

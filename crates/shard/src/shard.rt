@@ -9,7 +9,8 @@ ghost use Rattle.history.specs.Legal.{MayServe};
 ghost use Rattle.shard.specs.Counted.{IsCounted, NotesEvent, NotesEvents, nothing_due};
 ghost use Rattle.shard.specs.Journals.{AreOf, CameSo, came_to};
 ghost use Rattle.shard.specs.Rounds.{AreShort, IsLongAt};
-ghost use Rattle.shard.specs.Serving.{EntersCall, RefusesSo};
+ghost use Rattle.partition.specs.Serving.{EntersCall};
+ghost use Rattle.shard.specs.Serving.{RefusesSo};
 ghost use Rattle.stamps.specs.Limits.{max_tenants};
 
 use crate::collections::CollectionCounts;

@@ -1,9 +1,9 @@
 //! A partition's book beside what it has seen of the history.
 ghost use Rattle.std.specs.Prelude.{◌≡◌, ◌⊎◌, ◌+◌, ◌<◌, ◌↔◌, map, length, true, IfOk, IfErr, OnErr, IsErrOf, IsSomeAnd};
 ghost use mathlib.Core.List.{IsPrefix};
-ghost use Rattle.partition.specs.Accounts.{before_at, events_at, new_account, IsCut, IsEntered, IsPastAt, IsReplyInEpoch};
-ghost use Rattle.partition.specs.Events.{event};
+ghost use Rattle.partition.specs.Accounts.{events_at, new_account, IsCut, IsPastAt};
 ghost use Rattle.partition.specs.Journals.{IsLate};
+ghost use Rattle.partition.specs.Serving.{EntersCall};
 ghost use Rattle.history.specs.Entries.{limits_of, StandsInHistory};
 ghost use Rattle.history.specs.Legal.{IsLegal, MayServe};
 ghost use Rattle.history.specs.Rules.{is_opening};
@@ -104,18 +104,8 @@ impl<J: Naming> TracedBook<J> {
         requires tenant { tenant < length self.old.accounts }
         requires may { ∥ MayServe evidence.old self.old.partition tenant call.now ∥₁ }
 
-        ensures entered { IfOk result
-            (λ _.
-            IsSomeAnd reply.new
-            (λ told.
-            IsEntered self.old.accounts self.new.accounts tenant
-            (event caller.seat caller.number call.now told))) }
-        ensures place { IfOk result (λ place. place
-            ≡ before_at self.old.accounts tenant + length (events_at self.old.accounts tenant)
-            + 1) }
-        ensures reply { IfOk result
-            (λ _.
-            IsSomeAnd reply.new (λ told. IsReplyInEpoch self.old.accounts tenant call.now told)) }
+        ensures enters { EntersCall self.old.accounts self.new.accounts tenant caller.seat
+            caller.number call.now (λ place. place) (λ _. reply.new) result }
         // The history that was seen has the call at that place, with this reply.
         ensures served { IfOk result
             (λ place.

@@ -2,8 +2,8 @@ use Rattle.std.proofs.Common.{arith, ◌∙◌, ap, map}
 use Rattle.partition.specs.Events.{event}
 use Rattle.partition.specs.Accounts.{EpochStart, account_of, is_of_seat, is_of_collector}
 use Rattle.partition.proofs.Entering.{err_is}
-use Rattle.partition.proofs.Books.{Known, known, Changes, book_refused, view_refused, book_entered, entered, count_small}
-use Rattle.partition.proofs.Placed.{carried, found, OnErr-both}
+use Rattle.partition.proofs.Books.{Known, known, Changes, OnErr-always, book_refused, view_refused, book_entered, entered, count_small}
+use Rattle.partition.proofs.Placed.{carried, found, none-entered}
 use Rattle.partition.proofs.book.Book.serve_admitted.Given.{Over}
 use Rattle.partition.proofs.book.Book.serve_admitted.Goals as goal
 use Rattle.partition.proofs.book.Book.serve_admitted.Goals.{After-index_mut-journal, After-enter}
@@ -48,10 +48,15 @@ pub returns-in_err-place-clause-late : goal.returns-in_err-place-clause-late
 returns-in_err-place-clause-late g c =
     rw ((at_enter g (goal.at.returns-in_err-place-clause-late g c).After-enter).events, err_is c.from_residual.result _ c.from_residual.ensures.1) c.in_err-place.ensures.late
 
-pub returns-in_err-place-clause-unchanged : goal.returns-in_err-place-clause-unchanged
-returns-in_err-place-clause-unchanged g c =
+pub returns-in_err-place-clause-enters : goal.returns-in_err-place-clause-enters
+returns-in_err-place-clause-enters g c =
     let b = c.self.inside in
-    OnErr-both _ (view_refused b.shelf c.enter.new.shelf b.journals.items b.lasts.items c.args.tenant c.index_mut-journal.result.now c.enter.new.journal c.enter.new.lasts (changes g (goal.at.returns-in_err-place-clause-unchanged g c).After-enter) c.enter.ensures.start c.in_err-place.ensures.unchanged.0 ∙ c.self.view_is) c.in_err-place.ensures.unchanged.1
+    none-entered _ _ _ _ _ _ _ _ c.from_residual.result _
+    (err_is c.from_residual.result _ c.from_residual.ensures.1)
+    (view_refused b.shelf c.enter.new.shelf b.journals.items b.lasts.items c.args.tenant c.index_mut-journal.result.now c.enter.new.journal c.enter.new.lasts (changes g (goal.at.returns-in_err-place-clause-enters g c).After-enter) c.enter.ensures.start c.in_err-place.ensures.unchanged.0 ∙ c.self.view_is)
+
+pub returns-in_err-place-clause-unwritten : goal.returns-in_err-place-clause-unwritten
+returns-in_err-place-clause-unwritten g c = OnErr-always c.from_residual.result c.in_err-place.ensures.unchanged.1
 
 pub count-requires-clause-seats : goal.count-requires-clause-seats
 count-requires-clause-seats g c =
@@ -67,17 +72,17 @@ invariant_of-self-2 g c =
     let told = found _ c.enter.new.reply c.in_ok-place.ensures.entered in
     book_entered b.shelf c.enter.new.shelf b.journals.items b.lasts.items c.args.tenant c.index_mut-journal.result.now c.enter.new.journal c.enter.new.lasts (changes g (goal.at.invariant_of-self-2 g c).After-enter) c.enter.ensures.start (event c.args.caller.seat c.args.caller.number c.args.call.now told.0) told.2 b.of_seats b.of_collector _ _ c.self.invariant c.count.ensures.seats c.count.ensures.collector
 
-pub returns-clause-entered : goal.returns-clause-entered
-returns-clause-entered g c =
+pub returns-clause-enters : goal.returns-clause-enters
+returns-clause-enters g c =
     let b = c.self.inside in
-    rw (← c.self.view_is)
-    (carried (λ told. entered b.shelf c.enter.new.shelf b.journals.items b.lasts.items c.args.tenant c.index_mut-journal.result.now c.enter.new.journal c.enter.new.lasts (changes g (goal.at.returns-clause-entered g c).After-enter) c.enter.ensures.start (event c.args.caller.seat c.args.caller.number c.args.call.now told)) _ c.in_ok-place.ensures.entered)
-
-pub returns-clause-reply : goal.returns-clause-reply
-returns-clause-reply g c = let k = at_enter g (goal.at.returns-clause-reply g c).After-enter in rw (k.events, k.room, k.base) c.in_ok-place.ensures.reply
-
-pub returns-clause-place : goal.returns-clause-place
-returns-clause-place g c = let k = at_enter g (goal.at.returns-clause-place g c).After-enter in rw (k.events, k.before) c.in_ok-place.ensures.place
+    let k = at_enter g (goal.at.returns-clause-enters g c).After-enter in
+    record {
+      entered = rw (← c.self.view_is)
+          (carried (λ told. entered b.shelf c.enter.new.shelf b.journals.items b.lasts.items c.args.tenant c.index_mut-journal.result.now c.enter.new.journal c.enter.new.lasts (changes g (goal.at.returns-clause-enters g c).After-enter) c.enter.ensures.start (event c.args.caller.seat c.args.caller.number c.args.call.now told)) _ c.in_ok-place.ensures.entered);
+      reply = rw (k.events, k.room, k.base) c.in_ok-place.ensures.reply;
+      place = rw (k.events, k.before) c.in_ok-place.ensures.place;
+      unchanged = tt;
+    }
 
 pub returns-clause-late : goal.returns-clause-late
 returns-clause-late g c = rw ((at_enter g (goal.at.returns-clause-late g c).After-enter).events) c.in_ok-place.ensures.late
