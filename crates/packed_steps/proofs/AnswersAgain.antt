@@ -5,7 +5,7 @@ use Rattle.std.specs.List.{flat_map}
 use Rattle.std.proofs.lemmas.Bool.{le-ltb}
 use Rattle.stamps.specs.Stamp.{IsStamp}
 use Rattle.stamps.specs.Key.{IsKey}
-use Rattle.plain_store.specs.Numbers.{number_of}
+use Rattle.plain_store.specs.Numbers.{number_of, refusal_of}
 use Rattle.plain_store.specs.declared.reading.Reading.{Reading}
 use Rattle.plain_store.specs.declared.calls.Reply.{Reply}
 use Rattle.plain_store.specs.declared.refusal.Refusal.{Refusal}
@@ -24,7 +24,7 @@ use Rattle.packed.specs.Packing.{packed_number, packed_text}
 use Rattle.packed_steps.specs.PackedCalls.{packed_reply, IsStoreReply}
 use Rattle.packed_steps.specs.Lists.{packed_list}
 use Rattle.packed_steps.specs.PackedActs.{packed_item}
-use Rattle.packed_steps.specs.PackedAnswers.{packed_rows, AreStoreRows, rows_at, refusal_from, refusal_at, packed_reading, IsStoreReading, AreStoreReadings, reading_at, readings_at, packed_answer, IsStoreAnswer, refused_at, ready_at, put_begun_at, decided_at, replied_at, done_at, read_at, listed_at, restart_at, ended_at, ended_with_at, freed_answer_at, keeps_at, get_begun_at, find_begun_at, ask_at, begins_read_at, sent_at, plain_answer_by, rows_answer_by, other_answer_by, answer_by, answer_at}
+use Rattle.packed_steps.specs.PackedAnswers.{packed_rows, AreStoreRows, rows_at, refusal_at, packed_reading, IsStoreReading, AreStoreReadings, reading_at, readings_at, packed_answer, IsStoreAnswer, refused_at, ready_at, put_begun_at, decided_at, replied_at, done_at, read_at, listed_at, restart_at, ended_at, ended_with_at, freed_answer_at, keeps_at, get_begun_at, find_begun_at, ask_at, begins_read_at, sent_at, plain_answer_by, rows_answer_by, other_answer_by, answer_by, answer_at}
 use Rattle.packed.proofs.Texts.{number_again, count_again, key_again, stamp_again}
 use Rattle.packed_steps.proofs.Replies.{reply_again}
 use Rattle.packed_steps.proofs.ManyLoop.{many_again}
@@ -36,7 +36,7 @@ rows_again rows rest h =
     ap rows_at (append_assoc (packed_number rows.first) (packed_number rows.last) rest)
     ∙ rw (number_again rows.first (packed_number rows.last ++ rest) h.first, number_again rows.last rest h.last) refl
 
-refusal_is : (refusal : Refusal) → refusal_from (number_of refusal) ≡ Some refusal
+refusal_is : (refusal : Refusal) → refusal_of (number_of refusal) ≡ Some refusal
 refusal_is NoTenant = refl
 refusal_is _ = refl
 

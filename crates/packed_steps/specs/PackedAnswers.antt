@@ -7,14 +7,9 @@ use Rattle.stamps.specs.Limits.{max_keys}
 use Rattle.stamps.specs.Bounds.{IsCounter, IsKeep}
 use Rattle.stamps.specs.Stamp.{IsStamp}
 use Rattle.stamps.specs.Key.{IsKey}
-use Rattle.plain_store.specs.Numbers.{number_of}
+use Rattle.plain_store.specs.Numbers.{number_of, refusal_of}
 use Rattle.plain_store.specs.declared.reading.Reading.{Reading}
 use Rattle.plain_store.specs.declared.refusal.Refusal.{Refusal}
-use Rattle.plain_store.specs.declared.refusal.Refusal.TheVariants.{NoTenant, NoSession, Busy, BadItems, StampsUsed}
-use Rattle.plain_store.specs.declared.refusal.Refusal.TheVariants.{FullSlots, FullItems, NoMessage, NoPartition}
-use Rattle.plain_store.specs.declared.refusal.Refusal.TheVariants.{Stopped as NowStopped, Clash, Unknown, Torn}
-use Rattle.plain_store.specs.declared.refusal.Refusal.TheVariants.{TooMany, ClientsFull, Late, RowsUsed, OutOfMemory}
-use Rattle.plain_store.specs.declared.refusal.Refusal.TheVariants.{BadLine, LineTooLong, Cut, FullMarks, Discarded}
 use Rattle.plain_store.specs.declared.answer.Rows.{Rows}
 use Rattle.plain_store.specs.declared.answer.Answer.{Answer}
 use Rattle.plain_store.specs.declared.answer.Answer.TheVariants.{Refused, Ready, PutBegun, GetBegun, FindBegun}
@@ -44,46 +39,10 @@ rows_at bytes = do
   last ← number_at first.1
   Some (record { first = first.0; last = last.0 }, last.1)
 
--- the refusal of a number below 22
-abbrev pub early_refusal : ℕ → Option Refusal
-early_refusal n =
-    if n == 10 then Some NoTenant
-    else (if n == 11 then Some NoSession
-    else (if n == 12 then Some Busy
-    else (if n == 13 then Some BadItems
-    else (if n == 14 then Some StampsUsed
-    else (if n == 15 then Some FullSlots
-    else (if n == 16 then Some FullItems
-    else (if n == 17 then Some NoMessage
-    else (if n == 18 then Some NoPartition
-    else (if n == 19 then Some NowStopped
-    else (if n == 20 then Some Clash
-    else (if n == 21 then Some Unknown
-    else None)))))))))))
-
--- of another number
-abbrev pub late_refusal : ℕ → Option Refusal
-late_refusal n =
-    if n == 22 then Some Torn
-    else (if n == 23 then Some TooMany
-    else (if n == 24 then Some ClientsFull
-    else (if n == 25 then Some Late
-    else (if n == 26 then Some RowsUsed
-    else (if n == 27 then Some FullMarks
-    else (if n == 28 then Some Discarded
-    else (if n == 30 then Some OutOfMemory
-    else (if n == 40 then Some BadLine
-    else (if n == 41 then Some LineTooLong
-    else (if n == 42 then Some Cut
-    else None))))))))))
-
-abbrev pub refusal_from : ℕ → Option Refusal
-refusal_from n = if nat_lt n 22 then early_refusal n else late_refusal n
-
 unfoldable pub refusal_at : List ℕ → Option (Refusal × List ℕ)
 refusal_at bytes = do
   n ← byte_at bytes
-  refusal ← refusal_from n.0
+  refusal ← refusal_of n.0
   Some (refusal, n.1)
 
 -- the item, and the stamp in 8 bytes

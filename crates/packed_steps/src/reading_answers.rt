@@ -3,7 +3,7 @@ ghost use Rattle.std.specs.Prelude.{◌≡◌, ◌<◌, ◌≤◌};
 ghost use Rattle.std.specs.Option.{option_map};
 ghost use Rattle.packed.specs.Packing.{IsReadAgain};
 ghost use Rattle.packed_steps.specs.Lists.{many_at};
-ghost use Rattle.packed_steps.specs.PackedAnswers.{packed_answer, IsStoreAnswer, rows_at, early_refusal, late_refusal, refusal_from, refusal_at, reading_at, readings_at, refused_at, ready_at, put_begun_at, decided_at, replied_at, done_at, read_at, listed_at, restart_at, ended_at, ended_with_at, freed_answer_at, keeps_at, get_begun_at, find_begun_at, ask_at, begins_read_at, sent_at, plain_answer, plain_answer_by, rows_answer_by, other_answer_by, answer_by, answer_at};
+ghost use Rattle.packed_steps.specs.PackedAnswers.{packed_answer, IsStoreAnswer, rows_at, refusal_at, reading_at, readings_at, refused_at, ready_at, put_begun_at, decided_at, replied_at, done_at, read_at, listed_at, restart_at, ended_at, ended_with_at, freed_answer_at, keeps_at, get_begun_at, find_begun_at, ask_at, begins_read_at, sent_at, plain_answer, plain_answer_by, rows_answer_by, other_answer_by, answer_by, answer_at};
 
 use crate::reading_acts::{read_counter, read_item, read_keep};
 use crate::reading_replies::read_reply;
@@ -25,64 +25,13 @@ pub fn read_rows(bytes: &[u8]) -> Option<(Rows, &[u8])>
     Some((Rows { first, last }, rest))
 }
 
-// The refusal of a number below 22.
-fn early_refusal(number: u8) -> Option<Refusal>
-    ensures { result ≡ early_refusal number }
-{
-    match number {
-        10 => Some(Refusal::NoTenant),
-        11 => Some(Refusal::NoSession),
-        12 => Some(Refusal::Busy),
-        13 => Some(Refusal::BadItems),
-        14 => Some(Refusal::StampsUsed),
-        15 => Some(Refusal::FullSlots),
-        16 => Some(Refusal::FullItems),
-        17 => Some(Refusal::NoMessage),
-        18 => Some(Refusal::NoPartition),
-        19 => Some(Refusal::Stopped),
-        20 => Some(Refusal::Clash),
-        21 => Some(Refusal::Unknown),
-        _ => None,
-    }
-}
-
-// The refusal of a number from 22 on.
-fn late_refusal(number: u8) -> Option<Refusal>
-    ensures { result ≡ late_refusal number }
-{
-    match number {
-        22 => Some(Refusal::Torn),
-        23 => Some(Refusal::TooMany),
-        24 => Some(Refusal::ClientsFull),
-        25 => Some(Refusal::Late),
-        26 => Some(Refusal::RowsUsed),
-        27 => Some(Refusal::FullMarks),
-        28 => Some(Refusal::Discarded),
-        30 => Some(Refusal::OutOfMemory),
-        40 => Some(Refusal::BadLine),
-        41 => Some(Refusal::LineTooLong),
-        42 => Some(Refusal::Cut),
-        _ => None,
-    }
-}
-
-fn refusal_from(number: u8) -> Option<Refusal>
-    ensures { result ≡ refusal_from number }
-{
-    if number < 22 {
-        early_refusal(number)
-    } else {
-        late_refusal(number)
-    }
-}
-
 /// The refusal at the front.
 #[tactic(auto, unfolding(crate::specs::PackedAnswers::refusal_at))]
 pub fn read_refusal(bytes: &[u8]) -> Option<(Refusal, &[u8])>
     ensures { option_map (λ p. (p.0, p.1.now)) result ≡ refusal_at bytes.now }
 {
     let (number, rest) = read_byte(bytes)?;
-    let refusal = refusal_from(number)?;
+    let refusal = Refusal::of_number(number)?;
     Some((refusal, rest))
 }
 

@@ -44,3 +44,4 @@ pub mod ListTests
 pub mod Marking
 pub mod EqualReplies
 pub mod EqualAnswers
+pub mod Numbered

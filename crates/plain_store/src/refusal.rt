@@ -1,6 +1,6 @@
 //! Why a call is refused.
 ghost use Rattle.std.specs.Prelude.{◌≡◌};
-ghost use Rattle.plain_store.specs.Numbers.{number_of};
+ghost use Rattle.plain_store.specs.Numbers.{number_of, refusal_of};
 
 use std::fmt;
 
@@ -56,6 +56,45 @@ pub enum Refusal {
 }
 
 impl Refusal {
+    /// Each refusal, in the order of the numbers.
+    pub const ALL: [Refusal; 23] = [
+        Refusal::NoTenant,
+        Refusal::NoSession,
+        Refusal::Busy,
+        Refusal::BadItems,
+        Refusal::StampsUsed,
+        Refusal::FullSlots,
+        Refusal::FullItems,
+        Refusal::NoMessage,
+        Refusal::NoPartition,
+        Refusal::Stopped,
+        Refusal::Clash,
+        Refusal::Unknown,
+        Refusal::Torn,
+        Refusal::TooMany,
+        Refusal::ClientsFull,
+        Refusal::Late,
+        Refusal::RowsUsed,
+        Refusal::FullMarks,
+        Refusal::Discarded,
+        Refusal::OutOfMemory,
+        Refusal::BadLine,
+        Refusal::LineTooLong,
+        Refusal::Cut,
+    ];
+
+    /// The refusal that has this number, if one has it.
+    pub fn of_number(number: u8) -> Option<Refusal>
+        ensures { result ≡ refusal_of number }
+    {
+        for refusal in &Refusal::ALL {
+            if refusal.number() == number {
+                return Some(*refusal);
+            }
+        }
+        None
+    }
+
     /// The number by which lines name it.
     pub fn number(self) -> u8
         ensures { result ≡ number_of self }

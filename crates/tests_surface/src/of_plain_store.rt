@@ -35,7 +35,7 @@ const REFUSALS: [(Refusal, u8); 23] = [
     (Refusal::Cut, 42),
 ];
 
-/// Whether each refusal has its number.
+/// Whether each refusal has its number, by which it is found, and no other number has one.
 fn are_numbered() -> bool {
     for (refusal, wanted) in REFUSALS {
         let number: u8 = refusal.number();
@@ -43,7 +43,15 @@ fn are_numbered() -> bool {
             return false;
         }
     }
-    true
+    let mut found: usize = 0;
+    for number in 0..=u8::MAX {
+        let refusal: Option<Refusal> = Refusal::of_number(number);
+        found += usize::from(refusal.is_some());
+        if refusal.is_some_and(|its| its.number() != number) {
+            return false;
+        }
+    }
+    found == REFUSALS.len() && Refusal::ALL.len() == found
 }
 
 /// The calls in their order.
