@@ -4,7 +4,7 @@ import sys
 
 sys.path.append(str(pathlib.Path(__file__).resolve().parent.parent / "tools"))
 
-from begin import FILE, NUMBER, NUMBERS, THOUSANDS, begin, check_words, give_up, need, proved_program
+from begin import FILE, NUMBER, NUMBERS, THOUSANDS, begin, check_words, give_up, need, proved_program, tell_help
 from tried import build, build_over_tree
 
-__all__ = ["FILE", "NUMBER", "NUMBERS", "THOUSANDS", "begin", "build", "build_over_tree", "check_words", "give_up", "need", "proved_program"]
+__all__ = ["FILE", "NUMBER", "NUMBERS", "THOUSANDS", "begin", "build", "build_over_tree", "check_words", "give_up", "need", "proved_program", "tell_help"]

@@ -29,12 +29,17 @@ def check_words(given, words):
         give_up(f"{given[len(words)]!r} is one argument too many; --help says more", 2)
 
 
+def tell_help(text):
+    """Prints the text; whoever reads it may stop early, as head does."""
+    signal.signal(signal.SIGPIPE, signal.SIG_DFL)
+    print(text.strip())
+
+
 def begin(main, text, words, *tools):
     """Prints the text where help is asked for; else runs main, over words of these names and kinds and with these tools, and gives its status."""
     given = sys.argv[1:]
     if "-h" in given or "--help" in given:
-        signal.signal(signal.SIGPIPE, signal.SIG_DFL)
-        print(text.strip())
+        tell_help(text)
         return 0
     if words is not None:
         check_words(given, words)
