@@ -14,7 +14,7 @@ use Rattle.hub.specs.declared.operation.RunningOperation.{RunningOperation}
 
 -- ---- where it stands, with this place for its answer
 
--- what is under way there is under way by its entries, for whoever sees so much
+-- what it has outstanding is so by its entries, for whoever sees so much
 abbrev pub IsUnderWayAt : {G : Type 0} {naming : Ghosts G} → SeatSight → Stamp → RunningOperation G naming → Answer → Type 0
 IsUnderWayAt sight own operation answer =
     ∥ IsUnderWay sight own operation.entries.items operation.session.running (told_by operation.place answer) ∥₁
