@@ -16,7 +16,7 @@ use Rattle.history.proofs.Lists.{last_in, prefix_has}
 use Rattle.traced_client.specs.Clients.{IsTracedClient}
 
 -- the entry is behind those of the word that were seen
-own_added : (k entries : ℕ) (e : HistoryEntry) (seen now : List HistoryEntry) → is_of k e ≡ true → count k seen ≡ entries → IsAdded k entries e seen now
+pub own_added : (k entries : ℕ) (e : HistoryEntry) (seen now : List HistoryEntry) → is_of k e ≡ true → count k seen ≡ entries → IsAdded k entries e seen now
     → own k now ≡ own k seen ++ e ∷ []
 own_added k entries e seen now its counted a =
     ap (own k) a.1 ∙ own_append k (seen ++ a.0) (e ∷ [])

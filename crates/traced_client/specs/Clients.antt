@@ -1,5 +1,5 @@
 -- What a client has of the history.
-use Rattle.std.specs.Prelude.{ℕ, ◌≡◌, ◌<◌, ◌≤◌, ◌+◌, ◌*◌, Bool, true, false, List, IsSome, nat_eq}
+use Rattle.std.specs.Prelude.{ℕ, ◌≡◌, ◌<◌, ◌≤◌, ◌+◌, ◌*◌, Bool, true, false, List, [], ◌∷◌, ◌++◌, Option, Some, IsSome, nat_eq}
 use Rattle.indexmap.specs.IndexMap.{IndexMap, get}
 use Rattle.plain_store.specs.declared.refusal.Refusal.{Refusal}
 use Rattle.plain_store.specs.declared.refusal.Refusal.TheVariants.{Busy, RowsUsed, OutOfMemory}
@@ -31,6 +31,10 @@ pub record IsSameClient (old new : ClientTrace) : Type 0 where
   pub tenant : new.tenant ≡ old.tenant
   pub client : new.client ≡ old.client
 
+-- The entry is the client's own, behind those that it had, and the one of its word since then.
+abbrev pub IsEntered : HistoryEntry → ClientTrace → ClientTrace → Type 0
+IsEntered entry old new = own old.word new.seen ≡ own old.word old.seen ++ entry ∷ []
+
 -- ---- the words of all clients
 
 -- the row of a client of a tenant
@@ -40,6 +44,14 @@ row_of tenant client = tenant * 65536 + client
 -- each client that joined, by what was seen, has a row
 abbrev pub HaveRows : {X S : Type 0} → List HistoryEntry → IndexMap ℕ X S → Type 0
 HaveRows seen rows = (member : JoinedClient) → Joined member ∈ seen → IsSome (get nat_eq rows (row_of member.tenant member.client))
+
+-- the word lies there: this is the client of its row, and nobody has taken it
+abbrev pub LiesThere : {S : Type 0} → IndexMap ℕ (Option ClientTrace) S → ClientTrace → Type 0
+LiesThere rows its = get nat_eq rows (row_of its.tenant its.client) ≡ Some (Some its)
+
+-- the client has a row
+abbrev pub HasRow : {X S : Type 0} → IndexMap ℕ X S → ℕ → ℕ → Type 0
+HasRow rows tenant client = IsSome (get nat_eq rows (row_of tenant client))
 
 -- the refusals of a word: it is another's, there is none, and 30 where an allocation failed
 abbrev pub is_of_word : Refusal → Bool

@@ -1,11 +1,11 @@
 //! A client's word beside what the client has seen of the history.
-ghost use Rattle.std.specs.Prelude.{◌≡◌, ◌<◌, [], ◌∷◌, cond, IsTrue};
+ghost use Rattle.std.specs.Prelude.{◌≡◌, ◌<◌, ◌↔◌, [], ◌∷◌, cond, IsTrue, false};
 ghost use mathlib.Core.List.{IsPrefix};
 ghost use Rattle.plain_store.specs.Words.{◌∈◌};
 ghost use Rattle.history.specs.declared.entry.HistoryEntry.TheVariants.{Joined, Arrived, Began, Decided};
 ghost use Rattle.history.specs.Entries.{own};
 ghost use Rattle.history.specs.Legal.{MayDecide};
-ghost use Rattle.traced_client.specs.Clients.{IsSameClient};
+ghost use Rattle.traced_client.specs.Clients.{IsEntered, IsSameClient};
 
 use history::{Decision, Front, Naming, Tally, WriteToBegin};
 use stamps::{Client, Item, Stamp};
@@ -67,7 +67,7 @@ impl<J: Naming> TracedClient<J> {
 
     /// Whether it is this client of this tenant.
     pub fn is_of(&self, tenant: u32, client: Client) -> bool
-        ensures { IsTrue result → (self.now.tenant ≡ tenant) × (self.now.client ≡ client) }
+        ensures { IsTrue result ↔ ((self.now.tenant ≡ tenant) × (self.now.client ≡ client)) }
     {
         self.tenant == tenant && self.client == client
     }
@@ -79,9 +79,14 @@ impl<J: Naming> TracedClient<J> {
         ensures began { IsTrue result
             → Began
             (record { word = self.old.word; tenant = self.old.tenant; stamp = stamp; items = items.now }) ∈ self.new.seen }
+        ensures entered { IsTrue result
+            → IsEntered
+            (Began (record { word = self.old.word; tenant = self.old.tenant; stamp = stamp; items = items.now }))
+            self.old self.new }
         ensures last { self.new.last ≡ cond result stamp self.old.last }
         ensures later { IsPrefix self.old.seen self.new.seen }
         ensures whose { IsSameClient self.old self.new }
+        ensures unchanged { result ≡ false → self.new ≡ self.old }
     {
         if stamp.client() != self.client.get() || stamp.number() <= self.last.number() {
             return false;
@@ -113,10 +118,15 @@ impl<J: Naming> TracedClient<J> {
         ensures decided { IsTrue result
             → Decided
             (record { word = self.old.word; tenant = self.old.tenant; stamp = stamp }) ∈ self.new.seen }
+        ensures entered { IsTrue result
+            → IsEntered
+            (Decided (record { word = self.old.word; tenant = self.old.tenant; stamp = stamp }))
+            self.old self.new }
         ensures evidence { IsTrue result → IsPrefix evidence.now self.new.seen }
         ensures last { self.new.last ≡ self.old.last }
         ensures later { IsPrefix self.old.seen self.new.seen }
         ensures whose { IsSameClient self.old self.new }
+        ensures unchanged { result ≡ false → self.new ≡ self.old }
     {
         if self.entries >= MOST {
             return false;

@@ -1,9 +1,10 @@
 //! The words of all clients that came.
-ghost use Rattle.std.specs.Prelude.{◌≡◌, ◌∷◌, [], None, nat_eq, true, IfOk, IfErr};
-ghost use Rattle.indexmap.specs.IndexMap.{get};
+ghost use Rattle.std.specs.Prelude.{◌≡◌, ◌≢◌, ◌↔◌, None, Ok, nat_eq, true, IfOk, IfErr};
+ghost use Rattle.indexmap.specs.IndexMap.{IsEmpty, get};
 ghost use Rattle.history.specs.Entries.{count};
 ghost use Rattle.history.specs.Rules.{is_opening};
-ghost use Rattle.traced_client.specs.Clients.{HaveRows, is_of_word, row_of};
+ghost use Rattle.plain_store.specs.declared.refusal.Refusal.TheVariants.{Busy as IsTaken};
+ghost use Rattle.traced_client.specs.Clients.{ClientTrace, HasRow, HaveRows, LiesThere, is_of_word, row_of};
 
 use crate::client_word::TracedClient;
 use history::{Front, Naming, Tally};
@@ -33,6 +34,7 @@ impl<J: Naming> ClientWords<J> {
     pub fn new(alloc: Global, register: Tally<J>, opening: &Front<J>) -> ClientWords<J>
         requires register { register.key ≡ 0 }
         requires opening { is_opening opening.now ≡ true }
+        ensures { IsEmpty result.rows }
     {
         ClientWords {
             register,
@@ -49,7 +51,11 @@ impl<J: Naming> ClientWords<J> {
     /// allocation failed (30). Then nothing has changed.
     pub fn take(&mut self, tenant: u32, client: Client) -> Result<TracedClient<J>, Refusal>
         ensures whose { IfOk result (λ its. (its.tenant ≡ tenant) × (its.client ≡ client)) }
+        ensures lies { (its : ClientTrace) → LiesThere self.old.rows its → its.tenant ≡ tenant
+            → its.client ≡ client → result ≡ Ok its }
         ensures refusals { IfErr result (λ refusal. is_of_word refusal ≡ true) }
+        ensures taken { IfErr result (λ refusal. (refusal ≡ IsTaken)
+            ↔ HasRow self.old.rows tenant client) }
     {
         let row = row_number(tenant, client);
         if !self.rows.contains_key(&row) {
@@ -70,6 +76,7 @@ impl<J: Naming> ClientWords<J> {
         requires new { get nat_eq self.old.rows row ≡ None }
         ensures whose { IfOk result (λ its. (its.tenant ≡ tenant) × (its.client ≡ client)) }
         ensures refusals { IfErr result (λ refusal. is_of_word refusal ≡ true) }
+        ensures free { IfErr result (λ refusal. refusal ≢ IsTaken) }
     {
         if self.joined >= MOST {
             return Err(Refusal::RowsUsed);
@@ -89,8 +96,10 @@ impl<J: Naming> ClientWords<J> {
         Ok(TracedClient::new(tenant, client, tally, seen))
     }
 
-    /// Takes back a client's word.
-    pub fn give_back(&mut self, its: TracedClient<J>) {
+    /// Takes back a client's word. It lies there from now on if the client has come.
+    pub fn give_back(&mut self, its: TracedClient<J>)
+        ensures { HasRow self.old.rows its.tenant its.client → LiesThere self.new.rows its }
+    {
         let row = row_number(its.tenant, its.client);
         let _ = self.rows.insert(row, Some(its));
     }

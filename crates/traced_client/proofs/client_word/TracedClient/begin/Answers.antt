@@ -1,4 +1,4 @@
-use Rattle.std.proofs.Common.{◌≡◌, ◌∙◌, ◌<◌, List, ap, sym, subst, arith, refl}
+use Rattle.std.proofs.Common.{◌≡◌, ◌∙◌, ◌<◌, ◌++◌, List, [], ◌∷◌, sym, subst, arith, refl}
 use Rattle.stamps.specs.Stamp.{client_of}
 use Rattle.plain_store.specs.Words.{◌∈◌}
 use Rattle.history.specs.declared.entry.HistoryEntry.{HistoryEntry}
@@ -10,7 +10,7 @@ use Rattle.history.specs.Rules.{IsAdded}
 use Rattle.history.proofs.Counts.{equal_test}
 use Rattle.history.proofs.Servings.{added_count}
 use Rattle.traced_client.specs.Clients.{ClientTrace}
-use Rattle.traced_client.proofs.Following.{added_in, may_begin, traced_began}
+use Rattle.traced_client.proofs.Following.{added_in, may_begin, own_added, traced_began}
 use Rattle.traced_client.proofs.client_word.TracedClient.begin.Goals as goal
 
 -- the stamp is above those of the client's writes so far
@@ -40,3 +40,14 @@ returns-clause-began g c did =
     let write : Write = record { word = b.tally.key; tenant = b.tenant; stamp = c.args.stamp; items = c.args.items.now } in
     let P : ClientTrace → Type 0 = λ t. Began (record { word = t.word; tenant = t.tenant; stamp = c.args.stamp; items = c.args.items.now }) ∈ c.begin.new.self in
     subst P c.self.view_is (added_in b.tally.key b.entries (Began write) c.again-front.result c.begin.new.self c.if-not-begin.ensures.added)
+
+pub returns-clause-entered : goal.returns-clause-entered
+returns-clause-entered g c did =
+    let b = c.self.inside in
+    let write : Write = record { word = b.tally.key; tenant = b.tenant; stamp = c.args.stamp; items = c.args.items.now } in
+    let Q : List HistoryEntry → Type 0 = λ seen. IsAdded b.tally.key b.entries (Began write) seen c.begin.new.self in
+    let added : Q b.front = subst Q c.again-front.ensures.same c.if-not-begin.ensures.added in
+    let its = equal_test b.tally.key b.tally.key refl in
+    let P : ClientTrace → Type 0 =
+    λ t. own t.word c.begin.new.self ≡ own t.word t.seen ++ Began (record { word = t.word; tenant = t.tenant; stamp = c.args.stamp; items = c.args.items.now }) ∷ [] in
+    subst P c.self.view_is (own_added b.tally.key b.entries (Began write) b.front c.begin.new.self its c.self.invariant.1 added)
