@@ -115,7 +115,7 @@ served-same name other first since last later start entries next same begun most
 
 -- an operation that has staged more calls, and entered nothing
 abbrev pub IsStagedOn : {G : Type 0} {naming : Ghosts G} → RunningOperation G naming → RunningOperation G naming → Type 0
-IsStagedOn old new = (new.name ≡ old.name) × (new.first ≡ old.first) × (old.queues.sent ≤ new.queues.sent) × (new.entries.items ≡ old.entries.items) × (new.seen ≡ old.seen)
+IsStagedOn old new = (new.name ≡ old.name) × (new.first ≡ old.first) × (old.dispatcher.sent ≤ new.dispatcher.sent) × (new.entries.items ≡ old.entries.items) × (new.seen ≡ old.seen)
 
 -- so after calls that were staged
 pub served-on : (name other last after-last : SeatSight) (first since sent later after : ℕ) (start entries begun next : List Entry) → other ≡ name → after-last ≡ last → since ≡ first → sent ≤ later → begun ≡ entries

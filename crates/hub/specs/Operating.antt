@@ -34,8 +34,8 @@ StillFollows old before new after =
 -- each reply that it entered was served, to a call of it that was sent
 abbrev pub StillServed : {G : Type 0} {naming : Ghosts G} → (old new : RunningOperation G naming) → Type 0
 StillServed old new =
-    (start : List Entry) → AreServed (sight_of old.name old.seen) old.first (old.first + old.queues.sent) start old.entries.items
-    → AreServed (sight_of old.name new.seen) old.first (old.first + new.queues.sent) start new.entries.items
+    (start : List Entry) → AreServed (sight_of old.name old.seen) old.first (old.first + old.dispatcher.sent) start old.entries.items
+    → AreServed (sight_of old.name new.seen) old.first (old.first + new.dispatcher.sent) start new.entries.items
 
 -- all is the same but what is on its way
 abbrev pub OnlySends : {G : Type 0} {naming : Ghosts G} → (old new : RunningOperation G naming) → Type 0
@@ -61,6 +61,6 @@ pub record OnlyEnters {G : Type 0} {naming : Ghosts G} (old new : RunningOperati
   pub first : new.first ≡ old.first
   pub session : new.session ≡ old.session
   pub seen : new.seen ≡ old.seen
-  pub queues : new.queues ≡ old.queues
+  pub dispatcher : new.dispatcher ≡ old.dispatcher
   pub fault : new.fault ≡ old.fault
   pub readings : new.readings ≡ old.readings

@@ -318,14 +318,14 @@ impl<G: Gate + Naming> Hub<G> {
         counter: Counter,
     ) -> Result<Ends<'_, G>, AllocError>
         ensures counter { IfOk result (λ ends. ends.session.counter ≡ counter) }
-        ensures queues { IfOk result (λ ends. (ends.queues.client ≡ client)
-            × (ends.queues.parts ≡ self.now.parts)) }
+        ensures queues { IfOk result (λ ends. (ends.dispatcher.client ≡ client)
+            × (ends.dispatcher.parts ≡ self.now.parts)) }
     {
         let parts = self.config.parts;
         let jobs = ends_of(self.alloc, &mut *self.queues.lock(rt))?;
         let shards = self.shards.as_slice();
         let opening = self.seen.again();
-        let queues = Dispatcher::new(
+        let dispatcher = Dispatcher::new(
             self.alloc,
             client,
             parts,
@@ -342,7 +342,7 @@ impl<G: Gate + Naming> Hub<G> {
             return Err(AllocError);
         };
         Ok(Ends {
-            queues,
+            dispatcher,
             session,
             readings,
         })

@@ -35,7 +35,7 @@ pub(crate) struct AnswerRoom;
 #[derive(Drop)]
 pub(crate) struct RunningOperation<'a, G: Naming> {
     pub(crate) name: SeatName,
-    pub(crate) queues: Dispatcher<'a, G>,
+    pub(crate) dispatcher: Dispatcher<'a, G>,
     pub(crate) session: ClientSession,
     pub(crate) entries: EntryList,
     /// What it has seen of the history: each call of it that was answered.
@@ -205,7 +205,7 @@ impl<'a, G: Gate + Naming> RunningOperation<'a, G> {
     pub(crate) fn new(
         alloc: Global,
         name: SeatName,
-        queues: Dispatcher<'a, G>,
+        dispatcher: Dispatcher<'a, G>,
         session: ClientSession,
         readings: Box<Readings>,
         seen: Front<G>,
@@ -214,14 +214,14 @@ impl<'a, G: Gate + Naming> RunningOperation<'a, G> {
         requires open { session.is_open ≡ true }
         requires of_tenant { client.tenant ≡ name.tenant }
         requires legal { ∥ IsLegal seen ∥₁ }
-        ensures given { (result.name ≡ name) × (result.queues ≡ queues.entry)
+        ensures given { (result.name ≡ name) × (result.dispatcher ≡ dispatcher.entry)
             × (result.session ≡ session) × (result.readings ≡ readings) × (result.seen ≡ seen) }
         ensures begun { (result.first ≡ 0) × (result.entries.items ≡ []) × (result.place ≡ None)
             × (result.fault ≡ None) }
     {
         RunningOperation {
             name,
-            queues,
+            dispatcher,
             session,
             entries: EntryList::new(alloc),
             seen,
@@ -246,14 +246,14 @@ impl<'a, G: Gate + Naming> RunningOperation<'a, G> {
             ++ Entry.Began (act_of self.old.name.client request.now) ∷ []) }
         ensures refused { OnErr result (self.new.entries.items ≡ self.old.entries.items) }
         ensures room { OnOk result (max_calls + 5 ≤ self.new.entries.room) }
-        ensures calls { OnOk result (HasRoom (calls_for parts request.now) self.new.queues) }
+        ensures calls { OnOk result (HasRoom (calls_for parts request.now) self.new.dispatcher) }
         ensures place { OnOk result (IsSome self.new.place) }
         ensures fault { OnOk result (IsNone self.new.fault) }
-        ensures awaited { awaited self.new.queues ≡ awaited self.old.queues }
+        ensures awaited { awaited self.new.dispatcher ≡ awaited self.old.dispatcher }
         ensures keeps { KeepsSession self.old self.new }
         ensures first { self.new.first ≡ self.old.first }
     {
-        self.queues.reserve(request.most_calls(parts))?;
+        self.dispatcher.reserve(request.most_calls(parts))?;
         self.entries
             .push_began(&request.lent(self.name.client), MOST_ROOM)?;
         self.place = Some(AnswerRoom);
@@ -278,7 +278,7 @@ impl<'a, G: Gate + Naming> RunningOperation<'a, G> {
         requires place { IsSome self.old.place }
         requires fault { IsNone self.old.fault }
         requires room { max_calls + 5 ≤ self.old.entries.room }
-        requires calls { HasRoom (calls_for parts request.now) self.old.queues }
+        requires calls { HasRoom (calls_for parts request.now) self.old.dispatcher }
         ensures answered { OnOk result
             (Follows self.old.entries.items (Some answer.new) self.new.entries.items) }
         ensures few { replies_in self.new.entries.items
@@ -293,7 +293,7 @@ impl<'a, G: Gate + Naming> RunningOperation<'a, G> {
         ensures refused { (refusal : Why) → test_of self.old.session request.now ≡ Err refusal
             → answer.new ≡ Answer.Refused refusal }
         // Each of its calls was answered.
-        ensures awaited { awaited self.old.queues ≡ 0 → OnOk result (awaited self.new.queues ≡ 0) }
+        ensures awaited { awaited self.old.dispatcher ≡ 0 → OnOk result (awaited self.new.dispatcher ≡ 0) }
         ensures outcome { result ≡ outcome_of self.new.fault self.new.place }
         ensures entered { (told : Option Said)
             × Follows self.old.entries.items told self.new.entries.items }
@@ -333,7 +333,7 @@ impl<'a, G: Gate + Naming> RunningOperation<'a, G> {
     pub(crate) fn drain(&mut self) -> EntryList
         ensures handed { result.items ≡ self.old.entries.items }
         ensures empty { self.new.entries.items ≡ [] }
-        ensures rest { (self.new.name ≡ self.old.name) × (self.new.queues ≡ self.old.queues)
+        ensures rest { (self.new.name ≡ self.old.name) × (self.new.dispatcher ≡ self.old.dispatcher)
             × (self.new.session ≡ self.old.session) × (self.new.first ≡ self.old.first)
             × (self.new.place ≡ self.old.place) × (self.new.fault ≡ self.old.fault)
             × (self.new.readings ≡ self.old.readings) × (self.new.seen ≡ self.old.seen) }
@@ -344,15 +344,15 @@ impl<'a, G: Gate + Naming> RunningOperation<'a, G> {
     /// Ends an operation: counts the calls that it staged, and says whether there were any.
     pub(crate) fn count(&mut self) -> bool
         requires { self.old.first + max_calls ≤ 2 ^ 62 }
-        ensures sent { IsTrue result ↔ (0 < self.old.queues.sent) }
-        ensures first { self.new.first ≡ self.old.first + self.old.queues.sent }
+        ensures sent { IsTrue result ↔ (0 < self.old.dispatcher.sent) }
+        ensures first { self.new.first ≡ self.old.first + self.old.dispatcher.sent }
         ensures few { (self.old.first ≤ self.new.first)
             × (self.new.first ≤ self.old.first + max_calls) }
         ensures entries { self.new.entries ≡ self.old.entries }
         ensures keeps { KeepsSession self.old self.new }
-        ensures queues { self.new.queues ≡ self.old.queues }
+        ensures dispatcher { self.new.dispatcher ≡ self.old.dispatcher }
     {
-        let sent = self.queues.sent() as u64;
+        let sent = self.dispatcher.sent() as u64;
         self.first += sent;
         sent > 0
     }
@@ -369,7 +369,7 @@ impl<'a, G: Gate + Naming> RunningOperation<'a, G> {
         requires place { IsSome self.old.place }
         requires room { max_calls + 5 ≤ self.old.entries.room }
         requires calls { HasRoom (calls_waiting self.old.session.running
-            + calls_left self.old.session.running) self.old.queues }
+            + calls_left self.old.session.running) self.old.dispatcher }
         requires puts { ∥ AreOfPuts
             self.old.seen self.old.name.tenant (waiting_of self.old.session.running) ∥₁ }
         requires under_way { IsUnderWayAt
@@ -378,7 +378,7 @@ impl<'a, G: Gate + Naming> RunningOperation<'a, G> {
         ensures few { replies_in self.new.entries.items
             ≤ replies_in self.old.entries.items + takes }
         ensures ends { OnOk result (is_final answer.new ≡ true) }
-        ensures awaited { OnOk result (awaited self.new.queues ≡ 0) }
+        ensures awaited { OnOk result (awaited self.new.dispatcher ≡ 0) }
         ensures answered { OnOk result (IsNone self.new.place) }
         ensures entered { StillFollows self.old answer.old self.new answer.new }
         ensures read { (setup : Setup) (asked : Asked) (start : List Entered) → IsStampOf own asked
@@ -405,12 +405,12 @@ impl<'a, G: Gate + Naming> RunningOperation<'a, G> {
     /// fault.
     fn take_replies<R: Wait>(&mut self, rt: &R, own: Stamp, takes: usize, answer: &mut Answer)
         requires room { max_calls + spare self.old.place ≤ self.old.entries.room }
-        requires calls { HasRoom (calls_left self.old.session.running) self.old.queues }
+        requires calls { HasRoom (calls_left self.old.session.running) self.old.dispatcher }
         requires under_way { IsUnderWayAt
             (sight_of self.old.name self.old.seen) own self.old answer.old }
         ensures over { IsSome self.old.fault
             → (self.new.fault ≡ self.old.fault) × (self.new.entries ≡ self.old.entries) }
-        ensures awaited { IsNone self.new.fault → awaited self.new.queues ≡ 0 }
+        ensures awaited { IsNone self.new.fault → awaited self.new.dispatcher ≡ 0 }
         ensures few { replies_in self.new.entries.items
             ≤ replies_in self.old.entries.items + takes }
         ensures ends { EndsSo self.old.place answer.old → EndsSo self.new.place answer.new }
@@ -423,19 +423,19 @@ impl<'a, G: Gate + Naming> RunningOperation<'a, G> {
         ensures goes_on { GoesOnAs self.old self.new }
     {
         for taken in 0..MOST_CALLS {
-            if taken >= takes || !self.queues.awaits() {
+            if taken >= takes || !self.dispatcher.awaits() {
                 break;
             }
-            let Some(reply) = self.queues.next_reply(rt, &self.name, self.first) else {
+            let Some(reply) = self.dispatcher.next_reply(rt, &self.name, self.first) else {
                 self.fault = Some(self.fault.unwrap_or(Fault::NoTenant));
                 break;
             };
             self.seen.learn(&reply.front);
             self.enter_reply(rt, own, &reply, answer);
             let SeatReply { message, .. } = reply;
-            self.queues.keep(message);
+            self.dispatcher.keep(message);
         }
-        if self.queues.awaits() {
+        if self.dispatcher.awaits() {
             self.fault = Some(self.fault.unwrap_or(Fault::NoTenant));
         }
     }
@@ -450,13 +450,13 @@ impl<'a, G: Gate + Naming> RunningOperation<'a, G> {
         answer: &mut Answer,
     )
         requires room { 1 + spare self.old.place ≤ self.old.entries.room }
-        requires calls { HasRoom (calls_left self.old.session.running) self.old.queues }
+        requires calls { HasRoom (calls_left self.old.session.running) self.old.dispatcher }
         requires own { (reply.now.tenant ≡ self.old.name.tenant)
             × (reply.now.seat ≡ self.old.name.seat) }
         requires front { IsPrefix reply.now.front self.old.seen }
         requires under_way { IsUnderWayAt
             (sight_of self.old.name self.old.seen) own self.old answer.old }
-        ensures calls { HasRoom (calls_left self.new.session.running) self.new.queues }
+        ensures calls { HasRoom (calls_left self.new.session.running) self.new.dispatcher }
         ensures under_way { IsUnderWayAt
             (sight_of self.old.name self.new.seen) own self.new answer.new }
         ensures took { (place : ℕ) (told : Served) → IsNone self.old.fault
@@ -488,7 +488,7 @@ impl<'a, G: Gate + Naming> RunningOperation<'a, G> {
             (sight_of self.old.name self.old.seen) first last start self.old.entries.items
             → AreServed
             (sight_of self.old.name self.new.seen) first last start self.new.entries.items }
-        ensures sent { self.old.queues.sent ≤ self.new.queues.sent }
+        ensures sent { self.old.dispatcher.sent ≤ self.new.dispatcher.sent }
         ensures counter { self.old.session.counter ≤ self.new.session.counter }
         ensures goes_on { GoesOnAs self.old self.new }
     {
@@ -512,14 +512,14 @@ impl<'a, G: Gate + Naming> RunningOperation<'a, G> {
         answer: &mut Answer,
     )
         requires room { 1 + spare self.old.place ≤ self.old.entries.room }
-        requires calls { HasRoom (calls_left self.old.session.running) self.old.queues }
+        requires calls { HasRoom (calls_left self.old.session.running) self.old.dispatcher }
         requires served { reply.now.outcome ≡ Ok place }
         requires own { (reply.now.tenant ≡ self.old.name.tenant)
             × (reply.now.seat ≡ self.old.name.seat) }
         requires front { IsPrefix reply.now.front self.old.seen }
         requires under_way { IsUnderWayAt
             (sight_of self.old.name self.old.seen) own self.old answer.old }
-        ensures calls { HasRoom (calls_left self.new.session.running) self.new.queues }
+        ensures calls { HasRoom (calls_left self.new.session.running) self.new.dispatcher }
         ensures under_way { IsUnderWayAt
             (sight_of self.old.name self.new.seen) own self.new answer.new }
         ensures took { (told : Served) → reply.now.message.value.reply ≡ Some told
@@ -546,7 +546,7 @@ impl<'a, G: Gate + Naming> RunningOperation<'a, G> {
             (sight_of self.old.name self.old.seen) first last start self.old.entries.items
             → AreServed
             (sight_of self.old.name self.new.seen) first last start self.new.entries.items }
-        ensures sent { self.old.queues.sent ≤ self.new.queues.sent }
+        ensures sent { self.old.dispatcher.sent ≤ self.new.dispatcher.sent }
         ensures counter { self.old.session.counter ≤ self.new.session.counter }
         ensures goes_on { GoesOnAs self.old self.new }
     {
@@ -573,12 +573,12 @@ impl<'a, G: Gate + Naming> RunningOperation<'a, G> {
         requires calls { HasRoom
             (calls_sent (moved taken.now self.old.readings.value)
             (calls_waiting self.old.session.running)
-            + calls_left self.old.session.running) self.old.queues }
+            + calls_left self.old.session.running) self.old.dispatcher }
         requires asks { SendsSo (moved taken.now self.old.readings.value)
             (waiting_of self.old.session.running) }
         requires decided { (stamp : ℕ) → taken.now ≡ Decides stamp
             → ∥ MayBeDecided self.old.seen self.old.name.tenant stamp ∥₁ }
-        ensures calls { HasRoom (calls_left self.old.session.running) self.new.queues }
+        ensures calls { HasRoom (calls_left self.old.session.running) self.new.dispatcher }
         ensures answered { is_last (moved taken.now self.old.readings.value) ≡ true
             → IsNone self.new.place }
         ensures told { (rows : Told) → IsSome self.old.place
@@ -587,10 +587,10 @@ impl<'a, G: Gate + Naming> RunningOperation<'a, G> {
         ensures goes_on { is_last (moved taken.now self.old.readings.value) ≡ false
             → self.new.entries ≡ self.old.entries }
         ensures replies { replies_in self.new.entries.items ≡ replies_in self.old.entries.items }
-        ensures counted { self.old.queues.sent ≤ self.new.queues.sent }
+        ensures counted { self.old.dispatcher.sent ≤ self.new.dispatcher.sent }
         ensures sent { IsNone self.new.fault
-            → self.new.queues.sent
-            ≡ self.old.queues.sent
+            → self.new.dispatcher.sent
+            ≡ self.old.dispatcher.sent
             + calls_sent (moved taken.now self.old.readings.value)
             (calls_waiting self.old.session.running) }
         ensures room { self.old.entries.room + spare self.new.place
@@ -625,18 +625,18 @@ impl<'a, G: Gate + Naming> RunningOperation<'a, G> {
 
     /// Sends the calls that a move asks for, and says whether all went out. Where a put is decided by it, that is entered first.
     fn send_asked<R: Wait>(&mut self, rt: &R, taken: &MoveKind) -> bool
-        requires room { HasRoom (calls_waiting self.old.session.running) self.old.queues }
+        requires room { HasRoom (calls_waiting self.old.session.running) self.old.dispatcher }
         requires sends { sends_calls (moved taken.now self.old.readings.value) ≡ true }
         requires asks { SendsSo (moved taken.now self.old.readings.value)
             (waiting_of self.old.session.running) }
         requires decided { (stamp : ℕ) → taken.now ≡ Decides stamp
             → ∥ MayBeDecided self.old.seen self.old.name.tenant stamp ∥₁ }
         ensures room { (calls : ℕ)
-            → HasRoom (calls_waiting self.old.session.running + calls) self.old.queues
-            → HasRoom calls self.new.queues }
-        ensures counted { self.old.queues.sent ≤ self.new.queues.sent }
+            → HasRoom (calls_waiting self.old.session.running + calls) self.old.dispatcher
+            → HasRoom calls self.new.dispatcher }
+        ensures counted { self.old.dispatcher.sent ≤ self.new.dispatcher.sent }
         ensures sent { IsTrue result
-            → self.new.queues.sent ≡ self.old.queues.sent + calls_waiting self.old.session.running }
+            → self.new.dispatcher.sent ≡ self.old.dispatcher.sent + calls_waiting self.old.session.running }
         ensures seen { IsPrefix self.old.seen self.new.seen }
         ensures rest { (self.new.name ≡ self.old.name) × (self.new.session ≡ self.old.session)
             × (self.new.entries ≡ self.old.entries) × (self.new.first ≡ self.old.first)
@@ -716,36 +716,36 @@ impl<'a, G: Gate + Naming> RunningOperation<'a, G> {
 
     /// Sends the calls that the session waits for, COMMITs or others, and says whether all went out.
     fn send_calls<R: Wait>(&mut self, rt: &R, commits: bool) -> bool
-        requires room { HasRoom (calls_waiting self.old.session.running) self.old.queues }
+        requires room { HasRoom (calls_waiting self.old.session.running) self.old.dispatcher }
         requires puts { ∥ AreOfPuts self.old.seen self.old.name.tenant
             (waiting_of self.old.session.running) ∥₁ }
         ensures room { (calls : ℕ)
-            → HasRoom (calls_waiting self.old.session.running + calls) self.old.queues
-            → HasRoom calls self.new.queues }
-        ensures sent { self.new.queues.sent
-            ≡ self.old.queues.sent + calls_waiting self.old.session.running }
+            → HasRoom (calls_waiting self.old.session.running + calls) self.old.dispatcher
+            → HasRoom calls self.new.dispatcher }
+        ensures sent { self.new.dispatcher.sent
+            ≡ self.old.dispatcher.sent + calls_waiting self.old.session.running }
         ensures rest { OnlySends self.old self.new }
     {
         self.stage_calls(commits);
-        self.queues.dispatch(rt)
+        self.dispatcher.dispatch(rt)
     }
 
     /// Stages the calls that the session waits for, in boxes for COMMITs or for others.
     fn stage_calls(&mut self, commits: bool)
-        requires room { HasRoom (calls_waiting self.old.session.running) self.old.queues }
+        requires room { HasRoom (calls_waiting self.old.session.running) self.old.dispatcher }
         requires puts { ∥ AreOfPuts self.old.seen self.old.name.tenant
             (waiting_of self.old.session.running) ∥₁ }
         ensures room { (calls : ℕ)
-            → HasRoom (calls_waiting self.old.session.running + calls) self.old.queues
-            → HasRoom calls self.new.queues }
-        ensures all { self.new.queues.sent
-            ≡ self.old.queues.sent + calls_waiting self.old.session.running }
+            → HasRoom (calls_waiting self.old.session.running + calls) self.old.dispatcher
+            → HasRoom calls self.new.dispatcher }
+        ensures all { self.new.dispatcher.sent
+            ≡ self.old.dispatcher.sent + calls_waiting self.old.session.running }
         ensures staged { (setup : Setup) (asked : Asked) (taken : List Sent) (running : Running)
             → self.old.session.running ≡ Some running → RunningStands setup asked taken running
-            → AreStagedBehind self.old.name self.old.queues.parts (self.old.first + 1
-            + self.old.queues.sent)
+            → AreStagedBehind self.old.name self.old.dispatcher.parts (self.old.first + 1
+            + self.old.dispatcher.sent)
             (map (call_message self.old.name.client self.old.session.ticket)
-            (waiting_calls setup asked taken)) self.old.queues.calls.items self.new.queues.calls.items }
+            (waiting_calls setup asked taken)) self.old.dispatcher.calls.items self.new.dispatcher.calls.items }
         ensures rest { OnlySends self.old self.new }
     {
         let count = self.session.pending_calls().unwrap();
@@ -758,23 +758,23 @@ impl<'a, G: Gate + Naming> RunningOperation<'a, G> {
     /// a COMMIT or for another call.
     fn stage_call(&mut self, nth: u32, commits: bool)
         requires there { nth < calls_waiting self.old.session.running }
-        requires room { HasRoom 1 self.old.queues }
+        requires room { HasRoom 1 self.old.dispatcher }
         requires puts { ∥ AreOfPuts self.old.seen self.old.name.tenant
             (waiting_of self.old.session.running) ∥₁ }
-        ensures room { (calls : ℕ) → HasRoom (1 + calls) self.old.queues
-            → HasRoom calls self.new.queues }
-        ensures counted { self.new.queues.sent ≡ self.old.queues.sent + 1 }
-        ensures parts { self.new.queues.parts ≡ self.old.queues.parts }
+        ensures room { (calls : ℕ) → HasRoom (1 + calls) self.old.dispatcher
+            → HasRoom calls self.new.dispatcher }
+        ensures counted { self.new.dispatcher.sent ≡ self.old.dispatcher.sent + 1 }
+        ensures parts { self.new.dispatcher.parts ≡ self.old.dispatcher.parts }
         ensures staged { (setup : Setup) (asked : Asked) (taken : List Sent) (running : Running)
             → self.old.session.running ≡ Some running → RunningStands setup asked taken running
-            → IsStagedNext self.old.name self.old.queues.parts (self.old.first + 1
-            + self.old.queues.sent)
+            → IsStagedNext self.old.name self.old.dispatcher.parts (self.old.first + 1
+            + self.old.dispatcher.sent)
             (slice_get
             (map (call_message self.old.name.client self.old.session.ticket)
-            (waiting_calls setup asked taken)) nth) self.old.queues.calls.items self.new.queues.calls.items }
+            (waiting_calls setup asked taken)) nth) self.old.dispatcher.calls.items self.new.dispatcher.calls.items }
         ensures rest { OnlySends self.old self.new }
     {
-        let mut message = self.queues.take_box(commits);
+        let mut message = self.dispatcher.take_box(commits);
         let is_made = self.session.call_over(self.name.client, nth, &mut message);
         prove!(is_made);
         self.stage(message);
@@ -783,36 +783,36 @@ impl<'a, G: Gate + Naming> RunningOperation<'a, G> {
     /// Sends the calls that a move sends at its operation's end, if there are any, and says whether all went out.
     fn send_ending<R: Wait>(&mut self, rt: &R, taken: &MoveKind, ticket: u64) -> bool
         requires { HasRoom
-            (length (ending (moved taken.now self.old.readings.value))) self.old.queues }
+            (length (ending (moved taken.now self.old.readings.value))) self.old.dispatcher }
         ensures room { (calls : ℕ)
             → HasRoom (length (ending (moved taken.now self.old.readings.value))
-            + calls) self.old.queues → HasRoom calls self.new.queues }
+            + calls) self.old.dispatcher → HasRoom calls self.new.dispatcher }
         ensures sent { (told : List Shown)
-            → self.new.queues.sent ≡ self.old.queues.sent + length (ending (moved taken.now told)) }
+            → self.new.dispatcher.sent ≡ self.old.dispatcher.sent + length (ending (moved taken.now told)) }
         ensures rest { OnlySends self.old self.new }
     {
         if !taken.has_ending(0) {
             return true;
         }
         self.stage_ending(taken, ticket);
-        self.queues.dispatch(rt)
+        self.dispatcher.dispatch(rt)
     }
 
     /// Stages the calls that a move sends at its operation's end.
     fn stage_ending(&mut self, taken: &MoveKind, ticket: u64)
         requires { HasRoom
-            (length (ending (moved taken.now self.old.readings.value))) self.old.queues }
+            (length (ending (moved taken.now self.old.readings.value))) self.old.dispatcher }
         ensures room { (calls : ℕ)
             → HasRoom (length (ending (moved taken.now self.old.readings.value))
-            + calls) self.old.queues → HasRoom calls self.new.queues }
+            + calls) self.old.dispatcher → HasRoom calls self.new.dispatcher }
         ensures all { (told : List Shown)
-            → self.new.queues.sent ≡ self.old.queues.sent + length (ending (moved taken.now told)) }
+            → self.new.dispatcher.sent ≡ self.old.dispatcher.sent + length (ending (moved taken.now told)) }
         ensures staged { (told : List Shown)
-            → AreStagedBehind self.old.name self.old.queues.parts (self.old.first + 1
-            + self.old.queues.sent)
+            → AreStagedBehind self.old.name self.old.dispatcher.parts (self.old.first + 1
+            + self.old.dispatcher.sent)
             (map (call_message self.old.name.client ticket)
             (ending
-            (moved taken.now told))) self.old.queues.calls.items self.new.queues.calls.items }
+            (moved taken.now told))) self.old.dispatcher.calls.items self.new.dispatcher.calls.items }
         ensures rest { OnlySends self.old self.new }
     {
         for nth in 0..MOST_CALLS as u32 {
@@ -827,21 +827,21 @@ impl<'a, G: Gate + Naming> RunningOperation<'a, G> {
     /// it waits.
     fn stage_ending_call(&mut self, taken: &MoveKind, ticket: u64, nth: u32)
         requires there { nth < length (ending (moved taken.now self.old.readings.value)) }
-        requires room { HasRoom 1 self.old.queues }
-        ensures room { (calls : ℕ) → HasRoom (1 + calls) self.old.queues
-            → HasRoom calls self.new.queues }
-        ensures counted { self.new.queues.sent ≡ self.old.queues.sent + 1 }
-        ensures parts { self.new.queues.parts ≡ self.old.queues.parts }
+        requires room { HasRoom 1 self.old.dispatcher }
+        ensures room { (calls : ℕ) → HasRoom (1 + calls) self.old.dispatcher
+            → HasRoom calls self.new.dispatcher }
+        ensures counted { self.new.dispatcher.sent ≡ self.old.dispatcher.sent + 1 }
+        ensures parts { self.new.dispatcher.parts ≡ self.old.dispatcher.parts }
         ensures staged { (told : List Shown)
-            → IsStagedNext self.old.name self.old.queues.parts (self.old.first + 1
-            + self.old.queues.sent)
+            → IsStagedNext self.old.name self.old.dispatcher.parts (self.old.first + 1
+            + self.old.dispatcher.sent)
             (slice_get
             (map (call_message self.old.name.client ticket)
             (ending
-            (moved taken.now told))) nth) self.old.queues.calls.items self.new.queues.calls.items }
+            (moved taken.now told))) nth) self.old.dispatcher.calls.items self.new.dispatcher.calls.items }
         ensures rest { OnlySends self.old self.new }
     {
-        let mut message = self.queues.take_box(false);
+        let mut message = self.dispatcher.take_box(false);
         let is_made = taken.ending_into(self.name.client, ticket, nth, &mut message);
         prove!(is_made);
         self.stage(message);
@@ -849,20 +849,20 @@ impl<'a, G: Gate + Naming> RunningOperation<'a, G> {
 
     /// Stages what was made in a box as the next call of the operation's.
     fn stage(&mut self, message: Box<Message>)
-        requires places { HasPlaces 1 self.old.queues }
+        requires places { HasPlaces 1 self.old.dispatcher }
         requires put { ∥ IsOfPut self.old.seen self.old.name.tenant message.value.call ∥₁ }
-        ensures room { (calls : ℕ) → HasPlaces (1 + calls) self.old.queues
-            → HasPlaces calls self.new.queues }
-        ensures boxes { self.new.queues.boxes ≡ self.old.queues.boxes }
-        ensures counted { self.new.queues.sent ≡ self.old.queues.sent + 1 }
-        ensures parts { self.new.queues.parts ≡ self.old.queues.parts }
-        ensures staged { IsStagedNext self.old.name self.old.queues.parts (self.old.first + 1
-            + self.old.queues.sent)
+        ensures room { (calls : ℕ) → HasPlaces (1 + calls) self.old.dispatcher
+            → HasPlaces calls self.new.dispatcher }
+        ensures boxes { self.new.dispatcher.boxes ≡ self.old.dispatcher.boxes }
+        ensures counted { self.new.dispatcher.sent ≡ self.old.dispatcher.sent + 1 }
+        ensures parts { self.new.dispatcher.parts ≡ self.old.dispatcher.parts }
+        ensures staged { IsStagedNext self.old.name self.old.dispatcher.parts (self.old.first + 1
+            + self.old.dispatcher.sent)
             (Some
-            (without_reply message.value)) self.old.queues.calls.items self.new.queues.calls.items }
+            (without_reply message.value)) self.old.dispatcher.calls.items self.new.dispatcher.calls.items }
         ensures rest { OnlySends self.old self.new }
     {
-        let number = self.first + 1 + self.queues.sent() as u64;
-        self.queues.stage(&self.name, number, message, &self.seen);
+        let number = self.first + 1 + self.dispatcher.sent() as u64;
+        self.dispatcher.stage(&self.name, number, message, &self.seen);
     }
 }

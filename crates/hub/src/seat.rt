@@ -34,11 +34,11 @@ const LAST_CALL: u64 = (1 << 62) - 128;
 /// The resources of a seat: its queue endpoints, its client's open session, and a buffer for what is read.
 #[derive(Drop)]
 pub(crate) struct Ends<'a, G: Naming> {
-    pub(crate) queues: Dispatcher<'a, G>,
+    pub(crate) dispatcher: Dispatcher<'a, G>,
     pub(crate) session: ClientSession,
     pub(crate) readings: Box<Readings>,
     ghost opened: { session.is_open ≡ true },
-    ghost none_sent: { awaited queues ≡ 0 },
+    ghost none_sent: { awaited dispatcher ≡ 0 },
 }
 
 /// A client's session. Contracts see its name, whether it was stopped, how many calls it has sent, how many partitions there
@@ -51,7 +51,7 @@ pub struct Seat<'a, G: Naming> {
     operation: RunningOperation<'a, G>,
     ticket: u64,
     stopped: bool,
-    ghost answered: { stopped ≡ false → awaited operation.queues ≡ 0 },
+    ghost answered: { stopped ≡ false → awaited operation.dispatcher ≡ 0 },
 }
 
 impl<'a, G: Naming> Model for Seat<'a, G> {
@@ -79,14 +79,14 @@ impl<'a, G: Gate + Naming> Seat<'a, G> {
             × (result.entries ≡ []) }
     {
         let Ends {
-            queues,
+            dispatcher,
             session,
             readings,
         } = ends;
         Seat {
             hub,
             operation: RunningOperation::new(
-                hub.alloc, name, queues, session, readings, seen, client,
+                hub.alloc, name, dispatcher, session, readings, seen, client,
             ),
             ticket,
             stopped: false,

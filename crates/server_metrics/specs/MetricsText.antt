@@ -12,7 +12,7 @@ use Rattle.server_metrics.specs.declared.families.Family.TheVariants.{Refusals, 
 use Rattle.server_metrics.specs.declared.families.Family.TheVariants.{ConnectionsLimit, ConnectionsBegun}
 use Rattle.server_metrics.specs.declared.families.Family.TheVariants.{Started, Build}
 use Rattle.server_metrics.specs.declared.metrics.ClientRow.{ClientRow}
-use Rattle.server_metrics.specs.declared.metrics.Readings.{Readings}
+use Rattle.server_metrics.specs.declared.metrics.ServerReadings.{ServerReadings}
 use Rattle.server_metrics.specs.declared.metrics.RefusalRow.{RefusalRow}
 use Rattle.server_metrics.specs.declared.metrics.Row.{Row}
 
@@ -99,28 +99,28 @@ abbrev pub plain_text : Family → ℕ → List ℕ
 plain_text family number = family_text family ++ figure_text family [] number
 
 -- how many connections there are, may be and were begun
-abbrev pub connections_text : Readings → List ℕ
+abbrev pub connections_text : ServerReadings → List ℕ
 connections_text readings =
     plain_text Connections readings.open ++ (plain_text ConnectionsLimit readings.most
     ++ plain_text ConnectionsBegun readings.begun)
 
 -- when the server started, and which program it is
-abbrev pub process_text : Readings → List ℕ
+abbrev pub process_text : ServerReadings → List ℕ
 process_text readings =
     plain_text Started readings.started ++ (family_text Build
     ++ figure_text Build ((codes "version", readings.version.now) ∷ []) 1)
 
 -- the sessions and the process
-unfoldable pub server_text : Readings → List ℕ
+unfoldable pub server_text : ServerReadings → List ℕ
 server_text readings =
     plain_text Restarts readings.restarts ++ (connections_text readings ++ process_text readings)
 
 -- the whole page
-abbrev pub metrics_text : Readings → List ℕ
+abbrev pub metrics_text : ServerReadings → List ℕ
 metrics_text readings =
     table_text readings.rows.items ++ (all_tenants_text readings.clients.items
     ++ (refusals_text readings.refusals.items ++ server_text readings))
 
 -- each partition is there, and no row is wrong
-abbrev pub is_well : Readings → Bool
+abbrev pub is_well : ServerReadings → Bool
 is_well readings = readings.is_whole && list_all (λ (row : Row). not row.is_wrong) readings.rows.items

@@ -4,10 +4,10 @@ use Rattle.server_metrics.specs.MetricsText.{metrics_text}
 use Rattle.server_metrics.specs.Responses.{response_text, words_of}
 use Rattle.server_metrics.specs.declared.answer.Status.{Status}
 use Rattle.server_metrics.specs.declared.answer.Status.TheVariants.{Well, NotWell}
-use Rattle.server_metrics.specs.declared.metrics.Readings.{Readings}
+use Rattle.server_metrics.specs.declared.metrics.ServerReadings.{ServerReadings}
 
 -- the page of metrics, of a server that was read so
-abbrev pub metrics_text_page : Readings → List ℕ
+abbrev pub metrics_text_page : ServerReadings → List ℕ
 metrics_text_page readings = response_text Well (metrics_text readings)
 
 -- a page with the words of a status alone

@@ -51,7 +51,7 @@ pub struct RefusalRow {
 
 /// What was read of a server.
 #[derive(Drop)]
-pub struct Readings<'a> {
+pub struct ServerReadings<'a> {
     /// For each partition a row of each tenant.
     pub rows: Vec<Row<'a>>,
     /// A row of each tenant.
@@ -72,7 +72,7 @@ pub struct Readings<'a> {
     pub is_whole: bool,
 }
 
-impl Readings<'_> {
+impl ServerReadings<'_> {
     /// Whether the server is well: each partition is there, and no epoch was found that is not right or could not be checked.
     pub fn is_well(&self) -> bool
         ensures { result ≡ is_well self.now }
@@ -89,7 +89,7 @@ fn are_right(rows: &[Row<'_>]) -> bool
 }
 
 /// Appends the metrics that were read. Where an allocation fails, a part of them may be there.
-pub fn put_metrics(text: &mut String, readings: &Readings<'_>) -> Result<(), AllocError>
+pub fn put_metrics(text: &mut String, readings: &ServerReadings<'_>) -> Result<(), AllocError>
     ensures { OnOk result (string_bytes text.new
         ≡ string_bytes text.old ++ metrics_text readings.now) }
 {
@@ -300,7 +300,7 @@ fn put_refusal(text: &mut String, family: Family, row: &RefusalRow) -> Result<()
 
 // Appends what was read of the sessions and the process.
 #[tactic(auto, unfolding(crate::specs::MetricsText::server_text))]
-fn put_server(text: &mut String, readings: &Readings<'_>) -> Result<(), AllocError>
+fn put_server(text: &mut String, readings: &ServerReadings<'_>) -> Result<(), AllocError>
     ensures { OnOk result (string_bytes text.new
         ≡ string_bytes text.old ++ server_text readings.now) }
 {
@@ -310,7 +310,7 @@ fn put_server(text: &mut String, readings: &Readings<'_>) -> Result<(), AllocErr
 }
 
 // Appends how many connections there are, may be and were begun.
-fn put_connections(text: &mut String, readings: &Readings<'_>) -> Result<(), AllocError>
+fn put_connections(text: &mut String, readings: &ServerReadings<'_>) -> Result<(), AllocError>
     ensures { OnOk result (string_bytes text.new
         ≡ string_bytes text.old ++ connections_text readings.now) }
 {
@@ -320,7 +320,7 @@ fn put_connections(text: &mut String, readings: &Readings<'_>) -> Result<(), All
 }
 
 // Appends when the server started, and which program it is.
-fn put_process(text: &mut String, readings: &Readings<'_>) -> Result<(), AllocError>
+fn put_process(text: &mut String, readings: &ServerReadings<'_>) -> Result<(), AllocError>
     ensures { OnOk result (string_bytes text.new
         ≡ string_bytes text.old ++ process_text readings.now) }
 {

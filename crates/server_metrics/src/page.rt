@@ -4,11 +4,11 @@ ghost use Rattle.server_metrics.specs.MetricsText.{is_well};
 ghost use Rattle.server_metrics.specs.Pages.{health_status, metrics_text_page, text_page};
 
 use crate::answer::{Status, response, words_of};
-use crate::metrics::{Readings, put_metrics};
+use crate::metrics::{ServerReadings, put_metrics};
 use std::alloc::{AllocError, Global};
 
 /// The metrics that were read. The one error is that an allocation failed.
-pub fn metrics_page(alloc: Global, readings: &Readings<'_>) -> Result<String, AllocError>
+pub fn metrics_page(alloc: Global, readings: &ServerReadings<'_>) -> Result<String, AllocError>
     ensures { IfOk result (λ page. string_bytes page ≡ metrics_text_page readings.now) }
 {
     let mut body = String::new(alloc);
@@ -17,7 +17,7 @@ pub fn metrics_page(alloc: Global, readings: &Readings<'_>) -> Result<String, Al
 }
 
 /// Whether the server was well when it was read: 200 exactly where it was, else 503. The one error is that an allocation failed.
-pub fn health_page(alloc: Global, readings: &Readings<'_>) -> Result<String, AllocError>
+pub fn health_page(alloc: Global, readings: &ServerReadings<'_>) -> Result<String, AllocError>
     ensures { IfOk result (λ page. string_bytes page
         ≡ text_page (health_status (is_well readings.now))) }
 {

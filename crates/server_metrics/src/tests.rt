@@ -1,6 +1,7 @@
 //! Requests as tools and browsers send them, and the text that answers them.
 use crate::{
-    ClientRow, PageRequest, Readings, RefusalRow, Row, Status, put_metrics, read_request, response,
+    ClientRow, PageRequest, RefusalRow, Row, ServerReadings, Status, put_metrics, read_request,
+    response,
 };
 use std::alloc::{AllocError, Global};
 use std::test::Fail;
@@ -131,7 +132,7 @@ ramp_build_info{version=\"0.1.0\"} 1\n\
 ";
 
 // A server of one tenant at one partition, whose numbers all differ.
-fn readings(alloc: Global) -> Result<Readings<'static>, AllocError> {
+fn readings(alloc: Global) -> Result<ServerReadings<'static>, AllocError> {
     let mut rows = Vec::new(alloc);
     rows.push(Row {
         tenant: "t",
@@ -159,7 +160,7 @@ fn readings(alloc: Global) -> Result<Readings<'static>, AllocError> {
         number: 15,
         lines: 12,
     })?;
-    Ok(Readings {
+    Ok(ServerReadings {
         rows,
         clients,
         refusals,

@@ -7,7 +7,7 @@ use Rattle.shard.specs.declared.usages.TenantUsage.{TenantUsage}
 use Rattle.server_metrics.specs.declared.metrics.ClientRow.{ClientRow}
 use Rattle.server_metrics.specs.declared.metrics.RefusalRow.{RefusalRow}
 use Rattle.server_metrics.specs.declared.metrics.Row.{Row}
-use Rattle.server_verdicts.specs.declared.epochs.checked.Progress.{Progress}
+use Rattle.server_verdicts.specs.declared.epochs.checked.CheckProgress.{CheckProgress}
 use Rattle.server_status.specs.Reported.{AreChecksFrom, AreClientRows, AreRefusalRows, AreRowsBehind, AreRowsOf, IsCheckOf, IsClientRow, IsRowAt, IsRowOf, known_in}
 use Rattle.history.specs.declared.rule.Naming.{Ghosts}
 use Rattle.server_status.specs.declared.reading.Watched.{Watched}
@@ -17,14 +17,14 @@ same : {X : Type 0} (x y : X) → Some x ≡ Some y → y ≡ x
 same x y there = sym (ap (λ found. unwrap_or found x) there)
 
 -- one usage and its row more
-rows_more : (partition : ℕ) (names : List (List ℕ)) (limits : List Limits) (checks : List (Option Progress)) (usages : List TenantUsage) (rows : List Row)
-    (name : List ℕ) (its : Limits) (progress : Option Progress) (used : TenantUsage) (row : Row) → AreRowsOf partition names limits checks usages rows
+rows_more : (partition : ℕ) (names : List (List ℕ)) (limits : List Limits) (checks : List (Option CheckProgress)) (usages : List TenantUsage) (rows : List Row)
+    (name : List ℕ) (its : Limits) (progress : Option CheckProgress) (used : TenantUsage) (row : Row) → AreRowsOf partition names limits checks usages rows
     → slice_get names (length usages) ≡ Some name → slice_get limits (length usages) ≡ Some its → slice_get checks (length usages) ≡ Some progress
     → IsRowOf used row → IsRowAt partition name its progress row → AreRowsOf partition names limits checks (usages ++ used ∷ []) (rows ++ row ∷ [])
 rows_more partition (n ∷ names) (l ∷ limits) (c ∷ checks) [] [] name its progress used row are named limited checked is at =
     let P : List ℕ → Type 0 = λ one. IsRowAt partition one its progress row in
     let Q : Limits → Type 0 = λ one. IsRowAt partition n one progress row in
-    let R : Option Progress → Type 0 = λ one. IsRowAt partition n l one row in
+    let R : Option CheckProgress → Type 0 = λ one. IsRowAt partition n l one row in
     (is, subst R (same c progress checked) (subst Q (same l its limited) (subst P (same n name named) at)), tt)
 rows_more partition [] limits checks [] [] name its progress used row are named limited checked is at = cc
 rows_more partition (n ∷ names) [] checks [] [] name its progress used row are named limited checked is at = cc
@@ -38,8 +38,8 @@ rows_more partition (n ∷ names) (l ∷ limits) (c ∷ checks) (u ∷ usages) (
     (are.0, are.1, rows_more partition names limits checks usages rows name its progress used row are.2 named limited checked is at)
 
 -- the same of rows behind others: for `put_rows`
-pub rows_behind : (partition : ℕ) (names : List (List ℕ)) (limits : List Limits) (checks : List (Option Progress)) (usages : List TenantUsage) (nth : ℕ)
-    (name : List ℕ) (its : Limits) (progress : Option Progress) (none : TenantUsage) (old now new : List Row) (row : Row) → nth < length usages
+pub rows_behind : (partition : ℕ) (names : List (List ℕ)) (limits : List Limits) (checks : List (Option CheckProgress)) (usages : List TenantUsage) (nth : ℕ)
+    (name : List ℕ) (its : Limits) (progress : Option CheckProgress) (none : TenantUsage) (old now new : List Row) (row : Row) → nth < length usages
     → AreRowsBehind partition names limits checks (take nth usages) old now
     → slice_get names nth ≡ Some name → slice_get limits nth ≡ Some its → slice_get checks nth ≡ Some progress
     → IsRowOf (get_or usages nth none) row → IsRowAt partition name its progress row → new ≡ now ++ row ∷ []
@@ -79,7 +79,7 @@ refusals_wider from below [] are = omega (arith, are)
 refusals_wider from below (r ∷ rows) are = (are.0, are.1, refusals_wider (r.number + 1) below rows are.2)
 
 -- what the journal told, or none where there is none: for `read_check`
-pub check_is : {C : Type 0} (HasTold : C → Progress → Type 0) (its : Option C) (check : Option Progress)
+pub check_is : {C : Type 0} (HasTold : C → CheckProgress → Type 0) (its : Option C) (check : Option CheckProgress)
     → IfSome check (λ progress. IsSomeAnd its (λ one. HasTold one progress)) → IfNone check (its ≡ None) → IsCheckOf HasTold its check
 check_is HasTold (Some its) (Some progress) told none = told
 check_is HasTold None (Some progress) told none = absurd told
@@ -87,7 +87,7 @@ check_is HasTold (Some its) None told none = cc
 check_is HasTold None None told none = tt
 
 -- a tenant's check more: for `read_checks`
-pub checks_more : {J C : Type 0} {naming : Ghosts J} (HasTold : C → Progress → Type 0) (watched : Watched J C naming) (partition first nth : ℕ) (checks : List (Option Progress)) (check : Option Progress)
+pub checks_more : {J C : Type 0} {naming : Ghosts J} (HasTold : C → CheckProgress → Type 0) (watched : Watched J C naming) (partition first nth : ℕ) (checks : List (Option CheckProgress)) (check : Option CheckProgress)
     → AreChecksFrom HasTold watched partition first checks → first + length checks ≡ nth → IsCheckOf HasTold (known_in watched.known partition nth) check
     → AreChecksFrom HasTold watched partition first (checks ++ check ∷ [])
 checks_more HasTold watched partition first nth [] check are here is =

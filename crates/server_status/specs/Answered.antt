@@ -4,11 +4,11 @@ use Rattle.std.specs.Io.KnownBytes.{Appends, Keeps}
 use Rattle.server_metrics.specs.Exchanges.{IsHeardOf}
 use Rattle.server_metrics.specs.MetricsText.{is_well}
 use Rattle.server_metrics.specs.Pages.{health_status, metrics_text_page, text_page}
-use Rattle.server_metrics.specs.declared.metrics.Readings.{Readings}
+use Rattle.server_metrics.specs.declared.metrics.ServerReadings.{ServerReadings}
 use Rattle.server_metrics.specs.declared.request.PageRequest.{PageRequest}
 use Rattle.server_metrics.specs.declared.request.PageRequest.TheVariants.{Metrics, Health, Refused}
 use Rattle.server_status.specs.Reported.{IsReadOf}
-use Rattle.server_verdicts.specs.declared.epochs.checked.Progress.{Progress}
+use Rattle.server_verdicts.specs.declared.epochs.checked.CheckProgress.{CheckProgress}
 use Rattle.history.specs.declared.rule.Naming.{Ghosts}
 use Rattle.server_status.specs.declared.reading.Watched.{Watched}
 use Rattle.server_status.specs.declared.serving.StatusPort.{StatusPort}
@@ -18,11 +18,11 @@ abbrev pub port_listener : {L : Type 0} → StatusPort L → L
 port_listener port = port.listener
 
 -- the page that answers what was asked of a server: how it stands as it was read, or the words of a refusal
-abbrev pub IsAnswerTo : {J C : Type 0} {naming : Ghosts J} → (C → Progress → Type 0) → Watched J C naming → PageRequest → List ℕ → Type 0
+abbrev pub IsAnswerTo : {J C : Type 0} {naming : Ghosts J} → (C → CheckProgress → Type 0) → Watched J C naming → PageRequest → List ℕ → Type 0
 IsAnswerTo HasTold watched Metrics page =
-    (readings : Readings) × IsReadOf HasTold watched readings × (page ≡ metrics_text_page readings)
+    (readings : ServerReadings) × IsReadOf HasTold watched readings × (page ≡ metrics_text_page readings)
 IsAnswerTo HasTold watched Health page =
-    (readings : Readings) × IsReadOf HasTold watched readings × (page ≡ text_page (health_status (is_well readings)))
+    (readings : ServerReadings) × IsReadOf HasTold watched readings × (page ≡ text_page (health_status (is_well readings)))
 IsAnswerTo HasTold watched (Refused status) page = page ≡ text_page status
 
 -- a prefix of the page was written, or where that is said the whole of it
@@ -30,7 +30,7 @@ abbrev pub IsWritten : List ℕ → Option (List ℕ) → Option (List ℕ) → 
 IsWritten page old new whole = ((n : ℕ) × Appends old new (take n page)) × (IsTrue whole → Appends old new page)
 
 -- a request was read from an input, and a page that answers it was written, whole or not
-pub record Answers {J C : Type 0} {naming : Ghosts J} (HasTold : C → Progress → Type 0) (watched : Watched J C naming)
+pub record Answers {J C : Type 0} {naming : Ghosts J} (HasTold : C → CheckProgress → Type 0) (watched : Watched J C naming)
     (input left old new : Option (List ℕ)) (whole : Bool) : Type 0 where
   pub asked : PageRequest
   pub page : List ℕ
@@ -39,7 +39,7 @@ pub record Answers {J C : Type 0} {naming : Ghosts J} (HasTold : C → Progress 
   pub written : IsWritten page old new whole
 
 -- so, or nothing was written
-abbrev pub HasAnswered : {J C : Type 0} {naming : Ghosts J} → (C → Progress → Type 0) → Watched J C naming
+abbrev pub HasAnswered : {J C : Type 0} {naming : Ghosts J} → (C → CheckProgress → Type 0) → Watched J C naming
     → Option (List ℕ) → Option (List ℕ) → Option (List ℕ) → Option (List ℕ) → Bool → Type 0
 HasAnswered HasTold watched input left old new whole =
     Answers HasTold watched input left old new whole ⊎ ((whole ≡ false) × Keeps old new)

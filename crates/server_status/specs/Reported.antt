@@ -8,12 +8,12 @@ use Rattle.stamps.specs.declared.bounds.Limits.{Limits}
 use Rattle.shard.specs.UsedAt.{AreUsagesAt}
 use Rattle.shard.specs.declared.usages.TenantUsage.{TenantUsage}
 use Rattle.server_metrics.specs.declared.metrics.ClientRow.{ClientRow}
-use Rattle.server_metrics.specs.declared.metrics.Readings.{Readings}
+use Rattle.server_metrics.specs.declared.metrics.ServerReadings.{ServerReadings}
 use Rattle.server_metrics.specs.declared.metrics.RefusalRow.{RefusalRow}
 use Rattle.server_metrics.specs.declared.metrics.Row.{Row}
 use Rattle.server_sessions.specs.Ports.{most_of}
 use Rattle.server_verdicts.specs.Rows.{at_place}
-use Rattle.server_verdicts.specs.declared.epochs.checked.Progress.{Progress}
+use Rattle.server_verdicts.specs.declared.epochs.checked.CheckProgress.{CheckProgress}
 use Rattle.server_verdicts.specs.declared.epochs.checked.Standing.TheVariants.{Right}
 use Rattle.history.specs.declared.rule.Naming.{Ghosts}
 use Rattle.server_status.specs.declared.reading.Watched.{Watched}
@@ -30,24 +30,24 @@ pub record IsRowOf (used : TenantUsage) (row : Row) : Type 0 where
   pub cut : row.cut ≡ used.usage.epoch - 1
 
 -- it is of the tenant of this name at this partition, has these limits, and says how far its checks have come, if it has any
-pub record IsRowAt (at : ℕ) (name : List ℕ) (limits : Limits) (progress : Option Progress) (row : Row) : Type 0 where
+pub record IsRowAt (at : ℕ) (name : List ℕ) (limits : Limits) (progress : Option CheckProgress) (row : Row) : Type 0 where
   pub tenant : row.tenant.now ≡ name
   pub partition : row.partition ≡ at
   pub items : row.items_limit ≡ limits.items
   pub versions : row.versions_limit ≡ limits.slots
   pub marks : row.marks_limit ≡ limits.clients
-  pub checked : row.checked ≡ option_map (λ (its : Progress). its.checked) progress
-  pub wrong : IsTrue row.is_wrong ↔ IsSomeAnd progress (λ (its : Progress). its.standing ≢ Right)
+  pub checked : row.checked ≡ option_map (λ (its : CheckProgress). its.checked) progress
+  pub wrong : IsTrue row.is_wrong ↔ IsSomeAnd progress (λ (its : CheckProgress). its.standing ≢ Right)
 
 -- a row of each usage, in their order: that of the tenant of the next name, limits and checks
-abbrev pub AreRowsOf : ℕ → List (List ℕ) → List Limits → List (Option Progress) → List TenantUsage → List Row → Type 0
+abbrev pub AreRowsOf : ℕ → List (List ℕ) → List Limits → List (Option CheckProgress) → List TenantUsage → List Row → Type 0
 AreRowsOf partition names limits checks [] [] = Unit {0}
 AreRowsOf partition (name ∷ names) (its ∷ limits) (progress ∷ checks) (used ∷ usages) (row ∷ rows) =
     IsRowOf used row × IsRowAt partition name its progress row × AreRowsOf partition names limits checks usages rows
 AreRowsOf _ _ _ _ _ _ = ⊥
 
 -- rows of these usages were put behind those that were there
-abbrev pub AreRowsBehind : ℕ → List (List ℕ) → List Limits → List (Option Progress) → List TenantUsage → List Row
+abbrev pub AreRowsBehind : ℕ → List (List ℕ) → List Limits → List (Option CheckProgress) → List TenantUsage → List Row
     → List Row → Type 0
 AreRowsBehind partition names limits checks usages old new =
     (rows : List Row) × (new ≡ old ++ rows) × AreRowsOf partition names limits checks usages rows
@@ -58,32 +58,32 @@ known_in None partition tenant = None
 known_in (Some known) partition tenant = at_place known.now.items partition tenant
 
 -- how far the checks of this journal have come, as it told; none where there is none
-abbrev pub IsCheckOf : {C : Type 0} → (C → Progress → Type 0) → Option C → Option Progress → Type 0
+abbrev pub IsCheckOf : {C : Type 0} → (C → CheckProgress → Type 0) → Option C → Option CheckProgress → Type 0
 IsCheckOf HasTold (Some its) (Some progress) = HasTold its progress
 IsCheckOf HasTold None None = Unit {0}
 IsCheckOf _ _ _ = ⊥
 
 -- so of the journal of each tenant at a partition, from this tenant on
-abbrev pub AreChecksFrom : {J C : Type 0} {naming : Ghosts J} → (C → Progress → Type 0) → Watched J C naming → ℕ → ℕ → List (Option Progress) → Type 0
+abbrev pub AreChecksFrom : {J C : Type 0} {naming : Ghosts J} → (C → CheckProgress → Type 0) → Watched J C naming → ℕ → ℕ → List (Option CheckProgress) → Type 0
 AreChecksFrom HasTold watched partition tenant [] = Unit {0}
 AreChecksFrom HasTold watched partition tenant (check ∷ checks) =
     IsCheckOf HasTold (known_in watched.known partition tenant) check × AreChecksFrom HasTold watched partition (tenant + 1) checks
 
 -- so of each tenant that has a name
-abbrev pub AreChecksAt : {J C : Type 0} {naming : Ghosts J} → (C → Progress → Type 0) → Watched J C naming → ℕ → List (Option Progress) → Type 0
+abbrev pub AreChecksAt : {J C : Type 0} {naming : Ghosts J} → (C → CheckProgress → Type 0) → Watched J C naming → ℕ → List (Option CheckProgress) → Type 0
 AreChecksAt HasTold watched partition checks =
     (length checks ≡ min (length watched.names.now) (2 ^ 32 - 1)) × AreChecksFrom HasTold watched partition 0 checks
 
 -- Rows were put behind those that were there. Their numbers are those that the cells of the partition had at one moment, and
 -- their checks those that its journals told.
-abbrev pub AreRowsAt : {J C : Type 0} {naming : Ghosts J} → (C → Progress → Type 0) → Watched J C naming → ℕ → List Row → List Row → Type 0
+abbrev pub AreRowsAt : {J C : Type 0} {naming : Ghosts J} → (C → CheckProgress → Type 0) → Watched J C naming → ℕ → List Row → List Row → Type 0
 AreRowsAt HasTold watched partition old new =
-    (usages : List TenantUsage) × (checks : List (Option Progress)) × AreUsagesAt watched.hub.now.parts partition usages
+    (usages : List TenantUsage) × (checks : List (Option CheckProgress)) × AreUsagesAt watched.hub.now.parts partition usages
     × AreChecksAt HasTold watched partition checks
     × AreRowsBehind partition watched.names.now watched.hub.now.limits checks usages old new
 
 -- so for each partition before this one, one after another
-abbrev pub AreRowsBefore : {J C : Type 0} {naming : Ghosts J} → (C → Progress → Type 0) → Watched J C naming → ℕ → List Row → Type 0
+abbrev pub AreRowsBefore : {J C : Type 0} {naming : Ghosts J} → (C → CheckProgress → Type 0) → Watched J C naming → ℕ → List Row → Type 0
 AreRowsBefore HasTold watched zero rows = rows ≡ []
 AreRowsBefore HasTold watched (suc partition) rows =
     (before : List Row) × AreRowsBefore HasTold watched partition before × AreRowsAt HasTold watched partition before rows
@@ -111,7 +111,7 @@ AreRefusalRows from below (row ∷ rows) = (from ≤ row.number) × (0 < row.lin
 
 -- What was read of this server: where it is whole, a row of each tenant at each partition; and rows of the clients and of
 -- the refusals. What a journal has told is said by its trait.
-pub record IsReadOf {J C : Type 0} {naming : Ghosts J} (HasTold : C → Progress → Type 0) (watched : Watched J C naming) (readings : Readings) : Type 0 where
+pub record IsReadOf {J C : Type 0} {naming : Ghosts J} (HasTold : C → CheckProgress → Type 0) (watched : Watched J C naming) (readings : ServerReadings) : Type 0 where
   pub rows : IsTrue readings.is_whole → AreRowsBefore HasTold watched watched.hub.now.parts readings.rows.items
   pub clients : AreClientRows watched.names.now watched.hub.now.limits readings.clients.items
   pub all_clients : length readings.clients.items ≡ min (min (length watched.names.now) (2 ^ 32 - 1)) (length watched.hub.now.limits)

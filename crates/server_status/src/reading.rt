@@ -4,9 +4,9 @@ ghost use Rattle.server_status.specs.Reported.{AreChecksAt, AreClientRows, AreRe
 
 use hub::{Gate, Hub, Naming, TenantUsage};
 use line_protocol::Name;
-use server_metrics::{ClientRow, Readings, RefusalRow, Row};
+use server_metrics::{ClientRow, RefusalRow, Row, ServerReadings};
 use server_sessions::{AnswerCounts, Listener, Server};
-use server_verdicts::{Checked, JournalChecks, Progress, Standing, progress_at};
+use server_verdicts::{CheckProgress, Checked, JournalChecks, Standing, progress_at};
 use stamps::Limits;
 use std::alloc::{AllocError, Global};
 use std::sync::{Mutex, Wait};
@@ -32,13 +32,13 @@ impl<'s, G: Gate + Naming, C: JournalChecks> Watched<'s, G, C> {
     /// Reads all that is reported, one partition after another, each under its own lock. It takes time for each tenant at each
     /// partition, and visits none of what they hold. It waits for no session, but where an epoch is being checked for that
     /// check. The one error is that an allocation failed.
-    pub fn read<H: Wait>(&self, rt: &H, alloc: Global) -> Result<Readings<'s>, AllocError>
+    pub fn read<H: Wait>(&self, rt: &H, alloc: Global) -> Result<ServerReadings<'s>, AllocError>
         ensures { IfOk result (IsReadOf C.has_told self.now) }
     {
         let mut rows = Vec::new(alloc);
         let is_whole = self.read_partitions(rt, alloc, &mut rows)?;
         let connections = self.server.connections(rt);
-        Ok(Readings {
+        Ok(ServerReadings {
             rows,
             clients: self.read_clients(rt, alloc)?,
             refusals: read_refusals(alloc, self.server.answers())?,
@@ -99,7 +99,7 @@ impl<'s, G: Gate + Naming, C: JournalChecks> Watched<'s, G, C> {
         rt: &H,
         alloc: Global,
         partition: u32,
-    ) -> Result<Vec<Option<Progress>>, AllocError>
+    ) -> Result<Vec<Option<CheckProgress>>, AllocError>
         ensures { IfOk result (λ checks. AreChecksAt C.has_told self.now partition checks.items) }
     {
         let mut checks = Vec::new(alloc);
@@ -110,7 +110,7 @@ impl<'s, G: Gate + Naming, C: JournalChecks> Watched<'s, G, C> {
     }
 
     // How far the checks of a tenant's journal at a partition have come, where epochs are checked and it is there.
-    fn read_check<H: Wait>(&self, rt: &H, partition: u32, tenant: u32) -> Option<Progress>
+    fn read_check<H: Wait>(&self, rt: &H, partition: u32, tenant: u32) -> Option<CheckProgress>
         ensures { IsCheckOf C.has_told (known_in self.now.known partition tenant) result }
     {
         match self.known {
@@ -124,7 +124,7 @@ impl<'s, G: Gate + Naming, C: JournalChecks> Watched<'s, G, C> {
         &self,
         partition: u32,
         usages: &[TenantUsage],
-        checks: &[Option<Progress>],
+        checks: &[Option<CheckProgress>],
         rows: &mut Vec<Row<'s>>,
     ) -> Result<bool, AllocError>
         ensures { IfOk result (λ is_there. IsTrue is_there
@@ -198,7 +198,7 @@ fn row_of<'s>(
     partition: u32,
     used: &TenantUsage,
     limits: &Limits,
-    progress: Option<Progress>,
+    progress: Option<CheckProgress>,
 ) -> Row<'s>
     ensures used { IsRowOf used.now result }
     ensures at { IsRowAt partition tenant.now limits.now progress result }

@@ -5,6 +5,6 @@ mod checker;
 mod ending;
 mod reached;
 
-pub use checked::{Checked, Progress, Standing, Taken};
+pub use checked::{CheckProgress, Checked, Standing, TakenEpoch};
 pub use checker::{Checking, JournalChecks, Known, progress_at};
 pub use ending::{Ending, LastEpochs};

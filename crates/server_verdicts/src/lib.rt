@@ -5,7 +5,7 @@ mod epochs;
 mod verdict;
 
 pub use epochs::{
-    Checked, Checking, Ending, JournalChecks, Known, LastEpochs, Progress, Standing, Taken,
-    progress_at,
+    CheckProgress, Checked, Checking, Ending, JournalChecks, Known, LastEpochs, Standing,
+    TakenEpoch, progress_at,
 };
 pub use verdict::{Judge, endings_of, name_at, tell_all, tell_checks, tell_verdicts};

@@ -11,7 +11,7 @@ use Rattle.partition.specs.Accounts.{Account, IsEntered, events_at, places, with
 use Rattle.shard.specs.declared.jobs.Fault.{Fault}
 use Rattle.shard.specs.declared.jobs.Fault.TheVariants.{NoTenant}
 use Rattle.shard.specs.declared.shard.FollowUp.{FollowUp}
-use Rattle.shard.specs.Counted.{AreCounted, IsCounted, NotesEvents, NotesLong, events_after, is_due, is_due_among, one_event, places_given}
+use Rattle.shard.specs.Counted.{AreEventsCounted, IsCounted, NotesEvents, NotesLong, events_after, is_due, is_due_among, one_event, places_given}
 use Rattle.shard.proofs.Short.{events_other, events_own}
 
 -- ---- places that were given
@@ -52,14 +52,14 @@ places_more (a ∷ old) (b ∷ new) (suc tenant) e there entered =
 -- ---- events that were counted
 
 -- none came
-pub none_counted : (every : ℕ) (accounts : List Account) (events : ℕ) (was : Bool) → AreCounted every accounts accounts events events was was
+pub none_counted : (every : ℕ) (accounts : List Account) (events : ℕ) (was : Bool) → AreEventsCounted every accounts accounts events events was was
 none_counted every accounts events was = record { n = 0; came = sym (add-zero (places_given accounts)); events = refl; due = sym (or-false was) }
 
 -- one came where the call was served, and none where it was not
 pub one_counted : (every : ℕ) (old new : List Account) (tenant : ℕ) (result : Result ℕ Fault) (reply : Option Reply) (e : Reply → Event) (before after : ℕ) (was now : FollowUp)
     → (IsErrOf result NoTenant ↔ (length old ≤ tenant)) → IfOk result (λ _. IsSomeAnd reply (λ r. IsEntered old new tenant (e r))) → OnErr result (new ≡ old)
     → OnOk result (IsCounted every before after was.collects now.collects) → OnErr result ((after ≡ before) × (now ≡ was))
-    → AreCounted every old new before after was.collects now.collects
+    → AreEventsCounted every old new before after was.collects now.collects
 one_counted every old new tenant (Ok place) None e before after was now there entered same counted uncounted = absurd entered
 one_counted every old new tenant (Ok place) (Some r) e before after was now there entered same counted uncounted =
     let within : tenant < length old = omega (arith, λ (past : length old ≤ tenant). absent (there.1 past)) in
@@ -83,8 +83,8 @@ due_on every events n (suc m) =
     ∙ ap (is_due_among every events) (sym (add-suc n m))
 
 -- some, and then some more
-counted_on : (every : ℕ) (old mid new : List Account) (before between after : ℕ) (was is now : Bool) → AreCounted every old mid before between was is
-    → AreCounted every mid new between after is now → AreCounted every old new before after was now
+counted_on : (every : ℕ) (old mid new : List Account) (before between after : ℕ) (was is now : Bool) → AreEventsCounted every old mid before between was is
+    → AreEventsCounted every mid new between after is now → AreEventsCounted every old new before after was now
 counted_on every old mid new before between after was is now first then =
     record {
       n = first.n + then.n;

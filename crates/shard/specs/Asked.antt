@@ -35,7 +35,7 @@ abbrev pub asked_by : {J : Type 0} {naming : Ghosts J} → Staged J naming → A
 asked_by staged = asked_of staged.call
 
 -- the reply is to this call: to its seat, under its number, and in its message
-pub record IsReplyTo {J : Type 0} {naming : Ghosts J} (call : SeatCall J naming) (reply : SeatReply J naming) : Type 0 where
+pub record IsReplyToCall {J : Type 0} {naming : Ghosts J} (call : SeatCall J naming) (reply : SeatReply J naming) : Type 0 where
   pub partition : reply.partition ≡ call.partition
   pub tenant : reply.tenant ≡ call.tenant
   pub seat : reply.seat ≡ call.seat

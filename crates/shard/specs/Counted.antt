@@ -32,7 +32,7 @@ pub record IsCounted (every before after : ℕ) (was is : Bool) : Type 0 where
   pub due : is ≡ (was || is_due every before)
 
 -- As many events of seats were counted as came into the journals; a collection is due where it was, or with one of them.
-pub record AreCounted (every : ℕ) (old new : List Account) (before after : ℕ) (was is : Bool) : Type 0 where
+pub record AreEventsCounted (every : ℕ) (old new : List Account) (before after : ℕ) (was is : Bool) : Type 0 where
   pub n : ℕ
   pub came : places_given new ≡ places_given old + n
   pub events : after ≡ events_after every before n
@@ -58,5 +58,5 @@ pub record NotesEvent {A : Type 0} (every epoch : ℕ) (accounts : List Account)
 
 -- what is due after any number of calls: each event that came into the journals was counted, and each journal that got long was noted
 pub record NotesEvents (every epoch : ℕ) (old new : List Account) (before after : ℕ) (was is : FollowUp) : Type 0 where
-  pub counted : AreCounted every old new before after was.collects is.collects
+  pub counted : AreEventsCounted every old new before after was.collects is.collects
   pub cuts : NotesLong epoch old new was.cuts is.cuts

@@ -18,7 +18,7 @@ pub fn collect_at<J: Naming, R: Wait>(rt: &R, shard: &Shard<J>) -> Round
         let its = shard.collector.keep_of(rt, tenant);
         let mut guard = shard.lock_soon(rt);
         let state = &mut *guard;
-        let _ = round.take_turn(state, &shard.config, &shard.collector, &its);
+        let _ = round.collect_next(state, &shard.config, &shard.collector, &its);
     }
     round
 }

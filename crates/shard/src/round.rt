@@ -54,7 +54,7 @@ impl Round {
 
     /// Collects for the tenant whose turn it is, as seat 0, with its partition's lock held, and keeps as many versions as are set
     /// for it. One whose journal is full is left out until it was cut.
-    pub(crate) fn take_turn<J: Naming>(
+    pub(crate) fn collect_next<J: Naming>(
         &mut self,
         state: &mut ShardState<J>,
         config: &ShardConfig,

@@ -1,6 +1,6 @@
 //! What serves one partition's queue, and alone cuts its journals.
 ghost use Rattle.std.specs.Prelude.{◌≡◌, ◌<◌, IfNone, IfSome};
-ghost use Rattle.shard.specs.Asked.{IsReplyTo};
+ghost use Rattle.shard.specs.Asked.{IsReplyToCall};
 ghost use Rattle.shard.specs.Journals.{CameSo};
 ghost use Rattle.shard.specs.declared.jobs.SeatReply.{SeatReply as Told};
 
@@ -100,7 +100,7 @@ fn serve_job<J: Naming, G: Gate, S: Sink, T: ReplyTo<SeatReply<J>>, R: Wait>(
     call: SeatCall<J>,
     reply_to: &T,
 )
-    ensures { (reply : Told J _) × IsReplyTo call reply × T.has_come reply_to.now reply }
+    ensures { (reply : Told J _) × IsReplyToCall call reply × T.has_come reply_to.now reply }
 {
     let mut call = call;
     let mut follow_up = FollowUp::nothing();

@@ -15,7 +15,7 @@ use Rattle.hub.specs.Operations.{IsOperation}
 use Rattle.hub.specs.Seats.{Follows, IsEntered, SeatView, is_inside}
 use Rattle.workload.specs.declared.load.mix.RoundKind.{RoundKind}
 use Rattle.workload.specs.declared.load.mix.RoundKind.TheVariants.{Put, Get, Find}
-use Rattle.workload.specs.declared.load.mix.Round.{Round}
+use Rattle.workload.specs.declared.load.mix.DrawnRound.{DrawnRound}
 use Rattle.workload.specs.Rounds.{ArePicked, act_in, act_of_kind, act_of_round, acts_drawn, four_keys, item_of_round, next_state, round_from, state_after, tag_of}
 
 -- ---- some of a list
@@ -79,7 +79,7 @@ round_more client keys done first old new same h served =
 -- ---- what a round begins
 
 -- by the kind that it drew
-of_kind : (keys nth : ℕ) (round : Round) (which : RoundKind) (act : Act) (old new : SeatView) (answer : Answer) → round.kind ≡ which
+of_kind : (keys nth : ℕ) (round : DrawnRound) (which : RoundKind) (act : Act) (old new : SeatView) (answer : Answer) → round.kind ≡ which
     → act_of_kind which old.name.client (take (min round.count 4) (four_keys round.first keys)) nth round.searches_even ≡ act → IsOperation act old answer new
     → (told : Answer) × IsOperation (act_of_round old.name.client keys nth round) old told new
 of_kind keys nth round which act old new answer is same served = (
@@ -88,17 +88,17 @@ of_kind keys nth round which act old new answer is same served = (
       (subst (λ (a : Act). IsOperation a old answer new) (sym same) served),
 )
 
-pub puts : (keys nth : ℕ) (round : Round) (items : List Item) (old new : SeatView) (answer : Answer) → round.kind ≡ Put
+pub puts : (keys nth : ℕ) (round : DrawnRound) (items : List Item) (old new : SeatView) (answer : Answer) → round.kind ≡ Put
     → items ≡ take (min round.count 4) (map (item_of_round nth) (four_keys round.first keys)) → IsOperation (PutAct old.name.client items) old answer new
     → (told : Answer) × IsOperation (act_of_round old.name.client keys nth round) old told new
 puts keys nth round items old new answer is same = of_kind keys nth round Put (PutAct old.name.client items) old new answer is
     (ap (PutAct old.name.client) (sym (take-map (item_of_round nth) (min round.count 4) (four_keys round.first keys)) ∙ sym same))
 
-pub gets : (keys nth : ℕ) (round : Round) (all : List (List ℕ)) (old new : SeatView) (answer : Answer) → round.kind ≡ Get
+pub gets : (keys nth : ℕ) (round : DrawnRound) (all : List (List ℕ)) (old new : SeatView) (answer : Answer) → round.kind ≡ Get
     → all ≡ take (min round.count 4) (four_keys round.first keys) → IsOperation (GetAct old.name.client all) old answer new
     → (told : Answer) × IsOperation (act_of_round old.name.client keys nth round) old told new
 gets keys nth round all old new answer is same = of_kind keys nth round Get (GetAct old.name.client all) old new answer is (ap (GetAct old.name.client) (sym same))
 
-pub finds : (keys nth : ℕ) (round : Round) (tag : List ℕ) (old new : SeatView) (answer : Answer) → round.kind ≡ Find → tag ≡ tag_of round.searches_even
+pub finds : (keys nth : ℕ) (round : DrawnRound) (tag : List ℕ) (old new : SeatView) (answer : Answer) → round.kind ≡ Find → tag ≡ tag_of round.searches_even
     → IsOperation (FindAct old.name.client tag) old answer new → (told : Answer) × IsOperation (act_of_round old.name.client keys nth round) old told new
 finds keys nth round tag old new answer is same = of_kind keys nth round Find (FindAct old.name.client tag) old new answer is (ap (FindAct old.name.client) (sym same))

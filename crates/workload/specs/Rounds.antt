@@ -4,7 +4,7 @@ use Rattle.std.specs.Prelude.{◌≡◌, ◌⊎◌, if◌then◌else◌, decimal
 use Rattle.std.specs.List.{flat_map, filter_map, range_with_len}
 use Rattle.workload.specs.declared.load.mix.RoundKind.{RoundKind}
 use Rattle.workload.specs.declared.load.mix.RoundKind.TheVariants.{Put, Get, Find}
-use Rattle.workload.specs.declared.load.mix.Round.{Round}
+use Rattle.workload.specs.declared.load.mix.DrawnRound.{DrawnRound}
 use Rattle.stamps.specs.declared.record.Item.{Item}
 use Rattle.closed_store.specs.declared.transcript.Transcript.{Transcript}
 use Rattle.entry_list.specs.declared.kinds.Entry.{Entry}
@@ -29,12 +29,12 @@ abbrev pub kind_of : ℕ → RoundKind
 kind_of number = if nat_lt (number % 10) 5 then Put else (if nat_lt (number % 10) 9 then Get else Find)
 
 -- the round that three draws make of a number, where there are so many keys
-abbrev pub drawn_round : ℕ → ℕ → ℕ → ℕ → Round
+abbrev pub drawn_round : ℕ → ℕ → ℕ → ℕ → DrawnRound
 drawn_round keys one two three =
     record { kind = kind_of one; first = two % keys; count = 1 + three % 4; searches_even = two % 2 == 0 }
 
 -- the round that is drawn from a number
-abbrev pub round_from : ℕ → ℕ → Round
+abbrev pub round_from : ℕ → ℕ → DrawnRound
 round_from keys state =
     drawn_round keys (drawn (next_state state)) (drawn (next_state (next_state state)))
     (drawn (next_state (next_state (next_state state))))
@@ -63,7 +63,7 @@ act_of_kind Get client keys nth even = GetAct client keys
 act_of_kind Find client keys nth even = FindAct client (tag_of even)
 
 -- what a client begins in a round of this number that it drew, where there are so many keys
-abbrev pub act_of_round : ℕ → ℕ → ℕ → Round → Act
+abbrev pub act_of_round : ℕ → ℕ → ℕ → DrawnRound → Act
 act_of_round client keys nth round =
     act_of_kind round.kind client (take (min round.count 4) (four_keys round.first keys)) nth round.searches_even
 

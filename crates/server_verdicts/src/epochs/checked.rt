@@ -26,7 +26,7 @@ pub enum Standing {
 
 /// How far the checks of a journal have come.
 #[derive(Clone, Copy)]
-pub struct Progress {
+pub struct CheckProgress {
     /// How its epochs were so far.
     pub standing: Standing,
     /// How many epochs were checked and right.
@@ -35,7 +35,7 @@ pub struct Progress {
 
 /// The receipt of an epoch: what is known of a journal took the one of this number.
 #[derive(Drop)]
-pub struct Taken {
+pub struct TakenEpoch {
     number: u64,
 }
 
@@ -96,10 +96,10 @@ impl Checked {
     }
 
     /// How far its checks have come.
-    pub(crate) fn progress(&self) -> Progress
+    pub(crate) fn progress(&self) -> CheckProgress
         ensures { (result.standing ≡ self.now.standing) × (result.checked ≡ self.now.number) }
     {
-        Progress {
+        CheckProgress {
             standing: self.standing,
             checked: self.number,
         }
@@ -140,7 +140,7 @@ impl Checked {
     /// known of it any more.
     ///
     /// Its calls are played on what the epochs before led to, so it takes time for each of them, and to compare its base.
-    pub fn take(&mut self, alloc: Global, epoch: Epoch) -> Taken
+    pub fn take(&mut self, alloc: Global, epoch: Epoch) -> TakenEpoch
         ensures receipt { result.number ≡ epoch.number }
         ensures right { self.new.standing ≡ Standing.Right → FollowsEpoch self.old epoch self.new }
         ensures wrong { self.old.standing ≡ Standing.Right
@@ -153,7 +153,7 @@ impl Checked {
         ensures stays { self.old.standing ≢ Standing.Right → self.new ≡ self.old }
         ensures limits { self.new.limits ≡ self.old.limits }
     {
-        let taken = Taken {
+        let taken = TakenEpoch {
             number: epoch.number,
         };
         if self.standing != Standing::Right {

@@ -4,9 +4,9 @@ ghost use Rattle.std.specs.Arc.{arc_value};
 ghost use Rattle.server_verdicts.specs.Rows.{HavePlaces, at_place};
 ghost use Rattle.partition.specs.declared.journal.Epoch.{Epoch as Cut};
 ghost use Rattle.shard.specs.Journals.{WasCut};
-ghost use Rattle.server_verdicts.specs.declared.epochs.checked.Progress.{Progress as ItsProgress};
+ghost use Rattle.server_verdicts.specs.declared.epochs.checked.CheckProgress.{CheckProgress as ItsProgress};
 
-use crate::epochs::{Checked, Progress, Taken};
+use crate::epochs::{CheckProgress, Checked, TakenEpoch};
 use crossbeam_channel::{Receiver, Sender, bounded};
 use hub::{Front, HubFault, Naming, Sink};
 use partition::Epoch;
@@ -32,21 +32,21 @@ pub trait JournalChecks {
     ghost has_told: { Self → ItsProgress → Type 0 } = { λ _ _. Unit {0} };
 
     /// Takes the epoch that comes next, as `Checked::take` does. It waits for the lock.
-    fn take_next<R: Wait>(&self, rt: &R, alloc: Global, epoch: Epoch) -> Taken
+    fn take_next<R: Wait>(&self, rt: &R, alloc: Global, epoch: Epoch) -> TakenEpoch
         ensures receipt { result.number ≡ epoch.number }
         ensures taken { has_taken self.now epoch };
 
     /// How far its checks have come. It waits where one of its epochs is being checked.
-    fn progress_now<R: Wait>(&self, rt: &R) -> Progress
+    fn progress_now<R: Wait>(&self, rt: &R) -> CheckProgress
         ensures { has_told self.now result };
 }
 
 impl JournalChecks for Mutex<Checked> {
-    fn take_next<R: Wait>(&self, rt: &R, alloc: Global, epoch: Epoch) -> Taken {
+    fn take_next<R: Wait>(&self, rt: &R, alloc: Global, epoch: Epoch) -> TakenEpoch {
         self.lock(rt).take(alloc, epoch)
     }
 
-    fn progress_now<R: Wait>(&self, rt: &R) -> Progress {
+    fn progress_now<R: Wait>(&self, rt: &R) -> CheckProgress {
         self.lock(rt).progress()
     }
 }
@@ -232,7 +232,7 @@ fn check_one<C: JournalChecks, H: Wait>(
     alloc: Global,
     cut: QueuedEpoch,
     known: &Vec<Vec<C>>,
-) -> Option<Taken>
+) -> Option<TakenEpoch>
     ensures taken { IfSome result (λ taken. taken.number ≡ cut.epoch.number) }
     ensures took { IfSome result (λ _.
         IsSomeAnd (at_place known.now.items cut.partition cut.tenant)
@@ -255,7 +255,7 @@ pub fn progress_at<C: JournalChecks, R: Wait>(
     known: &Vec<Vec<C>>,
     partition: u32,
     tenant: u32,
-) -> Option<Progress>
+) -> Option<CheckProgress>
     ensures told { IfSome result (λ progress.
         IsSomeAnd (at_place known.now.items partition tenant)
         (λ its. C.has_told its progress)) }

@@ -25,7 +25,7 @@ pub(crate) enum RoundKind {
 
 /// A round of a seat, as it was drawn.
 #[derive(Clone, Copy, PartialEq, Eq)]
-pub(crate) struct Round {
+pub(crate) struct DrawnRound {
     pub(crate) kind: RoundKind,
     /// The number of its first key.
     pub(crate) first: u32,
@@ -55,7 +55,7 @@ impl Draws {
     }
 
     /// The next round, among so many keys. Each takes three numbers.
-    pub(crate) fn round(&mut self, keys: u32) -> Round
+    pub(crate) fn round(&mut self, keys: u32) -> DrawnRound
         requires { 0 < keys }
         ensures round { result ≡ round_from keys self.old.state }
         ensures state { self.new.state ≡ next_state (next_state (next_state self.old.state)) }
@@ -63,7 +63,7 @@ impl Draws {
         let one = self.draw();
         let two = self.draw();
         let three = self.draw();
-        Round {
+        DrawnRound {
             kind: kind_of(one),
             first: (two % u64::from(keys)) as u32,
             count: 1 + (three % 4) as u32,

@@ -11,7 +11,7 @@ ghost use Rattle.server_sessions.specs.Ports.{transcripts_of};
 ghost use Rattle.workload.specs.Serving.{DoneOrRefused};
 ghost use Rattle.workload.specs.Rounds.{AreOfSeats, ArePicked, IsOfSeat, act_in, act_of_round, acts_drawn, seats_of};
 
-use crate::load::mix::{Draws, Round, RoundKind, four_keys, items_of, tag_of};
+use crate::load::mix::{DrawnRound, Draws, RoundKind, four_keys, items_of, tag_of};
 use hub::{Named, Naming};
 use line_runs::ProgramFault;
 use server_sessions::{KeptTranscripts, Open, OpenHub, OpenSeat, SessionLeft};
@@ -200,7 +200,7 @@ fn run_round<J: Naming, H: Wait>(
     rt: &H,
     seat: &mut OpenSeat<'_, J>,
     nth: u32,
-    round: &Round,
+    round: &DrawnRound,
     keys: u32,
 )
     requires { 0 < keys }

@@ -2,7 +2,7 @@ use Rattle.std.proofs.Common.{◌≡◌, ◌∙◌, ap}
 use Rattle.std.specs.Global.{Box}
 use Rattle.plain_store.specs.declared.message.Message.{Message}
 use Rattle.history.specs.declared.rule.Naming.{Ghosts}
-use Rattle.shard.specs.Asked.{AskedCall, IsReplyTo, asked_of, without_reply}
+use Rattle.shard.specs.Asked.{AskedCall, IsReplyToCall, asked_of, without_reply}
 use Rattle.shard.specs.declared.jobs.SeatReply.{SeatReply}
 use Rattle.shard.specs.declared.seat_call.SeatCall.{SeatCall}
 use Rattle.shard.proofs.worker.serve_job.Goals as goal
@@ -10,7 +10,7 @@ use Rattle.shard.proofs.worker.serve_job.Goals as goal
 -- the reply that was made of the call as it was served is to the call that came
 to_call : {J : Type 0} {naming : Ghosts J} (call served : SeatCall J naming) (reply : SeatReply J naming) → (reply.number ≡ served.number) × (reply.partition ≡ served.partition)
     → (reply.tenant ≡ served.tenant) × (reply.seat ≡ served.seat) → reply.message ≡ served.message
-    → asked_of served ≡ asked_of call → IsReplyTo call reply
+    → asked_of served ≡ asked_of call → IsReplyToCall call reply
 to_call call served reply numbered owned message asked = record {
   partition = numbered.1 ∙ ap (λ (a : AskedCall). a.partition) asked;
   tenant = owned.0 ∙ ap (λ (a : AskedCall). a.tenant) asked;

@@ -95,7 +95,7 @@ returns-clause-counter g c =
 pub follow-requires-clause-calls : goal.follow-requires-clause-calls
 follow-requires-clause-calls g c =
     let before = ap (λ (s : ClientSession). calls_left s.running) c.push_took.ensures.only.session in
-    room_stays c.args.self.now.queues c.push_took.new.self.queues _ _ c.push_took.ensures.only.queues (omega (arith, before, c.move_into.ensures.calls)) c.requires.calls
+    room_stays c.args.self.now.dispatcher c.push_took.new.self.dispatcher _ _ c.push_took.ensures.only.dispatcher (omega (arith, before, c.move_into.ensures.calls)) c.requires.calls
 
 pub returns-clause-replies : goal.returns-clause-replies
 returns-clause-replies g c =
@@ -103,4 +103,4 @@ returns-clause-replies g c =
 
 -- the calls that the move asks for are sent after those before
 pub returns-clause-sent : goal.returns-clause-sent
-returns-clause-sent g c = omega (arith, ap (λ q. q.sent) c.push_took.ensures.only.queues, c.follow.ensures.counted)
+returns-clause-sent g c = omega (arith, ap (λ q. q.sent) c.push_took.ensures.only.dispatcher, c.follow.ensures.counted)

@@ -16,8 +16,8 @@ use Rattle.hub.proofs.operation.RunningOperation.exchange.Goals.{then-not-send_c
 pub take_replies-requires-clause-calls : goal.take_replies-requires-clause-calls
 take_replies-requires-clause-calls g c =
     let sent = c.send_calls.new.self in
-    let Q : ClientSession → Type 0 = λ s. HasRoom (calls_left s.running) sent.queues in
-    let P : RunningOperation g.row.G.Denot g.G.Naming → Type 0 = λ o. HasRoom (calls_left o.session.running) o.queues in
+    let Q : ClientSession → Type 0 = λ s. HasRoom (calls_left s.running) sent.dispatcher in
+    let P : RunningOperation g.row.G.Denot g.G.Naming → Type 0 = λ o. HasRoom (calls_left o.session.running) o.dispatcher in
     let left = subst Q (sym c.send_calls.ensures.rest.1) (c.send_calls.ensures.room _ c.requires.calls) in
     elim c.if-not-send_calls.branch [ then-not-send_calls w ↦ subst P (sym w.self-is) left | else-not-send_calls w ↦ subst P (sym w.self-is) left ]
 

@@ -18,7 +18,7 @@ returns-then-not-send_ending-clause-calls g c =
     let before = c.args.self.now in
     let last = sym (c.is_last.ensures before.readings.value) ∙ c.if-is_last.true in
     c.send_ending.ensures.room _
-    (room_at_end before.queues c.enter_end.new.self.queues (moved c.args.taken.now before.readings.value) _ (calls_waiting before.session.running) _ last c.enter_end.ensures.only.queues
+    (room_at_end before.dispatcher c.enter_end.new.self.dispatcher (moved c.args.taken.now before.readings.value) _ (calls_waiting before.session.running) _ last c.enter_end.ensures.only.dispatcher
     (ap (λ r. moved c.args.taken.now r.value) c.enter_end.ensures.only.readings) c.requires.calls)
 
 pub returns-else-not-send_ending-clause-calls : goal.returns-else-not-send_ending-clause-calls
@@ -26,7 +26,7 @@ returns-else-not-send_ending-clause-calls g c =
     let before = c.args.self.now in
     let last = sym (c.is_last.ensures before.readings.value) ∙ c.if-is_last.true in
     c.send_ending.ensures.room _
-    (room_at_end before.queues c.enter_end.new.self.queues (moved c.args.taken.now before.readings.value) _ (calls_waiting before.session.running) _ last c.enter_end.ensures.only.queues
+    (room_at_end before.dispatcher c.enter_end.new.self.dispatcher (moved c.args.taken.now before.readings.value) _ (calls_waiting before.session.running) _ last c.enter_end.ensures.only.dispatcher
     (ap (λ r. moved c.args.taken.now r.value) c.enter_end.ensures.only.readings) c.requires.calls)
 
 -- so did those that it waits for
@@ -34,18 +34,18 @@ pub returns-then-not-send_asked-clause-calls : goal.returns-then-not-send_asked-
 returns-then-not-send_asked-clause-calls g c =
     let before = c.args.self.now in
     let sends = sym (c.sends.ensures before.readings.value) ∙ c.if-sends.true in
-    c.send_asked.ensures.room _ (room_going_on before.queues (moved c.args.taken.now before.readings.value) _ _ sends c.requires.calls)
+    c.send_asked.ensures.room _ (room_going_on before.dispatcher (moved c.args.taken.now before.readings.value) _ _ sends c.requires.calls)
 
 pub returns-else-sends-clause-calls : goal.returns-else-sends-clause-calls
 returns-else-sends-clause-calls g c =
     let before = c.args.self.now in
     let left = calls_left before.session.running in
-    let P : RunningOperation g.row.G.Denot g.G.Naming → Type 0 = λ o. HasRoom left o.queues in
+    let P : RunningOperation g.row.G.Denot g.G.Naming → Type 0 = λ o. HasRoom left o.dispatcher in
     elim c.else-sends.branch [
       | else-sends-via-then-sends+else-not-send_asked w ↦
           let sends = sym (c.sends.ensures before.readings.value) ∙ w.if-sends.true in
-          subst P (sym w.self-is) (w.send_asked.ensures.room left (room_going_on before.queues (moved c.args.taken.now before.readings.value) _ _ sends c.requires.calls))
-      | else-sends-via-else-sends w ↦ subst P (sym w.self-is) (room_for_fewer left _ before.queues (omega arith) c.requires.calls)
+          subst P (sym w.self-is) (w.send_asked.ensures.room left (room_going_on before.dispatcher (moved c.args.taken.now before.readings.value) _ _ sends c.requires.calls))
+      | else-sends-via-else-sends w ↦ subst P (sym w.self-is) (room_for_fewer left _ before.dispatcher (omega arith) c.requires.calls)
     ]
 
 -- what is asked for is sent
@@ -58,7 +58,7 @@ returns-else-not-send_ending-clause-sent g c none =
     let before = c.args.self.now in
     let told = before.readings.value in
     let last = sym (c.is_last.ensures told) ∙ c.if-is_last.true in
-    omega (arith, c.send_ending.ensures.sent told, ap (λ q. q.sent) c.enter_end.ensures.only.queues, sent_at_end (moved c.args.taken.now told) (calls_waiting before.session.running) last)
+    omega (arith, c.send_ending.ensures.sent told, ap (λ q. q.sent) c.enter_end.ensures.only.dispatcher, sent_at_end (moved c.args.taken.now told) (calls_waiting before.session.running) last)
 
 pub returns-else-sends-clause-sent : goal.returns-else-sends-clause-sent
 returns-else-sends-clause-sent g c none =
@@ -66,7 +66,7 @@ returns-else-sends-clause-sent g c none =
     let told = before.readings.value in
     let move = moved c.args.taken.now told in
     let waiting = calls_waiting before.session.running in
-    let P : RunningOperation g.row.G.Denot g.G.Naming → Type 0 = λ o. o.queues.sent ≡ before.queues.sent + calls_sent move waiting in
+    let P : RunningOperation g.row.G.Denot g.G.Naming → Type 0 = λ o. o.dispatcher.sent ≡ before.dispatcher.sent + calls_sent move waiting in
     elim c.else-sends.branch [
       | else-sends-via-then-sends+else-not-send_asked w ↦
           let sends = sym (c.sends.ensures told) ∙ w.if-sends.true in
@@ -78,15 +78,15 @@ returns-else-sends-clause-sent g c none =
     ]
 
 pub returns-then-not-send_ending-clause-counted : goal.returns-then-not-send_ending-clause-counted
-returns-then-not-send_ending-clause-counted g c = omega (arith, c.send_ending.ensures.sent [], ap (λ q. q.sent) c.enter_end.ensures.only.queues)
+returns-then-not-send_ending-clause-counted g c = omega (arith, c.send_ending.ensures.sent [], ap (λ q. q.sent) c.enter_end.ensures.only.dispatcher)
 
 pub returns-else-not-send_ending-clause-counted : goal.returns-else-not-send_ending-clause-counted
-returns-else-not-send_ending-clause-counted g c = omega (arith, c.send_ending.ensures.sent [], ap (λ q. q.sent) c.enter_end.ensures.only.queues)
+returns-else-not-send_ending-clause-counted g c = omega (arith, c.send_ending.ensures.sent [], ap (λ q. q.sent) c.enter_end.ensures.only.dispatcher)
 
 pub returns-else-sends-clause-counted : goal.returns-else-sends-clause-counted
 returns-else-sends-clause-counted g c =
     let before = c.args.self.now in
-    let P : RunningOperation g.row.G.Denot g.G.Naming → Type 0 = λ o. before.queues.sent ≤ o.queues.sent in
+    let P : RunningOperation g.row.G.Denot g.G.Naming → Type 0 = λ o. before.dispatcher.sent ≤ o.dispatcher.sent in
     elim c.else-sends.branch [
       | else-sends-via-then-sends+else-not-send_asked w ↦ subst P (sym w.self-is) w.send_asked.ensures.counted
       | else-sends-via-else-sends w ↦ subst P (sym w.self-is) (omega arith)

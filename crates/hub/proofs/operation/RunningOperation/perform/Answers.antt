@@ -131,8 +131,8 @@ returns-in-Err-clause-served g c start are =
     let first = c.args.self.now.first in
     let name = c.args.self.now.name in
     let Q : ℕ → Type 0 = λ n. AreServed (sight_of name c.enter_answer.new.self.seen) first (first + n) start c.enter_answer.new.self.entries.items in
-    let R : List HistoryEntry → Type 0 = λ s. AreServed (sight_of name s) first (first + c.args.self.now.queues.sent) start c.enter_answer.new.self.entries.items in
-    subst Q (sym (ap (λ q. q.sent) c.enter_answer.ensures.only.queues))
+    let R : List HistoryEntry → Type 0 = λ s. AreServed (sight_of name s) first (first + c.args.self.now.dispatcher.sent) start c.enter_answer.new.self.entries.items in
+    subst Q (sym (ap (λ q. q.sent) c.enter_answer.ensures.only.dispatcher))
     (subst R (sym c.enter_answer.ensures.only.seen) (served-answered (sight_of name c.args.self.now.seen) first _ start c.args.self.now.entries.items c.enter_answer.new.self.entries.items c.tell_refusal.new.answer c.enter_answer.ensures.answer are))
 
 -- what begins sends no more than there was made room for
@@ -141,7 +141,7 @@ exchange-requires-clause-calls g c =
     let own : Stamp = stamp (c.args.self.now.session.counter + 1) c.args.self.now.name.client in
     let asked : Intent = intent_of own c.args.request.now in
     let may = may_begin c.args.self.now.session c.args.request.now asked own refl c.in-Ok.ensures.passed in
-    room_for_fewer _ _ c.args.self.now.queues
+    room_for_fewer _ _ c.args.self.now.dispatcher
     (omega (arith, c.in-Ok.ensures.begun.calls, makes_room c.args.parts own c.args.request.now asked refl may)) c.requires.calls
 
 pub returns-in-Err-clause-outcome : goal.returns-in-Err-clause-outcome

@@ -13,7 +13,7 @@ pub returns-clause-room : goal.returns-clause-room
 returns-clause-room g c calls room = c.send_calls.ensures.room calls room
 
 pub returns-then-not-enter_decided-clause-room : goal.returns-then-not-enter_decided-clause-room
-returns-then-not-enter_decided-clause-room g c calls room = room_for_fewer calls _ c.args.self.now.queues (omega arith) room
+returns-then-not-enter_decided-clause-room g c calls room = room_for_fewer calls _ c.args.self.now.dispatcher (omega arith) room
 
 pub returns-clause-counted : goal.returns-clause-counted
 returns-clause-counted g c = omega (arith, c.send_calls.ensures.sent)

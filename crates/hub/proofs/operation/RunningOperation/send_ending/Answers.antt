@@ -9,7 +9,7 @@ returns-clause-room g c calls room = c.dispatch.ensures.room calls (c.stage_endi
 
 -- there is none
 pub returns-then-not-has_ending-clause-room : goal.returns-then-not-has_ending-clause-room
-returns-then-not-has_ending-clause-room g c calls room = room_for_fewer calls _ c.args.self.now.queues (omega arith) room
+returns-then-not-has_ending-clause-room g c calls room = room_for_fewer calls _ c.args.self.now.dispatcher (omega arith) room
 
 pub returns-then-not-has_ending-clause-sent : goal.returns-then-not-has_ending-clause-sent
 returns-then-not-has_ending-clause-sent g c told =

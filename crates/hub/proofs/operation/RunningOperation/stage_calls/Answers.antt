@@ -18,7 +18,7 @@ unwrap-count-requires g c = open_retry c.args.self.now.session c.args.self.now.o
 pub stage_call-requires-clause-room : goal.stage_call-requires-clause-room
 stage_call-requires-clause-room g c =
     let count = rw c.unwrap-count.ensures at c.pending_calls.ensures.waiting in
-    c.loop-nth.invariant.room 1 (room_for_fewer (c.loop-nth.nth + 1) _ c.args.self.now.queues (omega (arith, c.loop-nth-test.true, count)) c.requires.room)
+    c.loop-nth.invariant.room 1 (room_for_fewer (c.loop-nth.nth + 1) _ c.args.self.now.dispatcher (omega (arith, c.loop-nth-test.true, count)) c.requires.room)
 
 -- what it waits for is what it waited for
 pub stage_call-requires-clause-puts : goal.stage_call-requires-clause-puts
@@ -50,18 +50,18 @@ loop-nth-preserved g c =
           let before = c.args.self.now in
           let now = c.loop-nth.self in
           let calls = waiting_calls setup asked taken in
-          behind-more before.name before.queues.parts (before.first + 1 + before.queues.sent) c.loop-nth.nth (map (call_message before.name.client before.session.ticket) calls) before.queues.calls.items now.queues.calls.items _
+          behind-more before.name before.dispatcher.parts (before.first + 1 + before.dispatcher.sent) c.loop-nth.nth (map (call_message before.name.client before.session.ticket) calls) before.dispatcher.calls.items now.dispatcher.calls.items _
           (so_far.staged setup asked taken running is stands)
-          (next-same before.name now.name before.queues.parts now.queues.parts (before.first + 1 + before.queues.sent + c.loop-nth.nth) (now.first + 1 + now.queues.sent) _ _ _ _ _ so_far.name so_far.parts (omega (arith, so_far.first, so_far.sent))
+          (next-same before.name now.name before.dispatcher.parts now.dispatcher.parts (before.first + 1 + before.dispatcher.sent + c.loop-nth.nth) (now.first + 1 + now.dispatcher.sent) _ _ _ _ _ so_far.name so_far.parts (omega (arith, so_far.first, so_far.sent))
           (λ i. slice_get (map (call_message (so_far.name i).client (so_far.session i).ticket) calls) c.loop-nth.nth) refl
           (c.stage_call.ensures.staged setup asked taken running (ap (λ (s : ClientSession). s.running) so_far.session ∙ is) stands));
-      room = λ calls room. c.stage_call.ensures.room calls (so_far.room (1 + calls) (room_for_fewer (c.loop-nth.nth + (1 + calls)) _ c.args.self.now.queues (omega arith) room));
+      room = λ calls room. c.stage_call.ensures.room calls (so_far.room (1 + calls) (room_for_fewer (c.loop-nth.nth + (1 + calls)) _ c.args.self.now.dispatcher (omega arith) room));
     }
 
 pub returns-clause-room : goal.returns-clause-room
 returns-clause-room g c calls room =
     let count = rw c.unwrap-count.ensures at c.pending_calls.ensures.waiting in
-    c.loop-nth.invariant.room calls (room_for_fewer (c.loop-nth.nth + calls) _ c.args.self.now.queues (omega (arith, count)) room)
+    c.loop-nth.invariant.room calls (room_for_fewer (c.loop-nth.nth + calls) _ c.args.self.now.dispatcher (omega (arith, count)) room)
 
 -- as many as it waits for
 pub returns-clause-staged : goal.returns-clause-staged
@@ -86,5 +86,5 @@ loop-nth-init g c = record {
   sent = omega arith;
   parts = refl;
   staged = λ setup asked taken running is stands. behind-start _ _ _ _;
-  room = λ calls room. room_for_fewer calls (0 + calls) c.args.self.now.queues (omega arith) room;
+  room = λ calls room. room_for_fewer calls (0 + calls) c.args.self.now.dispatcher (omega arith) room;
 }

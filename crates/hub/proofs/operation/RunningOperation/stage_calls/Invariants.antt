@@ -20,10 +20,10 @@ invariant-loop-nth g l = record {
   fault : l.self.fault ≡ l.fn.self.fault;
   readings : l.self.readings ≡ l.fn.self.readings;
   seen : l.self.seen ≡ l.fn.self.seen;
-  sent : l.self.queues.sent ≡ l.fn.self.queues.sent + l.nth;
-  parts : l.self.queues.parts ≡ l.fn.self.queues.parts;
+  sent : l.self.dispatcher.sent ≡ l.fn.self.dispatcher.sent + l.nth;
+  parts : l.self.dispatcher.parts ≡ l.fn.self.dispatcher.parts;
   staged : (setup : Setup) (asked : Asked) (taken : List Message) (running : Running) → l.fn.self.session.running ≡ Some running → RunningStands setup asked taken running
-      → AreStagedBehind l.fn.self.name l.fn.self.queues.parts (l.fn.self.first + 1 + l.fn.self.queues.sent)
-      (take l.nth (map (call_message l.fn.self.name.client l.fn.self.session.ticket) (waiting_calls setup asked taken))) l.fn.self.queues.calls.items l.self.queues.calls.items;
-  room : (calls : ℕ) → HasRoom (l.nth + calls) l.fn.self.queues → HasRoom calls l.self.queues;
+      → AreStagedBehind l.fn.self.name l.fn.self.dispatcher.parts (l.fn.self.first + 1 + l.fn.self.dispatcher.sent)
+      (take l.nth (map (call_message l.fn.self.name.client l.fn.self.session.ticket) (waiting_calls setup asked taken))) l.fn.self.dispatcher.calls.items l.self.dispatcher.calls.items;
+  room : (calls : ℕ) → HasRoom (l.nth + calls) l.fn.self.dispatcher → HasRoom calls l.self.dispatcher;
 }

@@ -11,7 +11,7 @@ pub stage_ending_call-requires-clause-room : goal.stage_ending_call-requires-cla
 stage_ending_call-requires-clause-room g c =
     let told = c.args.self.now.readings.value in
     let less : c.loop-nth.nth < length (ending (moved c.args.taken.now told)) = ltb-true _ _ (sym (c.has_ending.ensures told) ∙ c.if-not-has_ending.false) in
-    c.loop-nth.invariant.room 1 (room_for_fewer (c.loop-nth.nth + 1) _ c.args.self.now.queues (omega arith) c.requires)
+    c.loop-nth.invariant.room 1 (room_for_fewer (c.loop-nth.nth + 1) _ c.args.self.now.dispatcher (omega arith) c.requires)
 
 pub loop-nth-preserved : goal.loop-nth-preserved
 loop-nth-preserved g c =
@@ -32,12 +32,12 @@ loop-nth-preserved g c =
           let before = c.args.self.now in
           let now = c.loop-nth.self in
           let calls = ending (moved c.args.taken.now told) in
-          behind-more before.name before.queues.parts (before.first + 1 + before.queues.sent) c.loop-nth.nth (map (call_message before.name.client c.args.ticket) calls) before.queues.calls.items now.queues.calls.items _
+          behind-more before.name before.dispatcher.parts (before.first + 1 + before.dispatcher.sent) c.loop-nth.nth (map (call_message before.name.client c.args.ticket) calls) before.dispatcher.calls.items now.dispatcher.calls.items _
           (so_far.staged told)
-          (next-same before.name now.name before.queues.parts now.queues.parts (before.first + 1 + before.queues.sent + c.loop-nth.nth) (now.first + 1 + now.queues.sent) _ _ _ _ _ so_far.name so_far.parts (omega (arith, so_far.first, so_far.sent))
+          (next-same before.name now.name before.dispatcher.parts now.dispatcher.parts (before.first + 1 + before.dispatcher.sent + c.loop-nth.nth) (now.first + 1 + now.dispatcher.sent) _ _ _ _ _ so_far.name so_far.parts (omega (arith, so_far.first, so_far.sent))
           (λ i. slice_get (map (call_message (so_far.name i).client c.args.ticket) calls) c.loop-nth.nth) refl
           (c.stage_ending_call.ensures.staged told));
-      room = λ calls room. c.stage_ending_call.ensures.room calls (so_far.room (1 + calls) (room_for_fewer (c.loop-nth.nth + (1 + calls)) _ c.args.self.now.queues (omega arith) room));
+      room = λ calls room. c.stage_ending_call.ensures.room calls (so_far.room (1 + calls) (room_for_fewer (c.loop-nth.nth + (1 + calls)) _ c.args.self.now.dispatcher (omega arith) room));
       few = λ told.
           let less : c.loop-nth.nth < length (ending (moved c.args.taken.now told)) = ltb-true _ _ (sym (c.has_ending.ensures told) ∙ c.if-not-has_ending.false) in
           omega arith;
@@ -46,7 +46,7 @@ loop-nth-preserved g c =
 pub returns-then-not-has_ending-clause-room : goal.returns-then-not-has_ending-clause-room
 returns-then-not-has_ending-clause-room g c calls room =
     let few = c.loop-nth.invariant.few c.args.self.now.readings.value in
-    c.loop-nth.invariant.room calls (room_for_fewer (c.loop-nth.nth + calls) _ c.args.self.now.queues (omega (arith, few)) room)
+    c.loop-nth.invariant.room calls (room_for_fewer (c.loop-nth.nth + calls) _ c.args.self.now.dispatcher (omega (arith, few)) room)
 
 -- there is none at this place, so these are all
 pub returns-then-not-has_ending-clause-staged : goal.returns-then-not-has_ending-clause-staged
@@ -78,6 +78,6 @@ loop-nth-init g c = record {
   sent = omega arith;
   parts = refl;
   staged = λ told. behind-start _ _ _ _;
-  room = λ calls room. room_for_fewer calls (0 + calls) c.args.self.now.queues (omega arith) room;
+  room = λ calls room. room_for_fewer calls (0 + calls) c.args.self.now.dispatcher (omega arith) room;
   few = λ told. omega arith;
 }

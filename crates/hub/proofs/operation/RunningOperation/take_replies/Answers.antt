@@ -32,7 +32,7 @@ loop-taken-preserved g c =
     let more : IsLaterSight at learned = record { tenant = refl; seat = refl; seen = c.learn.ensures.this } in
     let ends : IsLaterSight learned (sight_of name after.seen) = record { tenant = refl; seat = refl; seen = entered.goes_on.seen } in
     let first = c.args.self.now.first in
-    let later : before.queues.sent ≤ c.keep.new.self.sent = omega (arith, c.next_reply.ensures.sent, entered.sent, c.keep.ensures.sent) in
+    let later : before.dispatcher.sent ≤ c.keep.new.self.sent = omega (arith, c.next_reply.ensures.sent, entered.sent, c.keep.ensures.sent) in
     let last = first + c.keep.new.self.sent in
     record {
       room = omega (arith, entered.room, so_far.room);
@@ -54,8 +54,8 @@ loop-taken-preserved g c =
           let up_to : c.in-Some.reply.number ≤ last = omega (arith, numbered.1, so_far.first, later) in
           served-same (sight_of before.name after.seen) (sight_of name after.seen) first first last last start after.entries.items after.entries.items (sights _ _ _ _ (sym so_far.name) refl) refl (omega arith) refl
           (entered.served first last start own.0 own.1 c.learn.ensures.that behind up_to
-          (served-same learned (sight_of before.name c.learn.new.self) first first (first + before.queues.sent) last start before.entries.items before.entries.items (sights _ _ _ _ so_far.name refl) refl (omega (arith, later)) refl
-          (served-later at learned first (first + before.queues.sent) start before.entries.items more (so_far.served start are))));
+          (served-same learned (sight_of before.name c.learn.new.self) first first (first + before.dispatcher.sent) last start before.entries.items before.entries.items (sights _ _ _ _ so_far.name refl) refl (omega (arith, later)) refl
+          (served-later at learned first (first + before.dispatcher.sent) start before.entries.items more (so_far.served start are))));
       counter = omega (arith, entered.counter, so_far.counter);
       seen = prefix_join _ _ _ so_far.seen (prefix_join _ _ _ c.learn.ensures.this entered.goes_on.seen);
       name = entered.goes_on.name ∙ so_far.name;

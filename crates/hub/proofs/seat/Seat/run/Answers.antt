@@ -55,7 +55,7 @@ returns-clause-later g c =
     let since = c.in-Ok.ensures.first ∙ ap (λ (s : SeatView). s.sent) c.self.view_is in
     let counted = ap (λ (s : ClientSession). s.counter) c.in-Ok.ensures.keeps.session ∙ ap (λ (s : SeatView). s.counter) c.self.view_is in
     let seen = (ap (λ (s : SeatView). s.seen) c.finish.ensures.stays) ∙ c.count-sent.ensures.keeps.seen in
-    let last = c.prepare.new.self.first + c.perform-told.new.self.queues.sent in
+    let last = c.prepare.new.self.first + c.perform-told.new.self.dispatcher.sent in
     let later : last ≤ c.finish.new.self.sent = omega (arith, (ap (λ (s : SeatView). s.sent) c.finish.ensures.stays), c.count-sent.ensures.first, c.perform-told.ensures.goes_on.first) in
     record {
       name = (ap (λ (s : SeatView). s.name) c.finish.ensures.stays) ∙ c.count-sent.ensures.keeps.name ∙ c.perform-told.ensures.goes_on.name ∙ named;

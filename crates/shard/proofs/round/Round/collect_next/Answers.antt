@@ -3,7 +3,7 @@ use Rattle.partition.specs.Accounts.{Account, events_at}
 use Rattle.std.proofs.Math.Logic.{∥∥₁_map}
 use Rattle.shard.proofs.Short.{answered-short}
 use Rattle.shard.proofs.Journals.{answered-of}
-use Rattle.shard.proofs.round.Round.take_turn.Goals as goal
+use Rattle.shard.proofs.round.Round.collect_next.Goals as goal
 
 -- the journal was not full
 pub returns-after-self-clause-short : goal.returns-after-self-clause-short
