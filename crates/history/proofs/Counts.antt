@@ -5,8 +5,9 @@ use Rattle.std.proofs.lemmas.List.{append-nil}
 use Rattle.std.proofs.lemmas.List.Elements.{filter-append}
 use mathlib.Core.List.{IsPrefix}
 use Rattle.history.specs.declared.entry.HistoryEntry.{HistoryEntry}
-use Rattle.history.specs.declared.entry.HistoryEntry.TheVariants.{Opened, Joined, Arrived, Began, Decided, Served}
-use Rattle.history.specs.Entries.{is_of, own, count}
+use Rattle.history.specs.declared.entry.HistoryEntry.TheVariants.{Opened, Joined, Arrived, Began, Decided, ReadBegan, Served}
+use Rattle.history.specs.Entries.{HasMark, is_of, own, count}
+use Rattle.history.specs.declared.entry.Mark.{Mark}
 use Rattle.history.proofs.Lists.{none_of_none}
 
 pub equal_test : (a b : ℕ) → a ≡ b → (a == b) ≡ true
@@ -26,6 +27,7 @@ pub of_no_other : (k p : ℕ) (e : HistoryEntry) → is_of p e ≡ true → k �
 of_no_other k p (Opened setting) is apart = absurd (cc is)
 of_no_other k p (Joined member) is apart = no_other 0 k p is apart
 of_no_other k p (Arrived word) is apart = no_other word k p is apart
+of_no_other k p (ReadBegan word) is apart = no_other word k p is apart
 of_no_other k p (Began write) is apart = no_other write.word k p is apart
 of_no_other k p (Decided decision) is apart = no_other decision.word k p is apart
 of_no_other k p (Served served) is apart = no_other (served.partition + 1) k p is apart
@@ -63,3 +65,7 @@ pub own_same : (k : ℕ) (v log : List HistoryEntry) → IsPrefix v log → coun
 own_same k v log pre same =
     let none : own k pre.0 ≡ [] = none_of_none (own k pre.0) (omega (arith, count_later k v log pre, same)) in
     sym (append-nil (own k v)) ∙ ap (λ l. own k v ++ l) (sym none) ∙ sym (own_append k v pre.0) ∙ ap (own k) pre.1
+
+-- what has a mark has it later
+pub mark_later : (v log : List HistoryEntry) (mark : Mark) → IsPrefix v log → HasMark v mark → HasMark log mark
+mark_later v log mark pre has = omega (arith, count_later mark.word v log pre, has)

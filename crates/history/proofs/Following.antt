@@ -14,7 +14,7 @@ use Rattle.plain_store.specs.declared.calls.Reply.TheVariants.{Prepare as ToPrep
 use Rattle.plain_store.specs.declared.calls.PrepareReply.TheVariants.{Prepared}
 use Rattle.plain_store.specs.Writing.{record_for}
 use Rattle.history.specs.declared.entry.HistoryEntry.{HistoryEntry}
-use Rattle.history.specs.declared.entry.HistoryEntry.TheVariants.{Opened, Joined, Arrived, Began, Decided, Served}
+use Rattle.history.specs.declared.entry.HistoryEntry.TheVariants.{Opened, Joined, Arrived, Began, Decided, ReadBegan, Served}
 use Rattle.history.specs.declared.entry.Decision.{Decision}
 use Rattle.history.specs.declared.entry.JoinedClient.{JoinedClient}
 use Rattle.history.specs.declared.entry.ServedCall.{ServedCall}
@@ -34,7 +34,7 @@ parts_later v log legal pre =
     let whole : Opened legal.setting ∷ (legal.rest ++ pre.0) ≡ log = ap (λ l. l ++ pre.0) (sym legal.opens) ∙ pre.1 in
     ap parts_of legal.opens ∙ ap parts_of whole
 
-pub served_later : (v log : List HistoryEntry) (served : ServedCall) (place : ℕ) (reply : Reply) → IsPrefix v log → StandsInHistory v served place reply
+abbrev pub served_later : (v log : List HistoryEntry) (served : ServedCall) (place : ℕ) (reply : Reply) → IsPrefix v log → StandsInHistory v served place reply
     → StandsInHistory log served place reply
 served_later v log served place reply pre s = record {
   before = s.before;
@@ -85,6 +85,7 @@ parts_before (Joined member ∷ v) rest parts has = absurd has
 parts_before (Arrived word ∷ v) rest parts has = absurd has
 parts_before (Began write ∷ v) rest parts has = absurd has
 parts_before (Decided decision ∷ v) rest parts has = absurd has
+parts_before (ReadBegan word ∷ v) rest parts has = absurd has
 parts_before (Served served ∷ v) rest parts has = absurd has
 
 pub has_parts_later : (v log : List HistoryEntry) (parts : ℕ) → IsPrefix v log → HasParts v parts → HasParts log parts
@@ -98,9 +99,10 @@ parts_as_opened (Joined member ∷ v) parts has = absurd has
 parts_as_opened (Arrived word ∷ v) parts has = absurd has
 parts_as_opened (Began write ∷ v) parts has = absurd has
 parts_as_opened (Decided decision ∷ v) parts has = absurd has
+parts_as_opened (ReadBegan word ∷ v) parts has = absurd has
 parts_as_opened (Served served ∷ v) parts has = absurd has
 
-key_home_later : (v log : List HistoryEntry) (key : Key) (partition : ℕ) → IsPrefix v log → IsKeyHome v key partition → IsKeyHome log key partition
+pub key_home_later : (v log : List HistoryEntry) (key : Key) (partition : ℕ) → IsPrefix v log → IsKeyHome v key partition → IsKeyHome log key partition
 key_home_later v log key partition pre h = record { parts = h.parts; there = has_parts_later v log h.parts pre h.there; home = h.home }
 
 pub at_home_later : (v log : List HistoryEntry) (partition : ℕ) (call : Call) → IsPrefix v log → IsAtHome v partition call → IsAtHome log partition call
@@ -140,6 +142,7 @@ may_later k mine seen log (Joined member) is same legal pre may =
     let word : 0 ≡ k = test_equal 0 k is in
     subst (λ l. MayJoin l member) (subst (λ (w : ℕ). own w mine ≡ own w log) (sym word) same) may
 may_later k mine seen log (Arrived word) is same legal pre may = tt
+may_later k mine seen log (ReadBegan word) is same legal pre may = tt
 may_later k mine seen log (Began write) is same legal pre may =
     let word : write.word ≡ k = test_equal write.word k is in
     let mine_is : own write.word mine ≡ own write.word log = subst (λ (w : ℕ). own w mine ≡ own w log) (sym word) same in
@@ -185,6 +188,7 @@ opening_legal (Opened setting ∷ []) is = record {
 opening_legal (Opened setting ∷ (e ∷ log)) is = absurd (cc is)
 opening_legal (Joined member ∷ log) is = absurd (cc is)
 opening_legal (Arrived word ∷ log) is = absurd (cc is)
+opening_legal (ReadBegan word ∷ log) is = absurd (cc is)
 opening_legal (Began write ∷ log) is = absurd (cc is)
 opening_legal (Decided decision ∷ log) is = absurd (cc is)
 opening_legal (Served served ∷ log) is = absurd (cc is)

@@ -4,3 +4,4 @@ pub mod Following
 pub mod Steps
 pub mod Shown
 pub mod Servings
+pub mod Fresh

@@ -70,3 +70,33 @@ order {A} (a ∷ xs) x y (inr h) (inr k) = go (order xs x y h k)
     go (inl e) = inl e
     go (inr (inl s)) = inr (inl (further x y s))
     go (inr (inr s)) = inr (inr (further y x s))
+
+-- ---- beginnings of one list
+
+-- of two of them one begins with the other
+pub prefixes_compare : {A : Type 0} (xs ys zs : List A) → IsPrefix xs zs → IsPrefix ys zs → IsPrefix xs ys ⊎ IsPrefix ys xs
+prefixes_compare [] ys zs p q = inl (ys, refl)
+prefixes_compare (x ∷ xs) [] zs p q = inr (x ∷ xs, refl)
+prefixes_compare {A} (x ∷ xs) (y ∷ ys) [] p q = absurd (cc p.1)
+prefixes_compare {A} (x ∷ xs) (y ∷ ys) (z ∷ zs) p q =
+    let first : x ≡ z = (let e = p.1 in cc) in
+    let second : y ≡ z = (let e = q.1 in cc) in
+    go (first ∙ sym second) (prefixes_compare xs ys zs (p.0, (let e = p.1 in cc)) (q.0, (let e = q.1 in cc)))
+  where
+    go : x ≡ y → IsPrefix xs ys ⊎ IsPrefix ys xs → IsPrefix (x ∷ xs) (y ∷ ys) ⊎ IsPrefix (y ∷ ys) (x ∷ xs)
+    go same (inl one) = inl (one.0, (let e = one.1 in cc))
+    go same (inr one) = inr (one.0, (let e = one.1 in cc))
+
+-- what a list with one more begins with is all of it, or what it begins with without that
+pub prefix_of_more : {A : Type 0} (xs before : List A) (e : A) → IsPrefix xs (before ++ e ∷ []) → (xs ≡ before ++ e ∷ []) ⊎ IsPrefix xs before
+prefix_of_more [] before e p = inr (before, refl)
+prefix_of_more (x ∷ []) [] e p = inl (let is = p.1 in cc)
+prefix_of_more (x ∷ y ∷ xs) [] e p = absurd (let is = p.1 in cc)
+prefix_of_more {A} (x ∷ xs) (b ∷ before) e p = go (prefix_of_more xs before e (p.0, (let is = p.1 in cc)))
+  where
+    same : x ≡ b
+    same = let is = p.1 in cc
+
+    go : (xs ≡ before ++ e ∷ []) ⊎ IsPrefix xs before → ((x ∷ xs) ≡ (b ∷ before) ++ e ∷ []) ⊎ IsPrefix (x ∷ xs) (b ∷ before)
+    go (inl all) = inl cc
+    go (inr some) = inr (some.0, (let is = some.1 in cc))

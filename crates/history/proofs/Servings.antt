@@ -7,7 +7,7 @@ use mathlib.Core.List.{IsPrefix}
 use Rattle.plain_store.specs.Replies.{reply_to}
 use Rattle.plain_store.specs.declared.calls.Call.{Call}
 use Rattle.history.specs.declared.entry.HistoryEntry.{HistoryEntry}
-use Rattle.history.specs.declared.entry.HistoryEntry.TheVariants.{Opened, Joined, Arrived, Began, Decided, Served}
+use Rattle.history.specs.declared.entry.HistoryEntry.TheVariants.{Opened, Joined, Arrived, Began, Decided, ReadBegan, Served}
 use Rattle.history.specs.declared.entry.ServedCall.{ServedCall}
 use Rattle.history.specs.Entries.{is_of, own, count, limits_of, room_in, room_of, served_to, served_at, calls_served, reply_in, StandsInHistory}
 use Rattle.history.specs.Legal.{IsLegal}
@@ -24,6 +24,7 @@ no_serving tenant partition (Joined member) is = refl
 no_serving tenant partition (Arrived word) is = refl
 no_serving tenant partition (Began write) is = refl
 no_serving tenant partition (Decided decision) is = refl
+no_serving tenant partition (ReadBegan word) is = refl
 no_serving tenant partition (Served served) is =
     let other : (served.partition == partition) ≡ false = grind (arith, nat_tests, is) in
     ap (λ (b : Bool). cond b (Some served) None) (and_false (served.tenant == tenant) (served.partition == partition) other)
@@ -70,23 +71,25 @@ room_later v log tenant legal pre = ap (λ limits. room_in (slice_get limits ten
 
 -- the call that was added stands in the history, at the next place and with the reply after what was served before
 pub is_served : (entries : ℕ) (served : ServedCall) (seen now : List HistoryEntry) → IsLegal seen → count (served.partition + 1) seen ≡ entries
-    → IsAdded (served.partition + 1) entries (Served served) seen now
-    → StandsInHistory now served (length (calls_served served.tenant served.partition seen) + 1) (reply_in seen served.tenant served.partition served.call)
+    → (a : IsAdded (served.partition + 1) entries (Served served) seen now)
+    → (s : StandsInHistory now served (length (calls_served served.tenant served.partition seen) + 1) (reply_in seen served.tenant served.partition served.call)) × (s.before ≡ seen ++ a.0)
 is_served entries served seen now legal counted a =
     let before = seen ++ a.0 in
     let same : served_at served.tenant served.partition seen ≡ served_at served.tenant served.partition before =
     served_same served.tenant served.partition seen before (a.0, refl) (counted ∙ sym a.2) in
     let calls : calls_served served.tenant served.partition seen ≡ calls_served served.tenant served.partition before =
     ap (λ (l : List ServedCall). reverse (map (λ (s : ServedCall). s.call) l)) same in
-    let room = room_later seen before served.tenant legal (a.0, refl) in
-    record {
-      before = before;
-      after = [];
-      stands = a.1;
-      place_is = ap (λ (l : List Call). length l + 1) calls;
-      reply_is = ap (λ r. reply_to r (calls_served served.tenant served.partition seen) served.call) room
-          ∙ ap (λ (l : List Call). reply_to (room_of before served.tenant) l served.call) calls;
-    }
+    let room = room_later seen before served.tenant legal (a.0, refl) in (
+      record {
+        before = before;
+        after = [];
+        stands = a.1;
+        place_is = ap (λ (l : List Call). length l + 1) calls;
+        reply_is = ap (λ r. reply_to r (calls_served served.tenant served.partition seen) served.call) room
+            ∙ ap (λ (l : List Call). reply_to (room_of before served.tenant) l served.call) calls;
+      },
+      refl,
+    )
 
 -- the word has one entry more
 pub added_count : (k entries : ℕ) (e : HistoryEntry) (seen now : List HistoryEntry) → is_of k e ≡ true → IsAdded k entries e seen now → count k now ≡ entries + 1
@@ -100,6 +103,7 @@ opened_count k (Opened setting ∷ []) is = refl
 opened_count k (Opened setting ∷ (e ∷ log)) is = absurd (cc is)
 opened_count k (Joined member ∷ log) is = absurd (cc is)
 opened_count k (Arrived word ∷ log) is = absurd (cc is)
+opened_count k (ReadBegan word ∷ log) is = absurd (cc is)
 opened_count k (Began write ∷ log) is = absurd (cc is)
 opened_count k (Decided decision ∷ log) is = absurd (cc is)
 opened_count k (Served served ∷ log) is = absurd (cc is)

@@ -20,7 +20,7 @@ use Rattle.plain_store.proofs.Members.{in_left, in_right, in_cases, in_map, in_f
 use Rattle.plain_store.proofs.Cells.{version_accepted, committed_is, first_reply, IsFirstReply}
 use Rattle.plain_store.proofs.Logs.{is_version-parts}
 use Rattle.history.specs.declared.entry.HistoryEntry.{HistoryEntry}
-use Rattle.history.specs.declared.entry.HistoryEntry.TheVariants.{Opened, Joined, Arrived, Began, Decided, Served}
+use Rattle.history.specs.declared.entry.HistoryEntry.TheVariants.{Opened, Joined, Arrived, Began, Decided, ReadBegan, Served}
 use Rattle.history.specs.declared.entry.ServedCall.{ServedCall}
 use Rattle.history.specs.declared.entry.Write.{Write}
 use Rattle.history.specs.Entries.{parts_of, room_of, served_to, served_at, calls_served, StandsInHistory}
@@ -55,6 +55,7 @@ served_to_is : (tenant partition : ℕ) (e : HistoryEntry) (served : ServedCall)
 served_to_is tenant partition (Opened setting) served is = cc
 served_to_is tenant partition (Joined member) served is = cc
 served_to_is tenant partition (Arrived word) served is = cc
+served_to_is tenant partition (ReadBegan word) served is = cc
 served_to_is tenant partition (Began write) served is = cc
 served_to_is tenant partition (Decided decision) served is = cc
 served_to_is tenant partition (Served s) served is = go (s.tenant == tenant && s.partition == partition) refl is
@@ -149,7 +150,7 @@ shown log key (Some stamp) = go (nat_lt stamp (floor log key))
     go false = by (find (is_version key stamp) (kept log)) refl
 
 -- the reply to a GET is the one after the log
-get_is : (room : Room) (log : Log) (key : Key) (stamp : Option Stamp) (reply : ReadReply) → ToGet reply ≡ reply_after room log (Get key stamp)
+pub get_is : (room : Room) (log : Log) (key : Key) (stamp : Option Stamp) (reply : ReadReply) → ToGet reply ≡ reply_after room log (Get key stamp)
     → get_reply log key stamp ≡ reply
 unfolding reply_after
 get_is room log key stamp reply is = cc

@@ -11,7 +11,7 @@ use Rattle.history.specs.declared.entry.HistoryEntry.{HistoryEntry}
 use Rattle.history.specs.declared.entry.HistoryEntry.TheVariants.{Opened, Joined, Arrived}
 use Rattle.history.specs.declared.entry.JoinedClient.{JoinedClient}
 use Rattle.history.specs.declared.entry.StoreOpening.{StoreOpening}
-use Rattle.history.specs.Entries.{is_of, own, count}
+use Rattle.history.specs.Entries.{but_last, is_of, own, count}
 use Rattle.history.specs.Legal.{MayFollow, MayJoin, IsLegal, first_client}
 use Rattle.history.specs.Rules.{IsHome, IsRuleKept, IsAdded, Adds, Looks, Joins, Arrives}
 use Rattle.history.proofs.Lists.{prefix_join, last_in, none_of_none}
@@ -275,3 +275,18 @@ pub told : (k entries : ℕ) (e : HistoryEntry) (mine v now : List HistoryEntry)
     → MatchBool b (IsAdded k entries e mine now) (IsLegal now)
 told k entries e mine v now pre true a = widened k entries e mine v now pre a
 told k entries e mine v now pre false legal = legal
+
+but_last_push : (log : List HistoryEntry) (e : HistoryEntry) → but_last (log ++ e ∷ []) ≡ log
+but_last_push [] e = refl
+but_last_push (d ∷ []) e = refl
+but_last_push (d ∷ c ∷ log) e = ap (λ l. d ∷ l) (but_last_push (c ∷ log) e)
+
+-- what stands before the entry is what was seen, and what came between
+pub before_added : (k entries : ℕ) (e : HistoryEntry) (seen now : List HistoryEntry) (a : IsAdded k entries e seen now) → but_last now ≡ seen ++ a.0
+before_added k entries e seen now a = ap but_last a.1 ∙ but_last_push (seen ++ a.0) e
+
+pub behind : (k entries : ℕ) (e : HistoryEntry) (evidence v now : List HistoryEntry) → IsPrefix evidence v → (b : Bool) → b ≡ true → MatchBool b (IsAdded k entries e v now) (IsLegal now) → IsPrefix evidence (but_last now)
+behind k entries e evidence v now pre true is a =
+    let P : List HistoryEntry → Type 0 = λ l. IsPrefix evidence l in
+    subst P (sym (before_added k entries e v now a)) (prefix_join evidence v (v ++ a.0) pre (a.0, refl))
+behind k entries e evidence v now pre false is a = cc

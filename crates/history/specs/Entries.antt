@@ -1,13 +1,15 @@
 -- What the entries of a running store's history say of a word, of a tenant, and of a partition. The oldest entry stands first.
-use Rattle.std.specs.Prelude.{◌≡◌, ℕ, ◌+◌, ◌==◌, ◌&&◌, Bool, false, cond, List, [], ◌∷◌, ◌++◌, map, reverse, filter, length, slice_get, Option, Some, None}
+use Rattle.std.specs.Prelude.{◌≡◌, ◌≤◌, ℕ, ◌+◌, ◌==◌, ◌&&◌, Bool, false, cond, List, [], ◌∷◌, ◌++◌, map, reverse, filter, length, slice_get, Option, Some, None}
 use Rattle.std.specs.List.{filter_map}
+use mathlib.Core.List.{IsPrefix}
 use Rattle.stamps.specs.declared.bounds.Limits.{Limits}
 use Rattle.plain_store.specs.Words.{Room}
 use Rattle.plain_store.specs.declared.calls.Call.{Call}
 use Rattle.plain_store.specs.declared.calls.Reply.{Reply}
 use Rattle.plain_store.specs.Replies.{reply_to}
 use Rattle.history.specs.declared.entry.HistoryEntry.{HistoryEntry}
-use Rattle.history.specs.declared.entry.HistoryEntry.TheVariants.{Opened, Joined, Arrived, Began, Decided, Served}
+use Rattle.history.specs.declared.entry.HistoryEntry.TheVariants.{Opened, Joined, Arrived, Began, Decided, ReadBegan, Served}
+use Rattle.history.specs.declared.entry.Mark.{Mark}
 use Rattle.history.specs.declared.entry.ServedCall.{ServedCall}
 
 -- whether the word k counts the entry: word 0 counts the clients, word p + 1 what partition p served, and each client has a
@@ -18,14 +20,25 @@ is_of k (Joined member) = 0 == k
 is_of k (Arrived word) = word == k
 is_of k (Began write) = write.word == k
 is_of k (Decided decision) = decision.word == k
+is_of k (ReadBegan word) = word == k
 is_of k (Served served) = (served.partition + 1) == k
 
 -- the entries that the word counts
 abbrev pub own : ℕ → List HistoryEntry → List HistoryEntry
 own k log = filter (is_of k) log
 
+-- all entries but the last
+abbrev pub but_last : List HistoryEntry → List HistoryEntry
+but_last [] = []
+but_last (e ∷ []) = []
+but_last (e ∷ d ∷ log) = e ∷ but_last (d ∷ log)
+
 abbrev pub count : ℕ → List HistoryEntry → ℕ
 count k log = length (own k log)
+
+-- the entries of the mark are there
+abbrev pub HasMark : List HistoryEntry → Mark → Type 0
+HasMark log mark = mark.entries ≤ count mark.word log
 
 -- how many partitions the store has
 abbrev pub parts_of : List HistoryEntry → ℕ
@@ -76,3 +89,8 @@ pub record StandsInHistory (log : List HistoryEntry) (served : ServedCall) (plac
   pub stands : log ≡ before ++ Served served ∷ after
   pub place_is : place ≡ length (calls_served served.tenant served.partition before) + 1
   pub reply_is : reply ≡ reply_in before served.tenant served.partition served.call
+
+-- so behind all that was seen
+pub record StandsBehind (seen log : List HistoryEntry) (served : ServedCall) (place : ℕ) (reply : Reply) : Type 0 where
+  pub stands : StandsInHistory log served place reply
+  pub behind : IsPrefix seen stands.before

@@ -10,7 +10,7 @@ use Rattle.plain_store.specs.declared.calls.PrepareReply.TheVariants.{Prepared}
 use Rattle.plain_store.specs.declared.calls.ReadReply.TheVariants.{Version}
 use Rattle.plain_store.specs.Writing.{record_for}
 use Rattle.history.specs.declared.entry.HistoryEntry.{HistoryEntry}
-use Rattle.history.specs.declared.entry.HistoryEntry.TheVariants.{Opened, Joined, Arrived, Began, Decided, Served}
+use Rattle.history.specs.declared.entry.HistoryEntry.TheVariants.{Opened, Joined, Arrived, Began, Decided, ReadBegan, Served}
 use Rattle.history.specs.declared.entry.Decision.{Decision}
 use Rattle.history.specs.declared.entry.JoinedClient.{JoinedClient}
 use Rattle.history.specs.declared.entry.ServedCall.{ServedCall}
@@ -105,6 +105,7 @@ MayFollow mine before (Joined member) = MayJoin (own 0 mine) member
 MayFollow mine before (Arrived word) = Unit {0}
 MayFollow mine before (Began write) = MayBegin (own write.word mine) before write
 MayFollow mine before (Decided decision) = MayDecide before decision
+MayFollow mine before (ReadBegan word) = Unit {0}
 MayFollow mine before (Served served) = MayServe before served.partition served.tenant served.call
 
 -- A history begins with its opening, and each of its entries may follow those before it.

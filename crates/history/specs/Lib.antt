@@ -2,3 +2,4 @@ pub mod Entries
 pub mod Legal
 pub mod Rules
 pub mod Asking
+pub mod Fresh

@@ -69,8 +69,17 @@ pub enum HistoryEntry {
     Began(Write),
     /// A writer took the last of its replies.
     Decided(Decision),
+    /// A read or a search of the client with this word began.
+    ReadBegan(u64),
     /// A call was served.
     Served(ServedCall),
+}
+
+/// So many entries of a word. What has them has all that stands before the last of them.
+#[derive(Clone, Copy, PartialEq, Eq)]
+pub struct Mark {
+    pub word: u64,
+    pub entries: u64,
 }
 
 /// What a store is opened with.

@@ -1,11 +1,11 @@
 //! Beginnings of the history that were seen.
-ghost use Rattle.std.specs.Prelude.{◌≡◌, ◌≢◌, ◌+◌, ◌<◌, ◌^◌, [], ◌∷◌, MatchBool, IfSome, None, true};
+ghost use Rattle.std.specs.Prelude.{◌≡◌, ◌≢◌, ◌+◌, ◌<◌, ◌^◌, [], ◌∷◌, MatchBool, IfSome, IsTrue, None, true};
 ghost use mathlib.Core.List.{IsPrefix};
 ghost use Rattle.plain_store.specs.Words.{◌∈◌};
-ghost use Rattle.history.specs.declared.entry.HistoryEntry.TheVariants.{Joined, Arrived, Decided};
+ghost use Rattle.history.specs.declared.entry.HistoryEntry.TheVariants.{Joined, Arrived, Decided, ReadBegan};
 ghost use Rattle.history.specs.declared.entry.JoinedClient.{JoinedClient as WhoJoined};
 ghost use Rattle.history.specs.Asking.{began_by, served_by};
-ghost use Rattle.history.specs.Entries.{is_of, own, count};
+ghost use Rattle.history.specs.Entries.{but_last, is_of, own, count};
 ghost use Rattle.history.specs.Legal.{IsLegal, MayFollow, MayBegin, MayDecide, MayServe};
 ghost use Rattle.history.specs.Rules.{IsHome, IsAdded, is_opening};
 
@@ -105,6 +105,7 @@ impl<J: Naming> Front<J> {
         ensures evidence { IsPrefix evidence.now self.new }
         ensures added { MatchBool result
             (IsAdded tally.now.key entries (M.ask about.now) self.old self.new) (IsLegal self.new) }
+        ensures behind { IsTrue result → IsPrefix evidence.now (but_last self.new) }
     {
         self.seen.learn(&evidence.seen);
         let mut offer: Report = self.seen.plain::<Nothing, X, M>(about);
@@ -140,6 +141,8 @@ impl<J: Naming> Front<J> {
         ensures added { MatchBool result
             (IsAdded tally.now.key entries (served_by asked.now) self.old self.new)
             (IsLegal self.new) }
+        // What stands before the entry has what the evidence has seen.
+        ensures behind { IsTrue result → IsPrefix evidence.now (but_last self.new) }
     {
         self.add::<CallToServe<'_>, Add>(tally, entries, evidence, asked)
     }
@@ -181,6 +184,28 @@ impl<J: Naming> Front<J> {
             (IsLegal self.new) }
     {
         self.add::<Decision, Add>(tally, entries, evidence, decision)
+    }
+
+    /// Enters that a read or a search of a client begins, behind all that the evidence has seen, and says whether it did. It did not
+    /// where the client has other entries than were seen here.
+    pub fn begin_read(
+        &mut self,
+        tally: &Tally<J>,
+        entries: u64,
+        evidence: &Front<J>,
+        word: &u64,
+    ) -> bool
+        requires room { entries < 2 ^ 62 }
+        requires client { (tally.now.key ≡ word.now) × (64 < word.now) × (0 < entries) }
+        requires counted { count tally.now.key self.old ≡ entries }
+        ensures later { IsPrefix self.old self.new }
+        ensures evidence { IsPrefix evidence.now self.new }
+        ensures added { MatchBool result
+            (IsAdded tally.now.key entries (ReadBegan word.now) self.old self.new)
+            (IsLegal self.new) }
+        ensures behind { IsTrue result → IsPrefix evidence.now (but_last self.new) }
+    {
+        self.add::<u64, Add>(tally, entries, evidence, word)
     }
 
     /// Enters that a client comes for the first time, as the so many-th (from 0) of all clients, and answers its word. None where

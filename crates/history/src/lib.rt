@@ -9,7 +9,7 @@ mod rule;
 mod tallies;
 
 pub use entry::{
-    AllLimits, CallToServe, Decision, HistoryEntry, JoinedClient, ServedCall, StoreOpening,
+    AllLimits, CallToServe, Decision, HistoryEntry, JoinedClient, Mark, ServedCall, StoreOpening,
     StoreToOpen, Write, WriteToBegin,
 };
 pub use front::Front;

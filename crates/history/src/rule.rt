@@ -104,6 +104,15 @@ impl Plain<Decision, HistoryEntry, u64> for Add {
     ghost state = { λ decision. None };
 }
 
+impl Plain<u64, HistoryEntry, u64> for Add {
+    ghost use Rattle.std.specs.Prelude.{None};
+    ghost use Rattle.history.specs.declared.entry.HistoryEntry.TheVariants.{ReadBegan};
+
+    ghost ask = { λ word. ReadBegan word };
+
+    ghost state = { λ word. None };
+}
+
 impl Plain<JoinedClient, HistoryEntry, u64> for Join {
     ghost use Rattle.std.specs.Prelude.{None};
     ghost use Rattle.history.specs.declared.entry.HistoryEntry.TheVariants.{Joined};

@@ -21,7 +21,9 @@ use Rattle.partition.specs.Events.{Event, event}
 use Rattle.partition.specs.Journals.{EachFollowsFrom, FollowsFrom, IsSoundFrom, IsLate, last_number, log_after, room_for}
 use Rattle.partition.specs.Accounts.{Account, IsCut, IsEntered, IsReplyInEpoch, account_room, base_at, base_in, before_at, events_at, events_in, room_in, new_account, next_account, with_event}
 use Rattle.history.specs.declared.entry.HistoryEntry.{HistoryEntry}
-use Rattle.history.specs.Entries.{StandsInHistory}
+use Rattle.history.specs.declared.entry.Mark.{Mark}
+use Rattle.history.specs.Entries.{HasMark, StandsBehind}
+use Rattle.history.proofs.Counts.{mark_later}
 use Rattle.shard.specs.declared.jobs.Fault.{Fault}
 use Rattle.shard.specs.declared.jobs.Fault.TheVariants.{NoTenant, Late}
 use Rattle.shard.specs.declared.jobs.PlacedReply.{PlacedReply as Answered}
@@ -153,28 +155,28 @@ called-of ours at parts partition tenant seat number old new call reply (Err fau
     subst (λ (xs : List Account). ∥ AreOf ours at xs ∥₁) (sym unchanged) journals
 
 -- a call that was served is an event of the journals, and stands in the history that was seen
-served-in : (seen : List HistoryEntry) (parts partition tenant seat number place : ℕ) (old new : List Account) (call : Call) (reply : Option Reply) → tenant < length old
+served-in : (seen past : List HistoryEntry) (mark : Mark) (parts partition tenant seat number place : ℕ) (old new : List Account) (call : Call) (reply : Option Reply) → tenant < length old
     → AreOf parts partition new → IsSomeAnd reply (λ r. IsEntered old new tenant (event seat number call r))
-    → place ≡ before_at old tenant + length (events_at old tenant) + 1 → IsSomeAnd reply (λ r. StandsInHistory seen (served_call partition tenant seat number call) place r)
-    → IsSomeAnd reply (λ r. IsServedIn seen partition tenant seat number place call r)
-served-in seen parts partition tenant seat number place old new call None there of entered at stands = absurd entered
-served-in seen parts partition tenant seat number place old new call (Some r) there of entered at stands =
-    record { parts = parts; before = old; after = new; journals = of; there = there; entered = entered; place = at; stands = stands }
+    → place ≡ before_at old tenant + length (events_at old tenant) + 1 → IsSomeAnd reply (λ r. StandsBehind past seen (served_call partition tenant seat number call) place r) → HasMark past mark
+    → IsSomeAnd reply (λ r. IsServedIn seen mark partition tenant seat number place call r)
+served-in seen past mark parts partition tenant seat number place old new call None there of entered at stands marked = absurd entered
+served-in seen past mark parts partition tenant seat number place old new call (Some r) there of entered at stands marked =
+    record { parts = parts; before = old; after = new; journals = of; there = there; entered = entered; place = at; stands = stands.stands; late = mark_later past stands.stands.before mark stands.behind marked }
 
 -- the same of a message with its reply in it, whose partition goes by three names
-pub came-so : (seen : List HistoryEntry) (ours at own parts partition tenant seat number place : ℕ) (old new : List Account) (before after : Message)
+pub came-so : (seen past : List HistoryEntry) (mark : Mark) (ours at own parts partition tenant seat number place : ℕ) (old new : List Account) (before after : Message)
     → (IsErrOf (Ok place) NoTenant ↔ (length old ≤ tenant)) → IsSomeAnd after.reply (λ r. IsEntered old new tenant (event seat number before.call r))
     → place ≡ before_at old tenant + length (events_at old tenant) + 1 → after ≡ record before { reply = after.reply }
-    → IsSomeAnd after.reply (λ r. StandsInHistory seen (served_call own tenant seat number before.call) place r)
-    → (partition ≡ at) × (parts ≡ ours) → own ≡ at → ∥ AreOf ours at new ∥₁ → CameSo seen partition tenant seat number after (Ok place)
-came-so seen ours at own parts partition tenant seat number place old new before after there entered place_is same stands here its journals =
+    → IsSomeAnd after.reply (λ r. StandsBehind past seen (served_call own tenant seat number before.call) place r) → HasMark past mark
+    → (partition ≡ at) × (parts ≡ ours) → own ≡ at → ∥ AreOf ours at new ∥₁ → CameSo seen mark partition tenant seat number after (Ok place)
+came-so seen past mark ours at own parts partition tenant seat number place old new before after there entered place_is same stands marked here its journals =
     let within : tenant < length old = omega (arith, λ (past : length old ≤ tenant). absent (there.1 past)) in
     let call : before.call ≡ after.call = ap (λ (m : Message). m.call) (sym same) in
-    let P : Call → Type 0 = λ k. IsSomeAnd after.reply (λ r. IsServedIn seen partition tenant seat number place k r) in
-    let S : ℕ → Type 0 = λ p. IsSomeAnd after.reply (λ r. StandsInHistory seen (served_call p tenant seat number before.call) place r) in
+    let P : Call → Type 0 = λ k. IsSomeAnd after.reply (λ r. IsServedIn seen mark partition tenant seat number place k r) in
+    let S : ℕ → Type 0 = λ p. IsSomeAnd after.reply (λ r. StandsBehind past seen (served_call p tenant seat number before.call) place r) in
     let stands_here : S partition = subst S (its ∙ sym here.0) stands in
     ∥∥₁_map (moved_to ours at parts partition new (sym here.1) (sym here.0) journals)
-    (λ of. subst P call (served-in seen parts partition tenant seat number place old new before.call after.reply within of entered place_is stands_here))
+    (λ of. subst P call (served-in seen past mark parts partition tenant seat number place old new before.call after.reply within of entered place_is stands_here marked))
   where
     absent : Ok place ≡ Err NoTenant → ⊥
     absent was = cc

@@ -9,7 +9,8 @@ use Rattle.partition.specs.Events.{Event, event}
 use Rattle.partition.specs.Accounts.{Account, AreSound, IsCut, IsEntered, before_at, events_at}
 use Rattle.history.specs.declared.entry.HistoryEntry.{HistoryEntry}
 use Rattle.history.specs.declared.entry.ServedCall.{ServedCall}
-use Rattle.history.specs.Entries.{StandsInHistory}
+use Rattle.history.specs.declared.entry.Mark.{Mark}
+use Rattle.history.specs.Entries.{HasMark, StandsInHistory}
 use Rattle.shard.specs.declared.jobs.Fault.{Fault}
 use Rattle.shard.specs.declared.jobs.Fault.TheVariants.{NoTenant}
 use Rattle.shard.specs.declared.shard.CallState.{CallState}
@@ -30,8 +31,9 @@ served_call partition tenant seat number call =
 -- The seat's call of this number was served for this tenant at this partition: among the journals of that
 -- partition it is the
 -- event at this place of the tenant's, with this reply. They are sound, so the reply is the definition's after
--- the events before it. And the history that was seen has the call there, at that place of the tenant's calls, with that reply.
-pub record IsServedIn (seen : List HistoryEntry) (partition tenant seat number at : ℕ) (call : Call) (reply : Reply) : Type 0 where
+-- the events before it. And the history that was seen has the call there, at that place of the tenant's calls, with that reply,
+-- behind the mark.
+pub record IsServedIn (seen : List HistoryEntry) (mark : Mark) (partition tenant seat number at : ℕ) (call : Call) (reply : Reply) : Type 0 where
   pub parts : ℕ
   pub before : List Account
   pub after : List Account
@@ -40,16 +42,17 @@ pub record IsServedIn (seen : List HistoryEntry) (partition tenant seat number a
   pub entered : IsEntered before after tenant (event seat number call reply)
   pub place : at ≡ before_at before tenant + length (events_at before tenant) + 1
   pub stands : StandsInHistory seen (served_call partition tenant seat number call) at reply
+  pub late : HasMark stands.before mark
 
 -- so of a message with its reply in it
-abbrev pub HasReplyIn : List HistoryEntry → ℕ → ℕ → ℕ → ℕ → Message → ℕ → Type 0
-HasReplyIn seen partition tenant seat number message at =
-    IsSomeAnd message.reply (λ reply. IsServedIn seen partition tenant seat number at message.call reply)
+abbrev pub HasReplyIn : List HistoryEntry → Mark → ℕ → ℕ → ℕ → ℕ → Message → ℕ → Type 0
+HasReplyIn seen mark partition tenant seat number message at =
+    IsSomeAnd message.reply (λ reply. IsServedIn seen mark partition tenant seat number at message.call reply)
 
 -- what came of a call of a seat: where it was served at a place, there is a reply that was given there
-abbrev pub CameSo : List HistoryEntry → ℕ → ℕ → ℕ → ℕ → Message → Result ℕ Fault → Type 0
-CameSo seen partition tenant seat number message outcome =
-    ∥ IfOk outcome (HasReplyIn seen partition tenant seat number message) ∥₁
+abbrev pub CameSo : List HistoryEntry → Mark → ℕ → ℕ → ℕ → ℕ → Message → Result ℕ Fault → Type 0
+CameSo seen mark partition tenant seat number message outcome =
+    ∥ IfOk outcome (HasReplyIn seen mark partition tenant seat number message) ∥₁
 
 -- what has come of a staged call; one that was not served has no tenant
 abbrev pub came_to : CallState → Result ℕ Fault

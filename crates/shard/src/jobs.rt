@@ -9,7 +9,7 @@ ghost use Rattle.shard.specs.Journals.{CameSo};
 use crate::seat_call::SeatCall;
 use crossbeam_channel::protocol::{Free, Lesson, Outcome, Protocol, Split};
 use crossbeam_channel::{Pass, RuledReceiver, RuledSender, Sender, bounded_with};
-use history::{Front, Naming};
+use history::{Front, Mark, Naming};
 use plain_store::{Message, Refusal, Reply};
 use std::alloc::{AllocError, Global};
 use std::marker::Model;
@@ -57,9 +57,11 @@ pub struct SeatReply<J: Naming> {
     pub partition: u32,
     pub outcome: Result<u64, Fault>,
     pub message: Box<Message>,
+    /// That of its call.
+    pub mark: Mark,
     /// What was seen of the history: where the call was served, it stands there.
     pub front: Front<J>,
-    ghost came: { CameSo front partition tenant seat number message.value outcome },
+    ghost came: { CameSo front mark partition tenant seat number message.value outcome },
 }
 
 /// A call that the worker is to serve, and where its reply goes.

@@ -4,7 +4,7 @@ ghost use Rattle.std.specs.Sync.Mutex.{mutex_guard_value};
 ghost use Rattle.std.specs.VecDeque.{deque_capacity, deque_len};
 ghost use Rattle.partition.specs.Accounts.{events_at};
 ghost use mathlib.Core.List.{IsPrefix};
-ghost use Rattle.history.specs.Entries.{StandsInHistory};
+ghost use Rattle.history.specs.Entries.{StandsBehind};
 ghost use Rattle.history.specs.Legal.{MayServe};
 ghost use Rattle.shard.specs.Counted.{IsCounted, NotesEvent, NotesEvents, nothing_due};
 ghost use Rattle.shard.specs.Journals.{AreOf, CameSo, came_to};
@@ -29,12 +29,15 @@ use std::sync::{Arc, Mutex, MutexGuard, Wait};
 use std::thread;
 use traced_book::TracedBook;
 
-/// How often a seat looks whether a lock is free before it lets other threads run, how long it waits in between, and how often it
-/// lets them run before it sleeps. A yield puts it behind all that are ready to run, so it looks for longer than most waits take.
+/// How often a seat looks whether a lock is free before it lets other threads run. A yield puts it behind all that are ready to
+/// run, so it looks for longer than most waits take.
 const LOOKS: u32 = 1000;
 
+/// How many hints it gives the processor between two looks. The kit has no instruction for one, so the looks follow each other at
+/// once.
 const WAITS: u32 = 4;
 
+/// How often it lets other threads run before it sleeps.
 const YIELDS: u32 = 16;
 
 /// Bytes that nothing reads: what stands before them and what stands behind them lie on different cache lines.
@@ -107,7 +110,7 @@ pub enum CallState {
 pub struct Staged<J: Naming> {
     pub call: SeatCall<J>,
     pub stage: CallState,
-    ghost came: { CameSo call.front call.partition call.tenant call.seat call.number call.message.value (came_to stage) },
+    ghost came: { CameSo call.front call.mark call.partition call.tenant call.seat call.number call.message.value (came_to stage) },
 }
 
 impl CallState {
@@ -337,9 +340,10 @@ impl<J: Naming> ShardState<J> {
         call: &mut SeatCall<J>,
         follow_up: &mut FollowUp,
     ) -> Result<u64, Fault>
-        ensures came { CameSo call.new.front call.new.partition call.new.tenant call.new.seat
+        ensures came { CameSo call.new.front call.new.mark call.new.partition call.new.tenant call.new.seat
             call.new.number call.new.message.value result }
         ensures asked { asked_of call.new ≡ asked_of call.old }
+        ensures mark { call.new.mark ≡ call.old.mark }
         ensures enters { EntersCall self.old.book.accounts self.new.book.accounts call.old.tenant
             call.old.seat call.old.number call.old.message.value.call (λ place. place)
             (λ _. call.new.message.value.reply) result }
@@ -365,9 +369,10 @@ impl<J: Naming> ShardState<J> {
         follow_up: &mut FollowUp,
     ) -> Result<u64, Fault>
         requires { (call.old.partition ≡ self.old.partition) × (call.old.parts ≡ self.old.parts) }
-        ensures came { CameSo call.new.front call.new.partition call.new.tenant call.new.seat
+        ensures came { CameSo call.new.front call.new.mark call.new.partition call.new.tenant call.new.seat
             call.new.number call.new.message.value result }
         ensures asked { asked_of call.new ≡ asked_of call.old }
+        ensures mark { call.new.mark ≡ call.old.mark }
         ensures enters { EntersCall self.old.book.accounts self.new.book.accounts call.old.tenant
             call.old.seat call.old.number call.old.message.value.call (λ place. place)
             (λ _. call.new.message.value.reply) result }
@@ -491,7 +496,7 @@ fn serve_message<G: Gate, J: Naming>(
         (λ place.
         IsSomeAnd message.new.reply
         (λ r.
-        StandsInHistory evidence.new
+        StandsBehind evidence.old evidence.new
         (record { partition = book.old.partition; tenant = tenant; seat = caller.seat; number = caller.number; call = message.old.call }) place r)) }
     ensures message { message.new ≡ record message.old { reply = message.new.reply } }
     ensures unwritten { OnErr result (message.new ≡ message.old) }

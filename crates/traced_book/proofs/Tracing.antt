@@ -1,6 +1,6 @@
 -- What a book has of the history, from one step to the next.
 use Rattle.std.proofs.Common.{◌≡◌, ◌≢◌, ◌∙◌, ℕ, ◌+◌, ◌<◌, Bool, true, false, List, [], ◌∷◌, ◌++◌, length, map, reverse, filter_map, Option, Some, None, ⊎_elim, refl, ap, sym, subst, arith, append_assoc, length-append}
-use Rattle.std.specs.Prelude.{◌^◌, ⊤, slice_get, IfOk, IsSomeAnd, MatchBool, OnErr, Result, Ok, Err}
+use Rattle.std.specs.Prelude.{◌^◌, ⊤, slice_get, IfOk, IsSomeAnd, IsTrue, MatchBool, OnErr, Result, Ok, Err}
 use Rattle.std.specs.List.{cons_option}
 use Rattle.std.specs.Option.{option_map}
 use Rattle.std.proofs.lemmas.Bool.Decides.{eqb_tells}
@@ -24,15 +24,16 @@ use Rattle.partition.specs.Journals.{event_exchange, log_after, room_for}
 use Rattle.history.specs.declared.entry.CallToServe.{CallToServe}
 use Rattle.history.specs.declared.entry.HistoryEntry.{HistoryEntry}
 use Rattle.history.specs.Asking.{served_by}
-use Rattle.history.specs.declared.entry.HistoryEntry.TheVariants.{Opened, Joined, Arrived, Began, Decided, Served}
+use Rattle.history.specs.declared.entry.HistoryEntry.TheVariants.{Opened, Joined, Arrived, Began, Decided, ReadBegan, Served}
 use Rattle.history.specs.declared.entry.ServedCall.{ServedCall}
 use Rattle.history.specs.declared.entry.StoreOpening.{StoreOpening}
-use Rattle.history.specs.Entries.{calls_of, calls_served, count, limits_of, reply_in, room_in, room_of, served_at, served_to, StandsInHistory}
+use Rattle.history.specs.Entries.{but_last, calls_of, calls_served, count, limits_of, reply_in, room_in, room_of, served_at, served_to, StandsBehind}
 use Rattle.history.specs.Legal.{IsLegal}
 use Rattle.history.specs.Rules.{IsAdded, is_opening}
 use Rattle.history.proofs.Counts.{equal_test, other_test}
 use Rattle.history.proofs.Shown.{to_is}
 use Rattle.history.proofs.Servings.{is_served, room_later, served_added}
+use Rattle.history.proofs.Steps.{before_added}
 use Rattle.traced_book.specs.Entering.{HasEntered}
 use Rattle.traced_book.specs.Traced.{AreTraced, IsStretch, IsTraced, served_of}
 
@@ -278,6 +279,7 @@ opened_traced (Opened setting ∷ []) partition opens tenant account is =
 opened_traced (Opened setting ∷ (e ∷ log)) partition opens tenant account is = absurd (cc opens)
 opened_traced (Joined member ∷ log) partition opens tenant account is = absurd (cc opens)
 opened_traced (Arrived word ∷ log) partition opens tenant account is = absurd (cc opens)
+opened_traced (ReadBegan word ∷ log) partition opens tenant account is = absurd (cc opens)
 opened_traced (Began write ∷ log) partition opens tenant account is = absurd (cc opens)
 opened_traced (Decided decision ∷ log) partition opens tenant account is = absurd (cc opens)
 opened_traced (Served served ∷ log) partition opens tenant account is = absurd (cc opens)
@@ -285,9 +287,9 @@ opened_traced (Served served ∷ log) partition opens tenant account is = absurd
 -- ---- what an admission comes to
 
 pub entered_or_not : (b : Bool) (k entries : ℕ) (asked : CallToServe) (mine evidence now : List HistoryEntry) → entries < 2 ^ 62 → IsPrefix evidence now
-    → MatchBool b (IsAdded k entries (served_by asked) mine now) (IsLegal now) → MatchBool b (HasEntered k entries asked mine evidence now) ⊤
-entered_or_not true k entries asked mine evidence now few shown added = record { few = few; added = added; shown = shown }
-entered_or_not false k entries asked mine evidence now few shown added = tt
+    → MatchBool b (IsAdded k entries (served_by asked) mine now) (IsLegal now) → (IsTrue b → IsPrefix evidence (but_last now)) → MatchBool b (HasEntered k entries asked mine evidence now) ⊤
+entered_or_not true k entries asked mine evidence now few shown added behind = record { few = few; added = added; shown = shown; behind = behind refl }
+entered_or_not false k entries asked mine evidence now few shown added behind = tt
 
 -- ---- what serving a call comes to
 
@@ -296,7 +298,7 @@ place_at : (accounts : List Account) (tenant : ℕ) (account : Account) → slic
 unfolding before_at events_at
 place_at accounts tenant account is = ap (λ (o : Option Account). before_in o + length (events_in o)) is
 
-module _ (log now : List HistoryEntry) (partition tenant entries seat number : ℕ) (call : Call) (legal : IsLegal log) (counted : count (partition + 1) log ≡ entries)
+module _ (log now evidence : List HistoryEntry) (partition tenant entries seat number : ℕ) (call : Call) (legal : IsLegal log) (counted : count (partition + 1) log ≡ entries)
     (add : IsAdded (partition + 1) entries (Served (record { partition = partition; tenant = tenant; seat = seat; number = number; call = call })) log now)
     (old new : List Account) (there : tenant < length old) (traced : AreTraced log partition old) where
   -- the book has what the history has
@@ -306,29 +308,34 @@ module _ (log now : List HistoryEntry) (partition tenant entries seat number : �
   served_traced (Some r) entered told =
       are_added log now partition tenant entries (event seat number call r) legal counted add old new there entered told traced
 
-  told_at : (account : Account) (place : ℕ) (r : Reply) → slice_get old tenant ≡ Some account
+  told_at : (account : Account) (place : ℕ) (r : Reply) → IsPrefix evidence (but_last now) → slice_get old tenant ≡ Some account
       → place ≡ before_at old tenant + length (events_at old tenant) + 1 → IsReplyInEpoch old tenant call r
-      → StandsInHistory now (record { partition = partition; tenant = tenant; seat = seat; number = number; call = call }) place r
-  told_at account place r is place_is told =
+      → StandsBehind evidence now (record { partition = partition; tenant = tenant; seat = seat; number = number; call = call }) place r
+  told_at account place r behind is place_is told =
       let t = traced tenant account is in
-      let s = is_served entries (record { partition = partition; tenant = tenant; seat = seat; number = number; call = call }) log now legal counted add in
+      let last = is_served entries (record { partition = partition; tenant = tenant; seat = seat; number = number; call = call }) log now legal counted add in
+      let s = last.0 in
+      let P : List HistoryEntry → Type 0 = λ l. IsPrefix evidence l in
       let at : before_at old tenant + length (events_at old tenant) ≡ length (calls_served tenant partition log) =
       place_at old tenant account is ∙ sym (places_of log partition tenant account t) in
       let reply : r ≡ reply_in log tenant partition call =
       reply_is log partition tenant account call r t
       (in_epoch log now partition tenant entries (event seat number call r) legal counted add old account is told) in
       record {
-        before = s.before;
-        after = s.after;
-        stands = s.stands;
-        place_is = place_is ∙ ap (λ (n : ℕ). n + 1) at ∙ s.place_is;
-        reply_is = reply ∙ s.reply_is;
+        stands = record {
+          before = s.before;
+          after = s.after;
+          stands = s.stands;
+          place_is = place_is ∙ ap (λ (n : ℕ). n + 1) at ∙ s.place_is;
+          reply_is = reply ∙ s.reply_is;
+        };
+        behind = subst P (before_added (partition + 1) entries _ log now add ∙ sym last.1) behind;
       }
 
   -- and the history has the call at its place, with its reply
-  pub served_told : (place : ℕ) (reply : Option Reply) → place ≡ before_at old tenant + length (events_at old tenant) + 1
+  pub served_told : (place : ℕ) (reply : Option Reply) → IsPrefix evidence (but_last now) → place ≡ before_at old tenant + length (events_at old tenant) + 1
       → IsSomeAnd reply (λ told. IsReplyInEpoch old tenant call told)
-      → IsSomeAnd reply (λ told. StandsInHistory now (record { partition = partition; tenant = tenant; seat = seat; number = number; call = call }) place told)
-  served_told place None place_is told = absurd told
-  served_told place (Some r) place_is told =
-      ⊎_elim (λ h. told_at h.0 place r h.2 place_is told) (λ h. absurd (omega (arith, h.0, there))) (slice_get_cases old tenant).1
+      → IsSomeAnd reply (λ told. StandsBehind evidence now (record { partition = partition; tenant = tenant; seat = seat; number = number; call = call }) place told)
+  served_told place None behind place_is told = absurd told
+  served_told place (Some r) behind place_is told =
+      ⊎_elim (λ h. told_at h.0 place r behind h.2 place_is told) (λ h. absurd (omega (arith, h.0, there))) (slice_get_cases old tenant).1

@@ -4,7 +4,7 @@ ghost use mathlib.Core.List.{IsPrefix};
 ghost use Rattle.partition.specs.Accounts.{events_at, new_account, IsCut, IsPastAt};
 ghost use Rattle.partition.specs.Journals.{IsLate};
 ghost use Rattle.partition.specs.Serving.{EntersCall};
-ghost use Rattle.history.specs.Entries.{limits_of, StandsInHistory};
+ghost use Rattle.history.specs.Entries.{limits_of, StandsBehind};
 ghost use Rattle.history.specs.Legal.{IsLegal, MayServe};
 ghost use Rattle.history.specs.Rules.{is_opening};
 ghost use Rattle.traced_book.specs.Traced.{AreTraced, IsStretch};
@@ -106,12 +106,12 @@ impl<J: Naming> TracedBook<J> {
 
         ensures enters { EntersCall self.old.accounts self.new.accounts tenant caller.seat
             caller.number call.now (λ place. place) (λ _. reply.new) result }
-        // The history that was seen has the call at that place, with this reply.
+        // The history that was seen has the call at that place, with this reply, behind all that the evidence had seen.
         ensures served { IfOk result
             (λ place.
             IsSomeAnd reply.new
             (λ told.
-            StandsInHistory evidence.new
+            StandsBehind evidence.old evidence.new
             (record { partition = self.old.partition; tenant = tenant; seat = caller.seat; number = caller.number; call = call.now }) place told)) }
         ensures partition { self.new.partition ≡ self.old.partition }
         ensures later { IsPrefix self.old.seen self.new.seen }

@@ -5,15 +5,16 @@ use Rattle.stamps.specs.Stamp.{client_of}
 use Rattle.plain_store.specs.Words.{◌∈◌}
 use Rattle.plain_store.proofs.Members.{in_cases}
 use Rattle.history.specs.declared.entry.HistoryEntry.{HistoryEntry}
-use Rattle.history.specs.declared.entry.HistoryEntry.TheVariants.{Joined, Arrived, Began, Decided}
+use Rattle.history.specs.declared.entry.HistoryEntry.TheVariants.{Joined, Arrived, Began, Decided, ReadBegan}
 use Rattle.history.specs.declared.entry.Decision.{Decision}
 use Rattle.history.specs.declared.entry.Write.{Write}
-use Rattle.history.specs.Entries.{is_of, own, count}
+use Rattle.history.specs.Entries.{but_last, is_of, own, count}
 use Rattle.history.specs.Legal.{MayBegin}
 use Rattle.history.specs.Rules.{IsAdded}
-use Rattle.history.proofs.Counts.{equal_test, own_append, own_one, own_same}
-use Rattle.history.proofs.Lists.{last_in, prefix_has}
-use Rattle.traced_client.specs.Clients.{IsTracedClient}
+use Rattle.history.proofs.Counts.{count_later, equal_test, own_append, own_one, own_same}
+use Rattle.history.proofs.Lists.{last_in, prefix_has, prefix_join, prefix_of_more, prefixes_compare}
+use Rattle.history.proofs.Steps.{before_added}
+use Rattle.traced_client.specs.Clients.{HasWith, IsTracedClient}
 
 -- the entry is behind those of the word that were seen
 pub own_added : (k entries : ℕ) (e : HistoryEntry) (seen now : List HistoryEntry) → is_of k e ≡ true → count k seen ≡ entries → IsAdded k entries e seen now
@@ -91,3 +92,50 @@ traced_new word tenant client seen high joined alone = record {
     go : (other : Write) → Began other ∈ (Arrived word ∷ []) → other.stamp ≤ 0
     go other (inl same) = absurd (cc same)
     go other (inr none) = absurd none
+
+-- a read of the client that began
+pub traced_asked : (word tenant client last entries : ℕ) (seen now : List HistoryEntry) → IsTracedClient word tenant client last seen
+    → count word seen ≡ entries → IsAdded word entries (ReadBegan word) seen now → IsTracedClient word tenant client last now
+traced_asked word tenant client last entries seen now its counted a =
+    let e : HistoryEntry = ReadBegan word in
+    let one : is_of word e ≡ true = equal_test word word refl in
+    let pre = added_later word entries e seen now a in
+    record {
+      high = its.high;
+      some = added_some word entries e seen now one counted a;
+      joined = prefix_has seen now _ pre its.joined;
+      above = λ other has. go other (in_cases (own word seen) (e ∷ []) (Began other) (subst (λ (l : List HistoryEntry). Began other ∈ l) (own_added word entries e seen now one counted a) has));
+    }
+  where
+    go : (other : Write) → (Began other ∈ own word seen) ⊎ (Began other ∈ (ReadBegan word ∷ [])) → other.stamp ≤ last
+    go other (inl before) = its.above other before
+    go other (inr (inl same)) = absurd (cc same)
+    go other (inr (inr none)) = absurd none
+
+-- what has as many entries of the word as there are with the entry has what the entry was added behind
+pub has_with : (word entries : ℕ) (e : HistoryEntry) (seen now evidence : List HistoryEntry) → is_of word e ≡ true → count word seen ≡ entries → IsAdded word entries e seen now
+    → IsPrefix evidence (but_last now) → HasWith (record { word = word; entries = entries + 1 }) now evidence
+has_with word entries e seen now evidence its counted a behind log all this that many = go (prefixes_compare now log all this that)
+  where
+    before : List HistoryEntry
+    before = seen ++ a.0
+
+    -- what stands before the entry has one less
+    fewer : IsPrefix log before → ⊥
+    fewer pre = let more = count_later word log before pre in let here : count word before ≡ entries = a.2 in omega (arith, more, here, many)
+
+    go : IsPrefix now log ⊎ IsPrefix log now → IsPrefix evidence log
+    go (inl longer) =
+        let P : List HistoryEntry → Type 0 = λ l. IsPrefix evidence l in
+        let here : IsPrefix evidence before = subst P (before_added word entries e seen now a) behind in
+        let less : IsPrefix before now = (e ∷ [], sym a.1) in
+        prefix_join evidence before log here (prefix_join before now log less longer)
+    go (inr shorter) =
+        from (prefix_of_more log before e (subst (λ (l : List HistoryEntry). IsPrefix log l) a.1 shorter))
+      where
+        from : (log ≡ before ++ e ∷ []) ⊎ IsPrefix log before → IsPrefix evidence log
+        from (inr less) = absurd (fewer less)
+        from (inl same) =
+            let P : List HistoryEntry → Type 0 = λ l. IsPrefix evidence l in
+            let here : IsPrefix evidence before = subst P (before_added word entries e seen now a) behind in
+            prefix_join evidence before log here (e ∷ [], sym same)

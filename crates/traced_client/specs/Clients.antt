@@ -1,5 +1,6 @@
 -- What a client has of the history.
 use Rattle.std.specs.Prelude.{ℕ, ◌≡◌, ◌<◌, ◌≤◌, ◌+◌, ◌*◌, Bool, true, false, List, [], ◌∷◌, ◌++◌, Option, Some, IsSome, nat_eq}
+use mathlib.Core.List.{IsPrefix}
 use Rattle.indexmap.specs.IndexMap.{IndexMap, get}
 use Rattle.plain_store.specs.declared.refusal.Refusal.{Refusal}
 use Rattle.plain_store.specs.declared.refusal.Refusal.TheVariants.{Busy, RowsUsed, OutOfMemory}
@@ -7,8 +8,9 @@ use Rattle.plain_store.specs.Words.{◌∈◌}
 use Rattle.history.specs.declared.entry.HistoryEntry.{HistoryEntry}
 use Rattle.history.specs.declared.entry.HistoryEntry.TheVariants.{Joined, Began}
 use Rattle.history.specs.declared.entry.JoinedClient.{JoinedClient}
+use Rattle.history.specs.declared.entry.Mark.{Mark}
 use Rattle.history.specs.declared.entry.Write.{Write}
-use Rattle.history.specs.Entries.{own, count}
+use Rattle.history.specs.Entries.{HasMark, own, count}
 
 -- the client's word, whose it is, the stamp of its last write, and what was seen of the history
 pub record ClientTrace : Type 0 where
@@ -30,6 +32,11 @@ pub record IsSameClient (old new : ClientTrace) : Type 0 where
   pub word : new.word ≡ old.word
   pub tenant : new.tenant ≡ old.tenant
   pub client : new.client ≡ old.client
+
+-- what has the mark has all of this, if it and what was seen are beginnings of one history
+abbrev pub HasWith : Mark → (seen evidence : List HistoryEntry) → Type 0
+HasWith mark seen evidence =
+    (log all : List HistoryEntry) → IsPrefix seen all → IsPrefix log all → HasMark log mark → IsPrefix evidence log
 
 -- The entry is the client's own, behind those that it had, and the one of its word since then.
 abbrev pub IsEntered : HistoryEntry → ClientTrace → ClientTrace → Type 0

@@ -1,13 +1,13 @@
 //! A client's word beside what the client has seen of the history.
-ghost use Rattle.std.specs.Prelude.{◌≡◌, ◌<◌, ◌↔◌, [], ◌∷◌, cond, IsTrue, false};
+ghost use Rattle.std.specs.Prelude.{◌≡◌, ◌<◌, ◌↔◌, [], ◌∷◌, cond, IfNone, IfSome, IsTrue, false};
 ghost use mathlib.Core.List.{IsPrefix};
 ghost use Rattle.plain_store.specs.Words.{◌∈◌};
-ghost use Rattle.history.specs.declared.entry.HistoryEntry.TheVariants.{Joined, Arrived, Began, Decided};
-ghost use Rattle.history.specs.Entries.{own};
+ghost use Rattle.history.specs.declared.entry.HistoryEntry.TheVariants.{Joined, Arrived, Began, Decided, ReadBegan};
+ghost use Rattle.history.specs.Entries.{HasMark, own};
 ghost use Rattle.history.specs.Legal.{MayDecide};
-ghost use Rattle.traced_client.specs.Clients.{IsEntered, IsSameClient};
+ghost use Rattle.traced_client.specs.Clients.{HasWith, IsEntered, IsSameClient};
 
-use history::{Decision, Front, Naming, Tally, WriteToBegin};
+use history::{Decision, Front, Mark, Naming, Tally, WriteToBegin};
 use stamps::{Client, Item, Stamp};
 use std::marker::Model;
 
@@ -108,6 +108,34 @@ impl<J: Naming> TracedClient<J> {
         self.entries += 1;
         self.last = stamp;
         true
+    }
+
+    /// Enters that a read or a search of the client begins, behind all that the evidence has seen, and answers its mark: what has it
+    /// has what the evidence has. None where the client has other entries than were seen here, or 2^62. Then nothing has changed.
+    pub fn begin_read(&mut self, evidence: &Front<J>) -> Option<Mark>
+        ensures since { IfSome result (λ mark. HasWith mark self.new.seen evidence.now) }
+        ensures marked { IfSome result (λ mark. HasMark self.new.seen mark) }
+        ensures entered { IfSome result
+            (λ _. IsEntered (ReadBegan self.old.word) self.old self.new) }
+        ensures last { self.new.last ≡ self.old.last }
+        ensures later { IsPrefix self.old.seen self.new.seen }
+        ensures whose { IsSameClient self.old self.new }
+        ensures unchanged { IfNone result (self.new ≡ self.old) }
+    {
+        if self.entries >= MOST {
+            return None;
+        }
+        let word = self.tally.key;
+        let mut front = self.front.again();
+        if !front.begin_read(&self.tally, self.entries, evidence, &word) {
+            return None;
+        }
+        self.front = front;
+        self.entries += 1;
+        Some(Mark {
+            word,
+            entries: self.entries,
+        })
     }
 
     /// Enters that the write of this stamp is decided, and says whether it did. It did not where the client has other entries than

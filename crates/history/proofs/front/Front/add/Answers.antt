@@ -3,7 +3,7 @@ use Rattle.history.specs.declared.entry.HistoryEntry.{HistoryEntry}
 use Rattle.history.specs.Entries.{count}
 use Rattle.history.specs.Legal.{IsLegal, MayFollow}
 use Rattle.history.specs.Rules.{IsHome, IsAdded}
-use Rattle.history.proofs.Steps.{adds_moves, told}
+use Rattle.history.proofs.Steps.{adds_moves, behind, told}
 use Rattle.history.proofs.front.Front.add.Goals as goal
 
 pub compare_exchange-found-requires : goal.compare_exchange-found-requires
@@ -41,3 +41,19 @@ returns-clause-added g c =
     (subst (λ (d : HistoryEntry). MatchBool b (IsAdded c.args.tally.now.word.key entries d v now) (IsLegal now)) c.plain-offer.ensures.1
     c.compare_exchange-found.ensures.7) in
     rw (← c.self.view_is) (told c.args.tally.now.key entries e c.self.inside.seen.log v now c.learn.ensures.2 b added)
+
+-- it was added behind all that was learned
+pub returns-clause-behind : goal.returns-clause-behind
+returns-clause-behind g c did =
+    let word = c.args.tally.now.word_is in
+    let entries = c.args.entries in
+    let v = c.learn.new.self.log in
+    let now = c.compare_exchange-found.new.seen.log in
+    let b = nat_eq c.compare_exchange-found.result entries in
+    let key : c.args.tally.now.word.key ≡ c.args.tally.now.key = ap (λ w. w.key) word in
+    let e = g.M.Plain.ask c.args.about.now in
+    let added : MatchBool b (IsAdded c.args.tally.now.key entries e v now) (IsLegal now) =
+    subst (λ (k : ℕ). MatchBool b (IsAdded k entries e v now) (IsLegal now)) key
+    (subst (λ (d : HistoryEntry). MatchBool b (IsAdded c.args.tally.now.word.key entries d v now) (IsLegal now)) c.plain-offer.ensures.1
+    c.compare_exchange-found.ensures.7) in
+    rw (← c.evidence.view_is) (behind c.args.tally.now.key entries e c.evidence.inside.seen.log v now c.learn.ensures.3 b did added)

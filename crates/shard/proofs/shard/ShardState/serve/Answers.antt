@@ -4,6 +4,7 @@ use Rattle.plain_store.specs.declared.calls.Call.{Call}
 use Rattle.plain_store.specs.declared.message.Message.{Message}
 use Rattle.history.specs.declared.rule.Naming.{Ghosts}
 use Rattle.history.specs.Legal.{MayServe}
+use Rattle.history.proofs.Counts.{mark_later}
 use Rattle.history.proofs.Following.{serve_later}
 use Rattle.shard.specs.Asked.{AskedCall, asked_of, without_reply}
 use Rattle.shard.specs.Homes.{HasHome}
@@ -45,6 +46,7 @@ invariant_of-call g c =
     let same : c.serve_message.new.message.call ≡ call.message.value.call = keeps-call c.deref_mut.result.now c.serve_message.new.message e.message ∙ ap (λ (m : Message). m.call) c.deref_mut.ensures.value in
     record {
       at_home = subst (λ (k : Call). HasHome k call.parts call.partition) (sym same) call.at_home;
+      marked = mark_later call.front c.serve_message.new.evidence call.mark e.evidence call.marked;
       may = subst (λ (k : Call). ∥ MayServe c.serve_message.new.evidence call.partition call.tenant k ∥₁) (sym same)
           (∥∥₁_map call.may (λ m. serve_later call.front c.serve_message.new.evidence call.partition call.tenant call.message.value.call e.evidence m));
     }
@@ -67,8 +69,8 @@ returns-then-is_long-clause-came g c =
     let new = c.serve_message.new.book.accounts in
     let journals = called-of c.args.self.now.parts c.args.self.now.partition call.parts call.partition call.tenant call.seat call.number old new c.deref_mut.result.now.call
     c.serve_message.new.message.reply (Ok c.in_ok-place.place) e.refuses.no_tenant e.refuses.late e.enters.entered e.enters.reply tt home c.requires c.args.self.now.journals in
-    came-so c.serve_message.new.evidence c.args.self.now.parts c.args.self.now.partition own call.parts call.partition call.tenant call.seat call.number c.in_ok-place.place old new
-    c.deref_mut.result.now c.serve_message.new.message e.refuses.no_tenant e.enters.entered e.enters.place e.message e.served c.requires c.args.self.now.its journals
+    came-so c.serve_message.new.evidence call.front call.mark c.args.self.now.parts c.args.self.now.partition own call.parts call.partition call.tenant call.seat call.number c.in_ok-place.place old new
+    c.deref_mut.result.now c.serve_message.new.message e.refuses.no_tenant e.enters.entered e.enters.place e.message e.served call.marked c.requires c.args.self.now.its journals
 
 pub returns-else-is_long-clause-came : goal.returns-else-is_long-clause-came
 returns-else-is_long-clause-came g c =
@@ -80,8 +82,8 @@ returns-else-is_long-clause-came g c =
     let new = c.serve_message.new.book.accounts in
     let journals = called-of c.args.self.now.parts c.args.self.now.partition call.parts call.partition call.tenant call.seat call.number old new c.deref_mut.result.now.call
     c.serve_message.new.message.reply (Ok c.in_ok-place.place) e.refuses.no_tenant e.refuses.late e.enters.entered e.enters.reply tt home c.requires c.args.self.now.journals in
-    came-so c.serve_message.new.evidence c.args.self.now.parts c.args.self.now.partition own call.parts call.partition call.tenant call.seat call.number c.in_ok-place.place old new
-    c.deref_mut.result.now c.serve_message.new.message e.refuses.no_tenant e.enters.entered e.enters.place e.message e.served c.requires c.args.self.now.its journals
+    came-so c.serve_message.new.evidence call.front call.mark c.args.self.now.parts c.args.self.now.partition own call.parts call.partition call.tenant call.seat call.number c.in_ok-place.place old new
+    c.deref_mut.result.now c.serve_message.new.message e.refuses.no_tenant e.enters.entered e.enters.place e.message e.served call.marked c.requires c.args.self.now.its journals
 
 -- the same of what it asks
 same-but-reply : {J : Type 0} {naming : Ghosts J} (call : SeatCall J naming) (message now : Message) → without_reply now ≡ without_reply message → message ≡ call.message.value

@@ -5,7 +5,7 @@ use Rattle.partition.specs.Accounts.{Account}
 use Rattle.history.specs.declared.entry.HistoryEntry.{HistoryEntry}
 use Rattle.history.specs.declared.entry.HistoryEntry.TheVariants.{Served}
 use Rattle.history.specs.declared.entry.ServedCall.{ServedCall}
-use Rattle.history.specs.Entries.{count, StandsInHistory}
+use Rattle.history.specs.Entries.{count, StandsBehind}
 use Rattle.history.specs.Legal.{IsLegal}
 use Rattle.history.specs.Rules.{IsAdded}
 use Rattle.history.proofs.Counts.{equal_test}
@@ -27,7 +27,7 @@ invariant_of-self-2 g c =
     let T : List Account → Type 0 = λ accounts. c.args.tenant < length accounts in
     let there : T b.book = subst T (sym (ap (λ (t : Tracing). t.accounts) c.self.view_is)) c.requires.tenant in
     let added : A b.tally.key = c.in_ok-place.ensures.admitted.added in (
-      served_traced b.front now b.partition c.args.tenant b.entries c.args.caller.seat c.args.caller.number c.args.call.now legal (subst C key c.self.invariant.1) (subst A key added)
+      served_traced b.front now c.args.evidence.now b.partition c.args.tenant b.entries c.args.caller.seat c.args.caller.number c.args.call.now legal (subst C key c.self.invariant.1) (subst A key added)
           b.book c.serve_admitted.new.self there c.self.invariant.0 c.serve_admitted.new.reply c.in_ok-place.ensures.enters.entered c.in_ok-place.ensures.enters.reply,
       added_count b.tally.key b.entries (Served s) b.front now (equal_test (b.partition + 1) b.tally.key (sym key)) added,
       c.self.invariant.2,
@@ -48,11 +48,11 @@ returns-clause-served g c =
     let T : List Account → Type 0 = λ accounts. c.args.tenant < length accounts in
     let there : T b.book = subst T (sym (ap (λ (t : Tracing). t.accounts) c.self.view_is)) c.requires.tenant in
     let added : A b.tally.key = c.in_ok-place.ensures.admitted.added in
-    let told : IsSomeAnd reply (λ r. StandsInHistory now (s b.partition) place r) =
-    served_told b.front now b.partition c.args.tenant b.entries c.args.caller.seat c.args.caller.number c.args.call.now legal (subst C key c.self.invariant.1) (subst A key added)
-    b.book c.serve_admitted.new.self there c.self.invariant.0 place reply c.in_ok-place.ensures.enters.place c.in_ok-place.ensures.enters.reply in
-    let P : List HistoryEntry → Type 0 = λ seen. IsSomeAnd reply (λ r. StandsInHistory seen (s b.partition) place r) in
-    let Q : ℕ → Type 0 = λ p. IsSomeAnd reply (λ r. StandsInHistory c.again-2.result (s p) place r) in
+    let told : IsSomeAnd reply (λ r. StandsBehind c.args.evidence.now now (s b.partition) place r) =
+    served_told b.front now c.args.evidence.now b.partition c.args.tenant b.entries c.args.caller.seat c.args.caller.number c.args.call.now legal (subst C key c.self.invariant.1) (subst A key added)
+    b.book c.serve_admitted.new.self there c.self.invariant.0 place reply c.in_ok-place.ensures.admitted.behind c.in_ok-place.ensures.enters.place c.in_ok-place.ensures.enters.reply in
+    let P : List HistoryEntry → Type 0 = λ seen. IsSomeAnd reply (λ r. StandsBehind c.args.evidence.now seen (s b.partition) place r) in
+    let Q : ℕ → Type 0 = λ p. IsSomeAnd reply (λ r. StandsBehind c.args.evidence.now c.again-2.result (s p) place r) in
     subst Q (ap (λ (t : Tracing). t.partition) c.self.view_is) (subst P (sym c.again-2.ensures.same) told)
 
 pub returns-clause-later : goal.returns-clause-later
