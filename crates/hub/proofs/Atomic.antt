@@ -1,33 +1,30 @@
 -- What a seat reads is read atomic: for the laws of reads.
-use Rattle.std.proofs.Common.{◌≡◌, ◌⊎◌, ◌∙◌, ◌≤◌, ◌<◌, ◌++◌, ◌∷◌, [], ◌&&◌, ◌||◌, ◌==◌, ℕ, List, Bool, true, false, Option, Some, None, cond, not, nat_lt, eqb-true, inl, inr, refl, sym, ap, subst, arith}
+use Rattle.std.proofs.Common.{◌≡◌, ◌⊎◌, ◌∙◌, ◌≤◌, ◌++◌, ◌∷◌, [], ◌&&◌, ◌||◌, ◌==◌, ℕ, List, Bool, true, false, Option, Some, None, cond, not, nat_lt, eqb-true, inl, inr, refl, sym, ap, subst, arith}
 use Rattle.std.specs.Prelude.{bytes_eq}
 use Rattle.std.specs.List.{list_any}
 use mathlib.Core.HLevel.{⊥_prop}
 use Rattle.std.proofs.Math.Logic.{∥∥₁_elim, ∥∥₁_map, ∥∥₁_map₂, ∥∥₁_prop}
 use Rattle.std.proofs.lemmas.Bool.{and_parts, ltb-false, ltb-true, not-true}
-use Rattle.stamps.specs.WriteSet.{contains_key}
 use Rattle.plain_store.specs.declared.calls.Call.{Call}
 use Rattle.plain_store.specs.declared.calls.Call.TheVariants.{Prepare, Commit, Get, Found, Collect, Discard}
-use Rattle.plain_store.specs.declared.calls.ReadReply.{ReadReply}
 use Rattle.plain_store.specs.declared.calls.ReadReply.TheVariants.{Version}
 use Rattle.plain_store.specs.declared.calls.Reply.{Reply}
 use Rattle.plain_store.specs.declared.calls.Reply.TheVariants.{Get as ToGet, Found as ToFound}
 use Rattle.plain_store.specs.declared.message.Message.{Message}
 use Rattle.plain_store.specs.declared.reading.Reading.{Reading}
 use Rattle.plain_store.specs.declared.refusal.Refusal.TheVariants.{Torn, TooMany}
-use Rattle.plain_store.specs.FoundKeys.{Findings}
 use Rattle.plain_store.specs.Finding.{all_found, all_keys_found, carrying, total_found}
 use Rattle.plain_store.specs.History.{Intent as Asked, Gets, Finds}
 use Rattle.plain_store.specs.Laws.{IsInitial}
-use Rattle.plain_store.specs.Moves.{Begins, Fails, Lists, Move, Reads, Waits, find_move, is_answered, read_move, second_move, search_move}
-use Rattle.plain_store.specs.Rounds.{first_calls, flat, is_false_second, is_late, needed, reading_of, readings, round_one_complete, round_two_complete, seen_first, seen_second, version_read, was_announced}
+use Rattle.plain_store.specs.Moves.{Begins, Fails, Lists, Move, Reads, Waits, find_move, read_move, search_move}
+use Rattle.plain_store.specs.Rounds.{first_calls, flat, is_false_second, is_late, needed, reading_of, readings, seen_first, seen_second, version_read}
 use Rattle.plain_store.specs.Words.{◌∈◌, Item, Key, Record, Setup, Stamp, Tag, home, is_tagged}
 use Rattle.plain_store.specs.Writing.{keys_written, record_for}
 use Rattle.plain_store.proofs.Atomic.{IsSeen}
 use Rattle.plain_store.proofs.ListTests.{or_parts}
 use Rattle.plain_store.proofs.Members.{any_from, in_cases, in_filter, in_map}
 use Rattle.plain_store.proofs.Seen.{listed_from, needed_is, seen_first_is, seen_second_is, sorted_in}
-use Rattle.get_all.specs.Reading.{IsUnfractured, any_last, is_last_reply, is_of_read, read_answer, stamp_read}
+use Rattle.get_all.specs.Reading.{IsUnfractured, any_last, is_last_reply, read_answer}
 use Rattle.get_all.specs.Reading.{has_ended as has_read, is_wanted as is_wanted_read}
 use Rattle.get_all.specs.Finding.{any_stray, find_answer, is_of_search}
 use Rattle.get_all.specs.Finding.{has_ended as has_found, is_wanted as is_wanted_found}
@@ -45,7 +42,7 @@ use Rattle.shard.specs.Journals.{served_call}
 use Rattle.tenant_sessions.specs.Showing.{IsCallFor}
 use Rattle.hub.specs.Atomic.{IsReadAtomic, WasWritten}
 use Rattle.hub.specs.Replies.{AreAmong, IsListOf, IsReadOf, IsReplyIn}
-use Rattle.hub.specs.Sights.{SeatSight}
+use Rattle.hub.specs.Sights.{OperationSight}
 use Rattle.hub.proofs.Evidence.{reply_of}
 
 -- what is read is what one of the rounds showed
@@ -64,12 +61,12 @@ read_is keys replies key version is = go (is_late keys replies key) refl is
 -- ---- the replies stand in the history
 
 -- the GET that was served, in its first round or in its second
-record GetFor (call : Call) (key : Key) (at : Option Stamp) : Type 0 where
-  asked : Option Stamp
-  is : call ≡ Get key asked
-  first : at ≡ None → asked ≡ None
+pub record GetFor (call : Call) (key : Key) (at : Option Stamp) : Type 0 where
+  pub asked : Option Stamp
+  pub is : call ≡ Get key asked
+  pub first : at ≡ None → asked ≡ None
 
-get_for : (call told : Call) (key : Key) (at : Option Stamp) → told ≡ Get key at → IsCallFor call told → GetFor call key at
+pub get_for : (call told : Call) (key : Key) (at : Option Stamp) → told ≡ Get key at → IsCallFor call told → GetFor call key at
 get_for (Get k None) told key at is for =
     let same : Get k None ≡ Get key at = sym for ∙ is in
     record { asked = None; is = (let e : ◌≡◌ {A = Key} k key = cc in ap (λ (j : Key). Get j None) e); first = λ none. refl }
@@ -106,10 +103,10 @@ decided_of seen tenant key version legal w =
     subst P w.its (shows_decided seen legal w.served w.place key version (w.get.is ∙ ap (Get key) (w.get.first refl)) w.stands)
 
 -- a version that is told for a GET of a stamp has it
-abbrev AreOfStamps : List Message → Type 0
+abbrev pub AreOfStamps : List Message → Type 0
 AreOfStamps replies = (message : Message) (key : Key) (stamp : Stamp) (version : Record) → message ∈ replies → message.call ≡ Get key (Some stamp) → message.reply ≡ Some (ToGet (Version version)) → version.stamp ≡ stamp
 
-module _ (sight : SeatSight) (legal : IsLegal sight.seen) (asked : Asked) (replies : List Message) (entries : List Entry) (among : AreAmong sight asked replies entries) where
+module _ (sight : OperationSight) (legal : IsLegal sight.seen) (asked : Asked) (replies : List Message) (entries : List Entry) (among : AreAmong sight asked replies entries) where
   served_in : (key : Key) (at : Option Stamp) (version : Record) (message : Message) → message.call ≡ Get key at → message.reply ≡ Some (ToGet (Version version)) → (entry : Entry) → IsReplyIn sight asked message entry
       → ∥ WasServed sight.seen sight.tenant key at version ∥₁
   served_in key at version message call reply (kinds.Began act) is = absurd is
@@ -169,7 +166,7 @@ module _ (sight : SeatSight) (legal : IsLegal sight.seen) (asked : Asked) (repli
       }))
 
   -- the key of a reading is the one that was asked
-  key_told : (keys : List Key) (key : Key) (o : Option Record) → version_read keys replies key ≡ o → ∥ ((reading_of key o).item.key ≡ key) ∥₁
+  pub key_told : (keys : List Key) (key : Key) (o : Option Record) → version_read keys replies key ≡ o → ∥ ((reading_of key o).item.key ≡ key) ∥₁
   key_told keys key None is = ∣ refl ∣₁
   key_told keys key (Some version) is = ∥∥₁_map (seen_in keys key version (read_is keys replies key version is)) (λ w. w.1)
 
@@ -250,7 +247,7 @@ taken_stamp taken message key stamp version none has call reply =
     true_stamp taken key stamp version (subst Q reply (subst P call fine))
 
 -- what a read or a search reports at its end
-abbrev IsToldAt : Move → Type 0
+abbrev pub IsToldAt : Move → Type 0
 IsToldAt (Reads readings) = Unit {0}
 IsToldAt (Lists readings) = Unit {0}
 IsToldAt move = ⊥
@@ -280,7 +277,7 @@ stamps_of taken last none at_last message key stamp version has call reply = go 
 some_is : (m n : Move) → Some m ≡ Some n → m ≡ n
 some_is m n is = cc
 
-read_stamps : (setup : Setup) (keys : List Key) (taken : List Message) (last : Message) (told : List Reading) → read_answer setup keys Reads taken last ≡ Some (Reads told) → AreOfStamps (taken ++ last ∷ [])
+pub read_stamps : (setup : Setup) (keys : List Key) (taken : List Message) (last : Message) (told : List Reading) → read_answer setup keys Reads taken last ≡ Some (Reads told) → AreOfStamps (taken ++ last ∷ [])
 read_stamps setup keys taken last told answers = go (is_wanted_read keys taken last) refl answers
   where
     go : (b : Bool) → is_wanted_read keys taken last ≡ b → cond b (Some (read_move setup keys (taken ++ last ∷ []) Reads last.call last.reply)) None ≡ Some (Reads told) → AreOfStamps (taken ++ last ∷ [])
@@ -291,7 +288,7 @@ read_stamps setup keys taken last told answers = go (is_wanted_read keys taken l
         (λ key stamp version call reply. last_stamp setup keys (taken ++ last ∷ []) Reads (Reads told) last key stamp version tt (some_is _ _ is) call reply)
 
 -- what a seat reads is read atomic
-pub reads_atomic : (sight : SeatSight) (keys : List Key) (start entries : List Entry) (told : List Reading) → IsLegal sight.seen → IsReadOf sight keys start entries told → IsReadAtomic sight.seen sight.tenant told
+pub reads_atomic : (sight : OperationSight) (keys : List Key) (start entries : List Entry) (told : List Reading) → IsLegal sight.seen → IsReadOf sight keys start entries told → IsReadAtomic sight.seen sight.tenant told
 reads_atomic sight keys start entries told legal from =
     let setup : Setup = record { partitions = 1; room = record { slots = 0; items = 0; clients = 0 }; keep = 0 } in
     let replies = from.taken ++ from.last ∷ [] in
@@ -301,7 +298,7 @@ reads_atomic sight keys start entries told legal from =
 
 -- ---- a search
 
-abbrev carries : Tag → List Reading → Move
+abbrev pub carries : Tag → List Reading → Move
 carries tag told = Lists (carrying tag told)
 
 -- where not all partitions had told before, nothing was found
@@ -341,9 +338,34 @@ get_moves setup tag replies message told key stamp call moves =
     let Q : Call → Type 0 = λ c. find_move setup tag replies message.partition c message.reply ≡ told in
     subst P (sym call) (subst Q call moves)
 
+-- a search that lists something took replies of the stamps that were asked
+pub list_stamps : (setup : Setup) (tag : Tag) (taken : List Message) (last : Message) (told : List Reading) → find_answer setup tag taken last ≡ Some (Lists told) → (told ≡ []) ⊎ AreOfStamps (taken ++ last ∷ [])
+list_stamps setup tag taken last told answers = go (is_wanted_found setup taken last) refl answers
+  where
+    replies : List Message
+    replies = taken ++ last ∷ []
+
+    by : (b : Bool) → all_found setup taken ≡ b → has_found setup taken ≡ false → is_of_search setup taken last.partition last.call last.reply ≡ true
+        → find_move setup tag replies last.partition last.call last.reply ≡ Lists told → (told ≡ []) ⊎ AreOfStamps replies
+    by false before unended of is = inl (none_found setup tag taken replies last told before of is)
+    by true before unended of is =
+        let rest = (or_parts (any_stray setup taken) _ unended).1 in
+        let P : Bool → Type 0 = λ b. (b && (nat_lt 16 (total_found taken) || has_read (all_keys_found taken) taken)) ≡ false in
+        let unread = (or_parts (nat_lt 16 (total_found taken)) _ (subst P before rest)).1 in
+        inr (stamps_of taken last (or_parts (any_last taken taken) _ unread).0
+        (λ key stamp version call reply.
+        last_stamp setup (all_keys_found replies) replies (carries tag) (Lists told) last key stamp version tt (get_moves setup tag replies last (Lists told) key stamp call is) call reply))
+
+    go : (b : Bool) → is_wanted_found setup taken last ≡ b → cond b (Some (find_move setup tag replies last.partition last.call last.reply)) None ≡ Some (Lists told) → (told ≡ []) ⊎ AreOfStamps replies
+    go false wanted is = cc
+    go true wanted is =
+        let unended = not-true (has_found setup taken) (and_parts (not (has_found setup taken)) _ wanted).0 in
+        let of = (and_parts (is_of_search setup taken last.partition last.call last.reply) _ (and_parts (not (has_found setup taken)) _ wanted).1).0 in
+        by (all_found setup taken) refl unended of (some_is _ _ is)
+
 -- what a seat lists is read atomic
-pub lists_atomic : (sight : SeatSight) (setup : Setup) (tag : Tag) (start entries : List Entry) (told : List Reading) → IsLegal sight.seen → IsListOf sight setup tag start entries told → IsReadAtomic sight.seen sight.tenant told
-lists_atomic sight setup tag start entries told legal from = go (is_wanted_found setup from.taken from.last) refl from.answers.answers
+pub lists_atomic : (sight : OperationSight) (setup : Setup) (tag : Tag) (start entries : List Entry) (told : List Reading) → IsLegal sight.seen → IsListOf sight setup tag start entries told → IsReadAtomic sight.seen sight.tenant told
+lists_atomic sight setup tag start entries told legal from = go (list_stamps setup tag from.taken from.last told from.answers.answers)
   where
     replies : List Message
     replies = from.taken ++ from.last ∷ []
@@ -351,32 +373,12 @@ lists_atomic sight setup tag start entries told legal from = go (is_wanted_found
     keys : List Key
     keys = all_keys_found replies
 
-    nothing : told ≡ [] → IsReadAtomic sight.seen sight.tenant told
-    nothing none =
-        let P : List Reading → Type 0 = λ rs. IsReadAtomic sight.seen sight.tenant rs in
-        subst P (sym none) (record { each = λ reading has. absurd has; unfractured = λ one other write h. absurd h })
+    P : List Reading → Type 0
+    P rs = IsReadAtomic sight.seen sight.tenant rs
 
-    something : AreOfStamps replies → IsReadAtomic sight.seen sight.tenant told
-    something stamps =
-        let P : List Reading → Type 0 = λ rs. IsReadAtomic sight.seen sight.tenant rs in
+    go : (told ≡ []) ⊎ AreOfStamps replies → P told
+    go (inl none) = subst P (sym none) (record { each = λ reading has. absurd has; unfractured = λ one other write h. absurd h })
+    go (inr stamps) =
         subst P (sym from.answers.whole.shown)
         (part_read_atomic sight.seen sight.tenant (carrying tag (readings keys replies)) (readings keys replies) (λ reading has. (in_filter (λ (r : Reading). is_tagged tag r.item.tag) (readings keys replies) reading has).0)
         (readings_read_atomic sight legal (Finds tag) replies from.more from.among keys from.answers.whole.unfractured stamps))
-
-    by : (b : Bool) → all_found setup from.taken ≡ b → has_found setup from.taken ≡ false → is_of_search setup from.taken from.last.partition from.last.call from.last.reply ≡ true
-        → find_move setup tag replies from.last.partition from.last.call from.last.reply ≡ Lists told → IsReadAtomic sight.seen sight.tenant told
-    by false before unended of is = nothing (none_found setup tag from.taken replies from.last told before of is)
-    by true before unended of is =
-        let rest = (or_parts (any_stray setup from.taken) _ unended).1 in
-        let P : Bool → Type 0 = λ b. (b && (nat_lt 16 (total_found from.taken) || has_read (all_keys_found from.taken) from.taken)) ≡ false in
-        let unread = (or_parts (nat_lt 16 (total_found from.taken)) _ (subst P before rest)).1 in
-        something (stamps_of from.taken from.last (or_parts (any_last from.taken from.taken) _ unread).0
-        (λ key stamp version call reply.
-        last_stamp setup keys replies (carries tag) (Lists told) from.last key stamp version tt (get_moves setup tag replies from.last (Lists told) key stamp call is) call reply))
-
-    go : (b : Bool) → is_wanted_found setup from.taken from.last ≡ b → cond b (Some (find_move setup tag replies from.last.partition from.last.call from.last.reply)) None ≡ Some (Lists told) → IsReadAtomic sight.seen sight.tenant told
-    go false wanted is = cc
-    go true wanted is =
-        let unended = not-true (has_found setup from.taken) (and_parts (not (has_found setup from.taken)) _ wanted).0 in
-        let of = (and_parts (is_of_search setup from.taken from.last.partition from.last.call from.last.reply) _ (and_parts (not (has_found setup from.taken)) _ wanted).1).0 in
-        by (all_found setup from.taken) refl unended of (some_is _ _ is)

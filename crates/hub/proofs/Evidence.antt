@@ -1,5 +1,5 @@
 -- What shows that a call of an operation may be served: for the functions of an operation.
-use Rattle.std.proofs.Common.{◌≡◌, ◌⊎◌, ◌∙◌, ◌<◌, ◌+◌, ℕ, arith, max, List, [], ◌∷◌, ◌++◌, ◌==◌, ◌&&◌, Bool, true, false, eqb-true, slice_get, refl, sym, ap, subst, Option, Some, None, inl, inr}
+use Rattle.std.proofs.Common.{◌≡◌, ◌∙◌, ◌<◌, ◌+◌, ℕ, arith, max, List, [], ◌∷◌, ◌++◌, ◌==◌, Bool, true, false, eqb-true, slice_get, refl, sym, ap, subst, Option, Some, None, inl, inr}
 use Rattle.std.specs.Prelude.{All, bytes_eq, cond, map}
 use Rattle.std.specs.List.{list_any}
 use Rattle.std.proofs.Math.Logic.{∥∥₁_elim, ∥∥₁_prop}
@@ -31,11 +31,10 @@ use Rattle.plain_store.proofs.Stamps.{key_is, is_key}
 use Rattle.entry_list.specs.declared.kinds.Entry.{Entry}
 use Rattle.entry_list.specs.declared.kinds.Entry.TheVariants as kinds
 use Rattle.history.specs.declared.entry.HistoryEntry.{HistoryEntry}
-use Rattle.history.specs.declared.entry.ServedCall.{ServedCall}
 use Rattle.history.specs.declared.entry.HistoryEntry.TheVariants.{Began}
 use Rattle.history.specs.declared.entry.Write.{Write}
 use Rattle.history.specs.Entries.{parts_of, StandsInHistory}
-use Rattle.history.specs.Legal.{HasParts, IsAccepted, IsAtHome, IsDecided, IsLegal, IsOfPut, MayDecide}
+use Rattle.history.specs.Legal.{HasParts, IsAccepted, IsAtHome, IsDecided, IsLegal, IsOfPut}
 use Rattle.history.proofs.Lists.{prefix_has}
 use Rattle.history.proofs.Shown.{accepted_of_item}
 use Rattle.stamps.specs.Key.{home_of}
@@ -57,10 +56,10 @@ use Rattle.tenant_sessions.specs.Showing.{IfDecided, IfTells, IsAnswerTo, IsCall
 use Rattle.hub.specs.Evidence.{AreOfPuts, HasBegunIn, IsUnderWay, MayBeDecided}
 use Rattle.hub.specs.Replies.{AreAmong, IsOf, IsReplyIn, IsStampOf, Reads}
 use Rattle.hub.specs.Requests.{intent_of}
-use Rattle.hub.specs.Sights.{SeatSight}
+use Rattle.hub.specs.Sights.{OperationSight}
 use Rattle.hub.specs.declared.seat_request.SeatRequest.{SeatRequest}
 use Rattle.hub.specs.declared.seat_request.SeatRequest.TheVariants as ask
-use Rattle.hub.proofs.Given.{IsLaterSight}
+use Rattle.hub.proofs.Given.{IsLaterOperation}
 use Rattle.hub.proofs.Replies.{among_push, reads-later, reads-start}
 
 -- a call goes to the home of its key
@@ -101,7 +100,7 @@ one_item (i ∷ is) a b once h k e = go h k (or_parts (contains_key (keys_writte
     go (inr p) (inr q) d rest = rest d.1 p q
 
 -- a message that is among replies has one of their entries
-pub reply_of : (sight : SeatSight) (asked : Asked) (messages : List Message) (entries : List Entry) (message : Message) → AreAmong sight asked messages entries → message ∈ messages
+pub reply_of : (sight : OperationSight) (asked : Asked) (messages : List Message) (entries : List Entry) (message : Message) → AreAmong sight asked messages entries → message ∈ messages
     → (entry : Entry) × IsReplyIn sight asked message entry
 reply_of sight asked [] entries message among has = absurd has
 reply_of sight asked (m ∷ ms) [] message among has = absurd among
@@ -137,7 +136,7 @@ taken_as_prepare (Found tag) version told is for = let no : Found tag ≡ Prepar
 taken_as_prepare (Collect keep) version told is for = let no : Collect keep ≡ Prepare version = sym for ∙ is in cc
 taken_as_prepare (Discard stamp) version told is for = let no : Discard stamp ≡ Prepare version = sym for ∙ is in cc
 
-module _ (sight : SeatSight) (word : ℕ) (own : Stamp) (items : List Item) (legal : IsLegal sight.seen)
+module _ (sight : OperationSight) (word : ℕ) (own : Stamp) (items : List Item) (legal : IsLegal sight.seen)
     (began : Began (record { word = word; tenant = sight.tenant; stamp = own; items = items }) ∈ sight.seen) (well : are_bad (keys_written items) ≡ false) where
   abbrev write : Write
   write = record { word = word; tenant = sight.tenant; stamp = own; items = items }
@@ -195,7 +194,7 @@ decides_nothing : (setup : Setup) (asked : Asked) (taken : List Message) (messag
 decides_nothing setup asked taken message move stamp Stands none (inl passed) is = let no : Decided stamp ≡ Ignored = sym is ∙ passed.0 in cc
 decides_nothing setup asked taken message move stamp Stands none (inr took) is = none (taken ++ took.meant ∷ []) (subst (λ (m : Move). IfDecided asked m (taken ++ took.meant ∷ [])) is took.decided)
 
-decided_of : (sight : SeatSight) (own : Stamp) (setup : Setup) (asked : Asked) (start entries : List Entry) (running after : Option Running) (told : Option Answer) (message : Message) (move : Move) (e : Entry) (stamp : Stamp)
+decided_of : (sight : OperationSight) (own : Stamp) (setup : Setup) (asked : Asked) (start entries : List Entry) (running after : Option Running) (told : Option Answer) (message : Message) (move : Move) (e : Entry) (stamp : Stamp)
     → IsLegal sight.seen → IsStampOf own asked → MayBegin asked → HasBegunIn sight.seen sight.tenant asked
     → ((m : Message) → IsTakenFor message m → IsReplyIn sight asked m e) → Reads sight setup asked start entries running told
     → ((taken : List Message) → IsShown setup asked taken running → Shows setup asked taken message move (λ replies. IsShown setup asked replies after))
@@ -209,14 +208,14 @@ decided_of sight own setup (Finds tag) start entries running after told message 
     absurd (decides_nothing setup (Finds tag) reads.reading.taken message move stamp _ (λ replies no. no) (shows reads.reading.taken reads.reading.shown) is)
 
 -- where its session reports that a put is decided, that may be entered
-pub under_way_decided : (sight : SeatSight) (own : Stamp) (entries : List Entry) (running after : Option Running) (told : Option Answer) (message : Message) (move : Move) (e : Entry) (stamp : Stamp)
+pub under_way_decided : (sight : OperationSight) (own : Stamp) (entries : List Entry) (running after : Option Running) (told : Option Answer) (message : Message) (move : Move) (e : Entry) (stamp : Stamp)
     → IsLegal sight.seen → ((asked : Asked) → IsStampOf own asked → (m : Message) → IsTakenFor message m → IsReplyIn sight asked m e)
     → ((setup : Setup) (asked : Asked) (taken : List Message) → IsShown setup asked taken running → Shows setup asked taken message move (λ replies. IsShown setup asked replies after))
     → move ≡ Decided stamp → IsUnderWay sight own entries running told → MayBeDecided sight.seen sight.tenant stamp
 under_way_decided sight own entries running after told message move e stamp legal enters shows is u =
     decided_of sight own u.setup u.asked u.start entries running after told message move e stamp legal u.stamped u.well u.began (enters u.asked u.stamped) u.reads (shows u.setup u.asked) is
 
-begun_later : (old new : SeatSight) (asked : Asked) → IsLaterSight old new → HasBegunIn old.seen old.tenant asked → HasBegunIn new.seen new.tenant asked
+begun_later : (old new : OperationSight) (asked : Asked) → IsLaterOperation old new → HasBegunIn old.seen old.tenant asked → HasBegunIn new.seen new.tenant asked
 begun_later old new (Writes own items) later began =
     let P : ℕ → Type 0 = λ t. Began (record { word = began.0; tenant = t; stamp = own; items = items }) ∈ new.seen in
     (began.0, subst P (sym later.tenant) (prefix_has old.seen new.seen _ later.seen began.1))
@@ -224,7 +223,7 @@ begun_later old new (Gets keys) later began = tt
 begun_later old new (Finds tag) later began = tt
 
 -- it goes on: with what is seen later, by entries that were read on
-pub under_way_on : (old new : SeatSight) (own : Stamp) (entries next : List Entry) (running after : Option Running) (told other : Option Answer) → IsLaterSight old new
+pub under_way_on : (old new : OperationSight) (own : Stamp) (entries next : List Entry) (running after : Option Running) (told other : Option Answer) → IsLaterOperation old new
     → ((setup : Setup) (asked : Asked) (start : List Entry) → IsStampOf own asked → Reads new setup asked start entries running told → Reads new setup asked start next after other)
     → IsUnderWay old own entries running told → IsUnderWay new own next after other
 under_way_on old new own entries next running after told other later on u = record {
@@ -237,7 +236,7 @@ under_way_on old new own entries next running after told other later on u = reco
   reads = on u.setup u.asked u.start u.stamped (reads-later old new u.setup u.asked u.start entries running told later u.reads);
 }
 
-pub under_way_later : (old new : SeatSight) (own : Stamp) (entries : List Entry) (running : Option Running) (told : Option Answer) → IsLaterSight old new
+pub under_way_later : (old new : OperationSight) (own : Stamp) (entries : List Entry) (running : Option Running) (told : Option Answer) → IsLaterOperation old new
     → IsUnderWay old own entries running told → IsUnderWay new own entries running told
 under_way_later old new own entries running told later u =
     under_way_on old new own entries entries running running told told later (λ setup asked start stamped reads. reads) u
@@ -331,17 +330,17 @@ sent_of_puts seen tenant turns.Ignored told outs sends on decided = cc
 
 -- ---- in other words
 
-pub under_way_same : (sight other : SeatSight) (own : Stamp) (entries next : List Entry) (running after : Option Running) (told also : Option Answer) → other ≡ sight → next ≡ entries → after ≡ running → also ≡ told
+pub under_way_same : (sight other : OperationSight) (own : Stamp) (entries next : List Entry) (running after : Option Running) (told also : Option Answer) → other ≡ sight → next ≡ entries → after ≡ running → also ≡ told
     → IsUnderWay sight own entries running told → IsUnderWay other own next after also
 under_way_same sight other own entries next running after told also seat entered runs answered u =
-    let P : SeatSight → Type 0 = λ v. IsUnderWay v own entries running told in
+    let P : OperationSight → Type 0 = λ v. IsUnderWay v own entries running told in
     let Q : List Entry → Type 0 = λ es. IsUnderWay other own es running told in
     let R : Option Running → Type 0 = λ r. IsUnderWay other own next r told in
     let S : Option Answer → Type 0 = λ a. IsUnderWay other own next after a in
     subst S (sym answered) (subst R (sym runs) (subst Q (sym entered) (subst P (sym seat) u)))
 
 -- what has just begun is under way
-pub under_way_begun : (sight : SeatSight) (parts : ℕ) (own : Stamp) (asked : Asked) (old new : ClientSession) (entries : List Entry) → HasBegun parts asked old new → IsStampOf own asked → MayBegin asked
+pub under_way_begun : (sight : OperationSight) (parts : ℕ) (own : Stamp) (asked : Asked) (old new : ClientSession) (entries : List Entry) → HasBegun parts asked old new → IsStampOf own asked → MayBegin asked
     → HasBegunIn sight.seen sight.tenant asked → IsUnderWay sight own entries new.running None
 under_way_begun sight parts own asked old new entries begun stamped well began =
     let setup : Setup = record { partitions = parts; room = record { slots = 0; items = 0; clients = 0 }; keep = 0 } in

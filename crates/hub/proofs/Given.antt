@@ -16,12 +16,13 @@ use Rattle.history.specs.declared.rule.Naming.{Ghosts}
 use Rattle.shard.specs.declared.jobs.Fault.{Fault}
 use Rattle.shard.specs.Journals.{IsServedIn, HasReplyIn, CameSo, served_call}
 use Rattle.history.specs.declared.entry.HistoryEntry.{HistoryEntry}
+use Rattle.history.specs.declared.entry.Mark.{Mark}
 use Rattle.history.proofs.Following.{served_later}
 use Rattle.tenant_sessions.specs.Showing.{IsTakenFor}
 use Rattle.hub.specs.declared.operation.RunningOperation.{RunningOperation}
 use Rattle.plain_store.specs.History.{Intent as Asked}
 use Rattle.hub.specs.Replies.{IsServedFor, AreServed, IsOf, IsReplyIn}
-use Rattle.hub.specs.Sights.{SeatSight, sight_of}
+use Rattle.hub.specs.Sights.{OperationSight, SeatSight, operation_of, sight_of}
 use Rattle.shard.specs.declared.seat_name.SeatName.{SeatName}
 
 pub prefix_is : (seen now : List HistoryEntry) → seen ≡ now → IsPrefix seen now
@@ -32,16 +33,28 @@ pub sights : (one other : SeatName) (seen now : List HistoryEntry) → one ≡ o
 sights one other seen now named same =
     ap (λ (n : SeatName). sight_of n seen) named ∙ ap (λ (s : List HistoryEntry). sight_of other s) same
 
+-- so of its operation
+pub operations : (one other : SeatName) (mark after : Mark) (seen now : List HistoryEntry) → one ≡ other → mark ≡ after → seen ≡ now → operation_of one mark seen ≡ operation_of other after now
+operations one other mark after seen now named marked same =
+    ap (λ (n : SeatName). operation_of n mark seen) named ∙ ap (λ (m : Mark). operation_of other m seen) marked ∙ ap (λ (s : List HistoryEntry). operation_of other after s) same
+
 -- the same seat, which has seen more
 pub record IsLaterSight (old new : SeatSight) : Type 0 where
   pub tenant : new.tenant ≡ old.tenant
   pub seat : new.seat ≡ old.seat
   pub seen : IsPrefix old.seen new.seen
 
+-- the same operation, of which more was seen
+pub record IsLaterOperation (old new : OperationSight) : Type 0 where
+  pub tenant : new.tenant ≡ old.tenant
+  pub seat : new.seat ≡ old.seat
+  pub mark : new.mark ≡ old.mark
+  pub seen : IsPrefix old.seen new.seen
+
 -- a call that stands in what was seen stands in what is seen later
-pub in_later : (seen now : List HistoryEntry) (partition tenant seat number place : ℕ) (call : Call) (reply : Reply) → IsPrefix seen now
-    → IsServedIn seen partition tenant seat number place call reply → IsServedIn now partition tenant seat number place call reply
-in_later seen now partition tenant seat number place call reply pre is = record {
+pub in_later : (seen now : List HistoryEntry) (mark : Mark) (partition tenant seat number place : ℕ) (call : Call) (reply : Reply) → IsPrefix seen now
+    → IsServedIn seen mark partition tenant seat number place call reply → IsServedIn now mark partition tenant seat number place call reply
+in_later seen now mark partition tenant seat number place call reply pre is = record {
   parts = is.parts;
   before = is.before;
   after = is.after;
@@ -50,20 +63,30 @@ in_later seen now partition tenant seat number place call reply pre is = record 
   entered = is.entered;
   place = is.place;
   stands = served_later seen now (served_call partition tenant seat number call) place reply pre is.stands;
+  late = is.late;
 }
 
 -- and so does one of a seat
-pub seen-later : (old new : SeatSight) (partition number place : ℕ) (call : Call) (reply : Reply) → IsLaterSight old new
-    → IsServedIn old.seen partition old.tenant old.seat number place call reply → IsServedIn new.seen partition new.tenant new.seat number place call reply
-seen-later old new partition number place call reply later is =
-    let P : ℕ → Type 0 = λ t. IsServedIn new.seen partition t new.seat number place call reply in
-    let Q : ℕ → Type 0 = λ s. IsServedIn new.seen partition old.tenant s number place call reply in
-    subst P (sym later.tenant) (subst Q (sym later.seat) (in_later old.seen new.seen partition old.tenant old.seat number place call reply later.seen is))
+pub seen-later : (old new : SeatSight) (mark : Mark) (partition number place : ℕ) (call : Call) (reply : Reply) → IsLaterSight old new
+    → IsServedIn old.seen mark partition old.tenant old.seat number place call reply → IsServedIn new.seen mark partition new.tenant new.seat number place call reply
+seen-later old new mark partition number place call reply later is =
+    let P : ℕ → Type 0 = λ t. IsServedIn new.seen mark partition t new.seat number place call reply in
+    let Q : ℕ → Type 0 = λ s. IsServedIn new.seen mark partition old.tenant s number place call reply in
+    subst P (sym later.tenant) (subst Q (sym later.seat) (in_later old.seen new.seen mark partition old.tenant old.seat number place call reply later.seen is))
+
+-- and of its operation
+pub operation-later : (old new : OperationSight) (partition number place : ℕ) (call : Call) (reply : Reply) → IsLaterOperation old new
+    → IsServedIn old.seen old.mark partition old.tenant old.seat number place call reply → IsServedIn new.seen new.mark partition new.tenant new.seat number place call reply
+operation-later old new partition number place call reply later is =
+    let P : Mark → Type 0 = λ m. IsServedIn new.seen m partition new.tenant new.seat number place call reply in
+    subst P (sym later.mark)
+    (seen-later (record { tenant = old.tenant; seat = old.seat; seen = old.seen }) (record { tenant = new.tenant; seat = new.seat; seen = new.seen }) old.mark partition number place call reply
+    (record { tenant = later.tenant; seat = later.seat; seen = later.seen }) is)
 
 for-later : (old new : SeatSight) (first last : ℕ) (e : Entry) → IsLaterSight old new → IsServedFor old first last e → IsServedFor new first last e
 for-later old new first last (Began act) later is = tt
 for-later old new first last (Took number partition place reply) later is =
-    (is.0, is.1, ∥∥₁_map is.2 (λ given. (given.0, seen-later old new partition number place given.0 reply later given.1)))
+    (is.0, is.1, ∥∥₁_map is.2 (λ given. (given.0, given.1, seen-later old new given.1 partition number place given.0 reply later given.2)))
 for-later old new first last (Answered answer) later is = tt
 
 pub served-later : (old new : SeatSight) (first last : ℕ) (start entries : List Entry) → IsLaterSight old new → AreServed old first last start entries → AreServed new first last start entries
@@ -126,33 +149,34 @@ served-on name other last after-last first since sent later after start entries 
     (goes start (served-same name other first since (first + sent) (since + later) start entries begun same begins (omega (arith, begins, most)) is are))
 
 -- a reply that came to the seat
-came-given : (name : SeatSight) (seen : List HistoryEntry) (partition tenant seat number place : ℕ) (message : Message) (outcome : Result ℕ Fault) (reply : Reply)
+came-given : (name : SeatSight) (seen : List HistoryEntry) (mark : Mark) (partition tenant seat number place : ℕ) (message : Message) (outcome : Result ℕ Fault) (reply : Reply)
     → IsPrefix seen name.seen → outcome ≡ Ok place → message.reply ≡ Some reply → tenant ≡ name.tenant → seat ≡ name.seat
-    → CameSo seen partition tenant seat number message outcome → ∥ IsServedIn name.seen partition name.tenant name.seat number place message.call reply ∥₁
-came-given name seen partition tenant seat number place message outcome reply pre is has its own came =
-    let P : Result ℕ Fault → Type 0 = λ r. IfOk r (HasReplyIn seen partition tenant seat number message) in
-    let Q : Option Reply → Type 0 = λ r. IsSomeAnd r (λ told. IsServedIn seen partition tenant seat number place message.call told) in
-    let R : ℕ → Type 0 = λ t. IsServedIn seen partition t seat number place message.call reply in
-    let S : ℕ → Type 0 = λ s. IsServedIn seen partition name.tenant s number place message.call reply in
-    ∥∥₁_map came (λ ok. in_later seen name.seen partition name.tenant name.seat number place message.call reply pre (subst S own (subst R its (subst Q has (subst P is ok)))))
+    → CameSo seen mark partition tenant seat number message outcome → ∥ IsServedIn name.seen mark partition name.tenant name.seat number place message.call reply ∥₁
+came-given name seen mark partition tenant seat number place message outcome reply pre is has its own came =
+    let P : Result ℕ Fault → Type 0 = λ r. IfOk r (HasReplyIn seen mark partition tenant seat number message) in
+    let Q : Option Reply → Type 0 = λ r. IsSomeAnd r (λ told. IsServedIn seen mark partition tenant seat number place message.call told) in
+    let R : ℕ → Type 0 = λ t. IsServedIn seen mark partition t seat number place message.call reply in
+    let S : ℕ → Type 0 = λ s. IsServedIn seen mark partition name.tenant s number place message.call reply in
+    ∥∥₁_map came (λ ok. in_later seen name.seen mark partition name.tenant name.seat number place message.call reply pre (subst S own (subst R its (subst Q has (subst P is ok)))))
 
-pub came-served : (name : SeatSight) (seen : List HistoryEntry) (first last partition tenant seat number place : ℕ) (message : Message) (outcome : Result ℕ Fault) (reply : Reply)
+pub came-served : (name : SeatSight) (seen : List HistoryEntry) (mark : Mark) (first last partition tenant seat number place : ℕ) (message : Message) (outcome : Result ℕ Fault) (reply : Reply)
     → IsPrefix seen name.seen → outcome ≡ Ok place → message.reply ≡ Some reply → tenant ≡ name.tenant → seat ≡ name.seat → first < number → number ≤ last
-    → CameSo seen partition tenant seat number message outcome → IsServedFor name first last (Took number partition place reply)
-came-served name seen first last partition tenant seat number place message outcome reply pre is has its own behind up_to came =
-    (behind, up_to, ∥∥₁_map (came-given name seen partition tenant seat number place message outcome reply pre is has its own came) (λ given. (message.call, given)))
+    → CameSo seen mark partition tenant seat number message outcome → IsServedFor name first last (Took number partition place reply)
+came-served name seen mark first last partition tenant seat number place message outcome reply pre is has its own behind up_to came =
+    (behind, up_to, ∥∥₁_map (came-given name seen mark partition tenant seat number place message outcome reply pre is has its own came) (λ given. (message.call, mark, given)))
 
 -- and that its session takes as one to this message
-pub came-taken : (name : SeatSight) (seen : List HistoryEntry) (asked : Asked) (partition tenant seat number place : ℕ) (message meant : Message) (outcome : Result ℕ Fault) (reply : Reply)
-    → IsPrefix seen name.seen → outcome ≡ Ok place → message.reply ≡ Some reply → tenant ≡ name.tenant → seat ≡ name.seat
-    → CameSo seen partition tenant seat number message outcome → IsOf asked message.call → IsTakenFor message meant → IsReplyIn name asked meant (Took number partition place reply)
-came-taken name seen asked partition tenant seat number place message meant outcome reply pre is has its own came of taken =
-    (taken.reply ∙ has, ∥∥₁_map (came-given name seen partition tenant seat number place message outcome reply pre is has its own came) (λ given. (message.call, taken.call, of, given)))
+pub came-taken : (name : OperationSight) (seen : List HistoryEntry) (mark : Mark) (asked : Asked) (partition tenant seat number place : ℕ) (message meant : Message) (outcome : Result ℕ Fault) (reply : Reply)
+    → IsPrefix seen name.seen → outcome ≡ Ok place → message.reply ≡ Some reply → tenant ≡ name.tenant → seat ≡ name.seat → mark ≡ name.mark
+    → CameSo seen mark partition tenant seat number message outcome → IsOf asked message.call → IsTakenFor message meant → IsReplyIn name asked meant (Took number partition place reply)
+came-taken name seen mark asked partition tenant seat number place message meant outcome reply pre is has its own marked came of taken =
+    let P : Mark → Type 0 = λ m. IsServedIn name.seen m partition name.tenant name.seat number place message.call reply in
+    (taken.reply ∙ has, ∥∥₁_map (came-given (record { tenant = name.tenant; seat = name.seat; seen = name.seen }) seen mark partition tenant seat number place message outcome reply pre is has its own came) (λ given. (message.call, taken.call, of, subst P marked given)))
 
 -- a reply that is entered
-pub served-took : (name before : SeatSight) (seen : List HistoryEntry) (first last : ℕ) (start entries next : List Entry) (partition tenant seat number place : ℕ) (message : Message) (outcome : Result ℕ Fault) (reply : Reply)
+pub served-took : (name before : SeatSight) (seen : List HistoryEntry) (mark : Mark) (first last : ℕ) (start entries next : List Entry) (partition tenant seat number place : ℕ) (message : Message) (outcome : Result ℕ Fault) (reply : Reply)
     → IsPrefix seen before.seen → next ≡ entries ++ Took number partition place reply ∷ [] → name ≡ before → outcome ≡ Ok place → message.reply ≡ Some reply → tenant ≡ before.tenant → seat ≡ before.seat
-    → first < number → number ≤ last → CameSo seen partition tenant seat number message outcome → AreServed before first last start entries → AreServed name first last start next
-served-took name before seen first last start entries next partition tenant seat number place message outcome reply pre took same is has its own behind up_to came are =
+    → first < number → number ≤ last → CameSo seen mark partition tenant seat number message outcome → AreServed before first last start entries → AreServed name first last start next
+served-took name before seen mark first last start entries next partition tenant seat number place message outcome reply pre took same is has its own behind up_to came are =
     served-same before name first first last last start (entries ++ Took number partition place reply ∷ []) next same refl (omega arith) took
-    (served-more before first last start entries _ (came-served before seen first last partition tenant seat number place message outcome reply pre is has its own behind up_to came) are)
+    (served-more before first last start entries _ (came-served before seen mark first last partition tenant seat number place message outcome reply pre is has its own behind up_to came) are)

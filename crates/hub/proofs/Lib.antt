@@ -13,3 +13,4 @@ mod Behind
 mod Started
 mod Taking
 pub mod Evidence
+mod Fresh

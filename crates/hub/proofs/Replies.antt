@@ -20,15 +20,21 @@ use Rattle.tenant_sessions.specs.Moves.{answer_of}
 use Rattle.tenant_sessions.specs.Showing.{IfReads, IfLists, IfTells, TellsStamp, IsAnswerTo, IsShown, IsTakenFor, Shows}
 use Rattle.tenant_sessions.specs.Running.{MayBegin}
 use Rattle.plain_store.specs.declared.answer.Rows.{Rows}
-use Rattle.hub.specs.Replies.{IsUnder, IsOf, IsStampOf, IsReplyIn, AreAmong, IsFromReplies, IsWriteOf, IsReadOf, IsListOf, IsToldOf, IsToldFor, IfDone, IfRead, IfListed, IfSays, IsReadBySeat, IfTold, Reads}
+use Rattle.hub.specs.Replies.{IsUnder, IsOf, IsStampOf, IsReplyIn, AreAmong, IsFromReplies, IsWriteOf, IsReadOf, IsListOf, IsToldOf, IsToldFor, IfShows, IfDone, IfRead, IfListed, IfSays, IsReadBySeat, IfTold, Reads}
 use Rattle.hub.specs.Seats.{at_seat, told_by}
 use Rattle.shard.specs.Jobs.{refusal_of}
 use Rattle.hub.specs.Requests.{intent_of, test_of}
 use Rattle.shard.specs.declared.jobs.Fault.{Fault}
 use Rattle.hub.specs.declared.seat_request.SeatRequest.{SeatRequest}
 use Rattle.hub.specs.declared.seat_request.SeatRequest.TheVariants as ask
-use Rattle.hub.specs.Sights.{SeatSight}
-use Rattle.hub.proofs.Given.{IsLaterSight, seen-later}
+use Rattle.history.specs.declared.entry.Mark.{Mark}
+use mathlib.Core.List.{IsPrefix}
+use Rattle.history.specs.declared.entry.HistoryEntry.{HistoryEntry}
+use Rattle.history.proofs.Lists.{prefix_has, prefix_join}
+use Rattle.traced_client.specs.Clients.{HasWith}
+use Rattle.hub.specs.Evidence.{HasBegunIn, IsMarkedSince}
+use Rattle.hub.specs.Sights.{OperationSight}
+use Rattle.hub.proofs.Given.{IsLaterOperation, operation-later}
 use Rattle.hub.proofs.Entries.{told-none, told-some}
 use Rattle.hub.proofs.Refusals.{passed}
 use Rattle.plain_store.specs.declared.refusal.Refusal.{Refusal}
@@ -39,13 +45,13 @@ use Rattle.tenant_sessions.specs.declared.session.ClientSession.{ClientSession}
 
 -- ---- replies among entries
 
-among_more : (name : SeatSight) (asked : Asked) (messages : List Message) (entries : List Entry) (e : Entry) → AreAmong name asked messages entries → AreAmong name asked messages (entries ++ e ∷ [])
+among_more : (name : OperationSight) (asked : Asked) (messages : List Message) (entries : List Entry) (e : Entry) → AreAmong name asked messages entries → AreAmong name asked messages (entries ++ e ∷ [])
 among_more name asked [] entries e is = tt
 among_more name asked (m ∷ ms) [] e is = absurd is
 among_more name asked (m ∷ ms) (x ∷ xs) e (inl is) = inl (is.0, among_more name asked ms xs e is.1)
 among_more name asked (m ∷ ms) (x ∷ xs) e (inr is) = inr (among_more name asked (m ∷ ms) xs e is)
 
-pub among_push : (name : SeatSight) (asked : Asked) (messages : List Message) (entries : List Entry) (message : Message) (e : Entry) → IsReplyIn name asked message e → AreAmong name asked messages entries → AreAmong name asked (messages ++ message ∷ []) (entries ++ e ∷ [])
+pub among_push : (name : OperationSight) (asked : Asked) (messages : List Message) (entries : List Entry) (message : Message) (e : Entry) → IsReplyIn name asked message e → AreAmong name asked messages entries → AreAmong name asked (messages ++ message ∷ []) (entries ++ e ∷ [])
 among_push name asked [] [] message e has is = inl (has, tt)
 among_push name asked [] (x ∷ xs) message e has is = inr (among_push name asked [] xs message e has tt)
 among_push name asked (m ∷ ms) [] message e has is = absurd is
@@ -57,7 +63,7 @@ among_push name asked (m ∷ ms) (x ∷ xs) message e has (inr is) = inr (among_
 more_is : (start entries more : List Entry) (e : Entry) → entries ≡ start ++ more → entries ++ e ∷ [] ≡ start ++ (more ++ e ∷ [])
 more_is start entries more e is = ap (λ (es : List Entry). es ++ e ∷ []) is ∙ append_assoc start more (e ∷ [])
 
-read_more : (name : SeatSight) (asked : Asked) (start entries : List Entry) (e : Entry) (Answers : List Message → Message → Type 0) → IsFromReplies name asked start entries Answers → IsFromReplies name asked start (entries ++ e ∷ []) Answers
+read_more : (name : OperationSight) (asked : Asked) (start entries : List Entry) (e : Entry) (Answers : List Message → Message → Type 0) → IsFromReplies name asked start entries Answers → IsFromReplies name asked start (entries ++ e ∷ []) Answers
 read_more name asked start entries e Answers read = record {
   more = read.more ++ e ∷ [];
   is = more_is start entries read.more e read.is;
@@ -141,7 +147,7 @@ if_says (Writes stamp items) answer P Q so is = if_done answer _ _ (λ told says
 if_says (Gets keys) answer P Q so is = if_read answer P Q so is
 if_says (Finds tag) answer P Q so is = if_listed answer P Q so is
 
-told_more : (name : SeatSight) (setup : Setup) (asked : Asked) (start entries : List Entry) (e : Entry) (told : Option Answer)
+told_more : (name : OperationSight) (setup : Setup) (asked : Asked) (start entries : List Entry) (e : Entry) (told : Option Answer)
     → IfTold told (λ answer. IfSays asked answer (IsToldOf name setup asked start entries)) → IfTold told (λ answer. IfSays asked answer (IsToldOf name setup asked start (entries ++ e ∷ [])))
 told_more name setup asked start entries e None is = tt
 told_more name setup asked start entries e (Some answer) is = if_says asked answer _ _ (λ told. read_more name asked start entries e (λ taken last. IsAnswerTo setup asked taken last told)) is
@@ -195,7 +201,7 @@ ignored_tells (Writes stamp items) P = tt
 ignored_tells (Gets keys) P = tt
 ignored_tells (Finds tag) P = tt
 
-pub reading-took : (name : SeatSight) (setup : Setup) (asked : Asked) (start entries : List Entry) (running after : Option Running) (message : Message) (move : Move) (e : Entry)
+pub reading-took : (name : OperationSight) (setup : Setup) (asked : Asked) (start entries : List Entry) (running after : Option Running) (message : Message) (move : Move) (e : Entry)
     → ((m : Message) → IsTakenFor message m → IsReplyIn name asked m e) → IsReadBySeat name setup asked start entries running
     → ((taken : List Message) → IsShown setup asked taken running → Shows setup asked taken message move (λ replies. IsShown setup asked replies after))
     → IsReadBySeat name setup asked start (entries ++ e ∷ []) after × IfTells asked move (IsToldOf name setup asked start (entries ++ e ∷ []))
@@ -224,7 +230,7 @@ reading-took name setup asked start entries running after message move e enters 
 
 -- ---- an answer that is entered
 
-pub reading_more : (name : SeatSight) (setup : Setup) (asked : Asked) (start entries : List Entry) (running : Option Running) (e : Entry) → IsReadBySeat name setup asked start entries running → IsReadBySeat name setup asked start (entries ++ e ∷ []) running
+pub reading_more : (name : OperationSight) (setup : Setup) (asked : Asked) (start entries : List Entry) (running : Option Running) (e : Entry) → IsReadBySeat name setup asked start entries running → IsReadBySeat name setup asked start (entries ++ e ∷ []) running
 reading_more name setup asked start entries running e reading = record {
   more = reading.more ++ e ∷ [];
   is = more_is start entries reading.more e reading.is;
@@ -275,7 +281,7 @@ told_at_end (Gets keys) move rows P is = read_at_end move rows P is
 told_at_end (Finds tag) move rows P is = list_at_end move rows P is
 
 -- the answer that a move ends the operation with
-pub reads-answered : (name : SeatSight) (setup : Setup) (asked : Asked) (start entries : List Entry) (running : Option Running) (move : Move) (rows : Rows) (answer : Answer) (e : Entry)
+pub reads-answered : (name : OperationSight) (setup : Setup) (asked : Asked) (start entries : List Entry) (running : Option Running) (move : Move) (rows : Rows) (answer : Answer) (e : Entry)
     → answer ≡ at_seat (answer_of move rows) → IsReadBySeat name setup asked start entries running → IfTells asked move (IsToldOf name setup asked start entries) → Reads name setup asked start (entries ++ e ∷ []) running (Some answer)
 reads-answered name setup asked start entries running move rows answer e is reading reads =
     let P : Answer → Type 0 = λ a. IfSays asked a (IsToldOf name setup asked start (entries ++ e ∷ [])) in
@@ -286,7 +292,7 @@ reads-answered name setup asked start entries running move rows answer e is read
     }
 
 -- a reply that was entered, with its session's move
-pub reads-took : (name : SeatSight) (setup : Setup) (asked : Asked) (start entries : List Entry) (running after : Option Running) (told : Option Answer) (message : Message) (move : Move) (e : Entry)
+pub reads-took : (name : OperationSight) (setup : Setup) (asked : Asked) (start entries : List Entry) (running after : Option Running) (told : Option Answer) (message : Message) (move : Move) (e : Entry)
     → ((m : Message) → IsTakenFor message m → IsReplyIn name asked m e) → Reads name setup asked start entries running told
     → ((taken : List Message) → IsShown setup asked taken running → Shows setup asked taken message move (λ replies. IsShown setup asked replies after))
     → Reads name setup asked start (entries ++ e ∷ []) after told × IfTells asked move (IsToldOf name setup asked start (entries ++ e ∷ []))
@@ -295,7 +301,7 @@ reads-took name setup asked start entries running after told message move e ente
     (record { reading = took.0; answered = told_more name setup asked start entries e told reads.answered }, took.1)
 
 -- nothing was entered yet
-pub reads-start : (name : SeatSight) (setup : Setup) (asked : Asked) (start : List Entry) (running : Option Running) → IsShown setup asked [] running → Reads name setup asked start start running None
+pub reads-start : (name : OperationSight) (setup : Setup) (asked : Asked) (start : List Entry) (running : Option Running) → IsShown setup asked [] running → Reads name setup asked start start running None
 reads-start name setup asked start running shown = record {
   reading = record { more = []; is = sym (append-nil start); taken = []; among = tt; shown = shown };
   answered = tt;
@@ -304,7 +310,7 @@ reads-start name setup asked start running shown = record {
 -- ---- for the functions of an operation
 
 -- the answer that an operation ends with was entered, and its place is used up
-pub reads-ended : {X : Type 0} (name : SeatSight) (setup : Setup) (asked : Asked) (start entries after : List Entry) (running next : Option Running) (place : Option X) (told : Option Answer) (move : Move) (answer : Answer)
+pub reads-ended : {X : Type 0} (name : OperationSight) (setup : Setup) (asked : Asked) (start entries after : List Entry) (running next : Option Running) (place : Option X) (told : Option Answer) (move : Move) (answer : Answer)
     → after ≡ entries ++ Answered answer ∷ [] → next ≡ running → IsNone place → ((rows : Rows) → answer ≡ at_seat (answer_of move rows))
     → Reads name setup asked start entries running told → IfTells asked move (IsToldOf name setup asked start entries) → Reads name setup asked start after next (told_by place answer)
 reads-ended name setup asked start entries after running next (Some used) told move answer entered same none tells reads moved = cc
@@ -315,7 +321,7 @@ reads-ended name setup asked start entries after running next None told move ans
     subst P (sym entered) (subst Q (sym same) (reads-answered name setup asked start entries running move rows answer (Answered answer) (tells rows) reads.reading moved))
 
 -- a reply was entered, and its session took it
-pub reads-served : {X : Type 0} (name : SeatSight) (setup : Setup) (asked : Asked) (start entries next : List Entry) (session kept after : ClientSession) (place left : Option X) (answer : Answer) (message : Message) (move : Move) (number partition at : ℕ) (reply : Reply)
+pub reads-served : {X : Type 0} (name : OperationSight) (setup : Setup) (asked : Asked) (start entries next : List Entry) (session kept after : ClientSession) (place left : Option X) (answer : Answer) (message : Message) (move : Move) (number partition at : ℕ) (reply : Reply)
     → next ≡ entries ++ Took number partition at reply ∷ [] → kept ≡ session → left ≡ place → ((m : Message) → IsTakenFor message m → IsReplyIn name asked m (Took number partition at reply))
     → ((setup : Setup) (asked : Asked) (taken : List Message) → IsShown setup asked taken kept.running → Shows setup asked taken message move (λ replies. IsShown setup asked replies after.running))
     → Reads name setup asked start entries session.running (told_by place answer)
@@ -361,7 +367,7 @@ under-asked own (Gets keys) call is under = tt
 under-asked own (Finds tag) call is under = tt
 
 -- what a request writes, reads or finds that began, and whose answer was entered
-pub reads-begun : {X : Type 0} (name last : SeatSight) (parts : ℕ) (own : Stamp) (Drawn : Stamp → Type 0) (request : SeatRequest) (asked : Asked) (session started after : ClientSession) (entries more : List Entry) (place left : Option X) (before answer : Answer)
+pub reads-begun : {X : Type 0} (name last : OperationSight) (parts : ℕ) (own : Stamp) (Drawn : Stamp → Type 0) (request : SeatRequest) (asked : Asked) (session started after : ClientSession) (entries more : List Entry) (place left : Option X) (before answer : Answer)
     → ((items : List Item) → asked ≡ Writes own items → Drawn own) → asked ≡ intent_of own request → test_of session request ≡ passed
     → ((setup : Setup) → setup.partitions ≡ parts → MayBegin asked → IsShown setup asked [] started.running)
     → ((setup : Setup) (start : List Entry) → Reads name setup asked start entries started.running (told_by place before) → Reads last setup asked start more after.running (told_by left answer))
@@ -399,7 +405,7 @@ reads-begun name last parts own Drawn request asked session started after entrie
         subst P begins (whole setup (shown setup is may))
 
 -- a refusal reports no reading, and no stamp
-pub reads-refused : (name : SeatSight) (parts : ℕ) (Drawn : Stamp → Type 0) (request : SeatRequest) (refusal : Refusal) (answer : Answer) (start entries : List Entry) → answer ≡ says.Refused refusal
+pub reads-refused : (name : OperationSight) (parts : ℕ) (Drawn : Stamp → Type 0) (request : SeatRequest) (refusal : Refusal) (answer : Answer) (start entries : List Entry) → answer ≡ says.Refused refusal
     → IsToldFor name parts Drawn request answer start entries
 reads-refused name parts Drawn (ask.Put items) refusal answer start entries is =
     let P : Answer → Type 0 = λ a. IsToldFor name parts Drawn (ask.Put items) a start entries in subst P (sym is) (tt, λ setup same. tt)
@@ -409,7 +415,7 @@ reads-refused name parts Drawn (ask.Find tag) refusal answer start entries is = 
     let P : Answer → Type 0 = λ a. IfListed a (IsListOf name setup tag start entries) in subst P (sym is) tt
 
 -- and what an operation answers is what it read, for all else reports a fault
-pub reads-run : (name : SeatSight) (parts : ℕ) (Drawn : Stamp → Type 0) (told : Result (Unit {0}) Fault) (request : SeatRequest) (start begun entries after : List Entry) (entered answer : Answer)
+pub reads-run : (name : OperationSight) (parts : ℕ) (Drawn : Stamp → Type 0) (told : Result (Unit {0}) Fault) (request : SeatRequest) (start begun entries after : List Entry) (entered answer : Answer)
     → OnOk told (IsToldFor name parts Drawn request entered begun entries) → begun ≡ start → OnOk told (answer ≡ entered) → IfErr told (λ f. answer ≡ says.Refused (refusal_of f))
     → after ≡ entries → IsToldFor name parts Drawn request answer start after
 reads-run name parts Drawn (Ok done) request start begun entries after entered answer read started same refused kept =
@@ -422,19 +428,19 @@ reads-run name parts Drawn (Err f) request start begun entries after entered ans
 
 -- ---- what a seat has seen grows
 
-in-later : (old new : SeatSight) (asked : Asked) (message : Message) (e : Entry) → IsLaterSight old new → IsReplyIn old asked message e → IsReplyIn new asked message e
+in-later : (old new : OperationSight) (asked : Asked) (message : Message) (e : Entry) → IsLaterOperation old new → IsReplyIn old asked message e → IsReplyIn new asked message e
 in-later old new asked message (began act) later is = absurd is
 in-later old new asked message (Took number partition place reply) later is =
-    (is.0, ∥∥₁_map is.1 (λ given. (given.0, given.1, given.2, seen-later old new partition number place given.0 reply later given.3)))
+    (is.0, ∥∥₁_map is.1 (λ given. (given.0, given.1, given.2, operation-later old new partition number place given.0 reply later given.3)))
 in-later old new asked message (Answered answer) later is = absurd is
 
-among-later : (old new : SeatSight) (asked : Asked) (messages : List Message) (entries : List Entry) → IsLaterSight old new → AreAmong old asked messages entries → AreAmong new asked messages entries
+among-later : (old new : OperationSight) (asked : Asked) (messages : List Message) (entries : List Entry) → IsLaterOperation old new → AreAmong old asked messages entries → AreAmong new asked messages entries
 among-later old new asked [] entries later is = tt
 among-later old new asked (m ∷ ms) [] later is = absurd is
 among-later old new asked (m ∷ ms) (x ∷ xs) later (inl is) = inl (in-later old new asked m x later is.0, among-later old new asked ms xs later is.1)
 among-later old new asked (m ∷ ms) (x ∷ xs) later (inr is) = inr (among-later old new asked (m ∷ ms) xs later is)
 
-from-later : (old new : SeatSight) (asked : Asked) (start entries : List Entry) (Answers : List Message → Message → Type 0) → IsLaterSight old new
+from-later : (old new : OperationSight) (asked : Asked) (start entries : List Entry) (Answers : List Message → Message → Type 0) → IsLaterOperation old new
     → IsFromReplies old asked start entries Answers → IsFromReplies new asked start entries Answers
 from-later old new asked start entries Answers later from = record {
   more = from.more;
@@ -445,14 +451,14 @@ from-later old new asked start entries Answers later from = record {
   answers = from.answers;
 }
 
-told-later : (old new : SeatSight) (setup : Setup) (asked : Asked) (start entries : List Entry) (told : Option Answer) → IsLaterSight old new
+told-later : (old new : OperationSight) (setup : Setup) (asked : Asked) (start entries : List Entry) (told : Option Answer) → IsLaterOperation old new
     → IfTold told (λ answer. IfSays asked answer (IsToldOf old setup asked start entries)) → IfTold told (λ answer. IfSays asked answer (IsToldOf new setup asked start entries))
 told-later old new setup asked start entries None later is = tt
 told-later old new setup asked start entries (Some answer) later is =
     if_says asked answer _ _ (λ told. from-later old new asked start entries (λ taken last. IsAnswerTo setup asked taken last told) later) is
 
 -- what was read so far is so by what is seen later
-pub reads-later : (old new : SeatSight) (setup : Setup) (asked : Asked) (start entries : List Entry) (running : Option Running) (told : Option Answer) → IsLaterSight old new
+pub reads-later : (old new : OperationSight) (setup : Setup) (asked : Asked) (start entries : List Entry) (running : Option Running) (told : Option Answer) → IsLaterOperation old new
     → Reads old setup asked start entries running told → Reads new setup asked start entries running told
 reads-later old new setup asked start entries running told later reads =
     let r = reads.reading in
@@ -460,3 +466,93 @@ reads-later old new setup asked start entries running told later reads =
       reading = record { more = r.more; is = r.is; taken = r.taken; among = among-later old new asked r.taken r.more later r.among; shown = r.shown };
       answered = told-later old new setup asked start entries told later reads.answered;
     }
+
+-- ---- what has the mark of a read or a search
+
+with_later : (mark after : Mark) (before seen now : List HistoryEntry) → HasWith mark seen before → IsPrefix seen now → after ≡ mark → HasWith after now before
+with_later mark after before seen now has pre same =
+    let P : Mark → Type 0 = λ m. HasWith m now before in
+    let later : P mark = λ log all this that many. has log all (prefix_join seen now all pre this) that many in
+    subst P (sym same) later
+
+-- it has what was seen before that, and so where what was seen has grown
+pub shows_since : (name : OperationSight) (parts : ℕ) (Drawn : Stamp → Type 0) (request : SeatRequest) (answer : Answer) (start entries : List Entry) (mark after : Mark) (before seen now : List HistoryEntry)
+    → IsMarkedSince request mark seen before → IsPrefix seen now → after ≡ mark → IsToldFor name parts Drawn request answer start entries → IfShows request answer (HasWith after now before)
+shows_since name parts Drawn (ask.Put items) answer start entries mark after before seen now since pre same told = tt
+shows_since name parts Drawn (ask.Get keys) answer start entries mark after before seen now since pre same told =
+    if_read answer (IsReadOf name keys.now start entries) (λ readings. HasWith after now before) (λ readings is. with_later mark after before seen now since pre same) told
+shows_since name parts Drawn (ask.Find tag) answer start entries mark after before seen now since pre same told =
+    let setup : Setup = record { partitions = parts; room = record { slots = 0; items = 0; clients = 0 }; keep = 0 } in
+    if_listed answer (IsListOf name setup tag start entries) (λ readings. HasWith after now before) (λ readings is. with_later mark after before seen now since pre same) (told setup refl)
+
+-- a refusal shows nothing
+pub shows_refused : (request : SeatRequest) (refusal : Refusal) (answer : Answer) (P : Type 0) → answer ≡ says.Refused refusal → IfShows request answer P
+shows_refused (ask.Put items) refusal answer P is = tt
+shows_refused (ask.Get keys) refusal answer P is = let Q : Answer → Type 0 = λ a. IfRead a (λ told. P) in subst Q (sym is) tt
+shows_refused (ask.Find tag) refusal answer P is = let Q : Answer → Type 0 = λ a. IfListed a (λ told. P) in subst Q (sym is) tt
+
+-- and what an operation answers shows what it showed, for all else reports a fault
+pub shows_run : (told : Result (Unit {0}) Fault) (request : SeatRequest) (entered answer : Answer) (P : Type 0)
+    → OnOk told (IfShows request entered P) → OnOk told (answer ≡ entered) → IfErr told (λ f. answer ≡ says.Refused (refusal_of f)) → IfShows request answer P
+shows_run (Ok done) request entered answer P shows same refused = let Q : Answer → Type 0 = λ a. IfShows request a P in subst Q (sym same) shows
+shows_run (Err f) request entered answer P shows same refused = shows_refused request (refusal_of f) answer P refused
+
+-- ---- what has begun, with what is seen later
+
+pub begun_in_later : (seen now : List HistoryEntry) (tenant : ℕ) (asked : Asked) → IsPrefix seen now → HasBegunIn seen tenant asked → HasBegunIn now tenant asked
+begun_in_later seen now tenant (Writes own items) pre has = (has.0, prefix_has seen now _ pre has.1)
+begun_in_later seen now tenant (Gets keys) pre has = tt
+begun_in_later seen now tenant (Finds tag) pre has = tt
+
+pub marked_since_later : (request : SeatRequest) (mark : Mark) (seen now before : List HistoryEntry) → IsPrefix seen now → IsMarkedSince request mark seen before → IsMarkedSince request mark now before
+marked_since_later (ask.Put items) mark seen now before pre since = tt
+marked_since_later (ask.Get keys) mark seen now before pre since = with_later mark mark before seen now since pre refl
+marked_since_later (ask.Find tag) mark seen now before pre since = with_later mark mark before seen now since pre refl
+
+-- ---- what is said twice of an answer
+
+pub both_read : (answer : Answer) (P Q R : List Reading → Type 0) → ((told : List Reading) → P told → Q told → R told) → IfRead answer P → IfRead answer Q → IfRead answer R
+both_read (says.Refused refusal) P Q R so one two = tt
+both_read (says.Ready counter) P Q R so one two = tt
+both_read (says.PutBegun stamp rows) P Q R so one two = tt
+both_read (says.GetBegun rows) P Q R so one two = tt
+both_read (says.FindBegun rows) P Q R so one two = tt
+both_read (says.Replied row reply) P Q R so one two = tt
+both_read says.Ignored P Q R so one two = tt
+both_read says.Wait P Q R so one two = tt
+both_read (says.Decided stamp rows) P Q R so one two = tt
+both_read (says.Done stamp) P Q R so one two = tt
+both_read (says.Ask rows) P Q R so one two = tt
+both_read (says.BeginsRead rows) P Q R so one two = tt
+both_read (says.Read told) P Q R so one two = so told one two
+both_read (says.Listed told) P Q R so one two = absurd one
+both_read (says.Restart key floor) P Q R so one two = tt
+both_read (says.Ended refusal rows) P Q R so one two = tt
+both_read says.Lost P Q R so one two = tt
+both_read says.Stopped P Q R so one two = tt
+both_read (says.Sent rows) P Q R so one two = tt
+both_read (says.Freed count) P Q R so one two = tt
+both_read (says.Keeps keep) P Q R so one two = tt
+
+pub both_listed : (answer : Answer) (P Q R : List Reading → Type 0) → ((told : List Reading) → P told → Q told → R told) → IfListed answer P → IfListed answer Q → IfListed answer R
+both_listed (says.Refused refusal) P Q R so one two = tt
+both_listed (says.Ready counter) P Q R so one two = tt
+both_listed (says.PutBegun stamp rows) P Q R so one two = tt
+both_listed (says.GetBegun rows) P Q R so one two = tt
+both_listed (says.FindBegun rows) P Q R so one two = tt
+both_listed (says.Replied row reply) P Q R so one two = tt
+both_listed says.Ignored P Q R so one two = tt
+both_listed says.Wait P Q R so one two = tt
+both_listed (says.Decided stamp rows) P Q R so one two = tt
+both_listed (says.Done stamp) P Q R so one two = tt
+both_listed (says.Ask rows) P Q R so one two = tt
+both_listed (says.BeginsRead rows) P Q R so one two = tt
+both_listed (says.Read told) P Q R so one two = absurd one
+both_listed (says.Listed told) P Q R so one two = so told one two
+both_listed (says.Restart key floor) P Q R so one two = tt
+both_listed (says.Ended refusal rows) P Q R so one two = tt
+both_listed says.Lost P Q R so one two = tt
+both_listed says.Stopped P Q R so one two = tt
+both_listed (says.Sent rows) P Q R so one two = tt
+both_listed (says.Freed count) P Q R so one two = tt
+both_listed (says.Keeps keep) P Q R so one two = tt

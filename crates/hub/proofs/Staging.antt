@@ -1,14 +1,15 @@
 -- The calls of a round that are taken out one after the other.
-use Rattle.std.proofs.Common.{◌≡◌, ◌<◌, ◌≤◌, ◌+◌, ◌-◌, ℕ, suc, List, [], ◌∷◌, ◌++◌, Bool, true, false, cond, length, map, take, drop, get_or, refl, sym, ap, subst, ⊎_elim, ◌∙◌, arith, add-one, length-drop, length-take}
+use Rattle.std.proofs.Common.{◌≡◌, ◌<◌, ◌≤◌, ◌+◌, ◌-◌, ℕ, suc, List, [], ◌∷◌, ◌++◌, Bool, true, false, cond, length, take, drop, get_or, Result, Ok, refl, sym, ap, subst, ⊎_elim, ◌∙◌, arith, add-one, length-drop, length-take}
 use Rattle.std.specs.List.{count_by, remove}
-use Rattle.std.proofs.lemmas.List.{take-append-drop, drop-append-le, drop_more, drop-map}
+use Rattle.std.proofs.lemmas.List.{take-append-drop, drop-append-le, drop_more}
 use Rattle.std.proofs.lemmas.Option.{slice_get_cases}
 use Rattle.std.proofs.lemmas.List.Sums.{count_by-le-length, sum_by-append, sum_by-cons, sum_by-drop_more}
 use Rattle.history.specs.declared.rule.Naming.{Ghosts}
-use Rattle.shard.specs.declared.shard.CallState.{CallState}
 use Rattle.shard.specs.declared.shard.Staged.{Staged}
+use Rattle.std.specs.Prelude.{IsOkAnd}
+use Rattle.shard.specs.declared.jobs.SeatReply.{SeatReply}
 use Rattle.shard.specs.declared.seat_call.SeatCall.{SeatCall}
-use Rattle.hub.specs.Staging.{is_to_serve, is_unserved, unserved, IsFirstOf}
+use Rattle.hub.specs.Staging.{is_unserved, unserved, IfFirst, IsFirstOf, IsReplyOf}
 
 -- nothing is left behind the last
 pub none-past : {G : Type 0} {naming : Ghosts G} (calls : List (Staged G naming)) (at : ℕ) → length calls ≤ at → unserved at calls ≡ 0
@@ -70,3 +71,15 @@ taken-out {G} {naming} old now new from since at staged same since_is before wit
 pub passed-one : {G : Type 0} {naming : Ghosts G} (calls : List (Staged G naming)) (at : ℕ) → at < length calls → ((other : Staged G naming) → is_unserved (get_or calls at other) ≡ false) → unserved (at + 1) calls ≡ unserved at calls
 passed-one {G} {naming} calls at within is =
     ⊎_elim (λ h. unserved-passed calls at h.0 within (is h.0)) (λ h. absurd (omega (arith, h.0, within))) (slice_get_cases calls at).1
+
+-- what is said of the first of them is said otherwise
+pub if_first : {G : Type 0} {naming : Ghosts G} (calls : List (Staged G naming)) (P Q : Staged G naming → Type 0) → ((staged : Staged G naming) → P staged → Q staged) → IfFirst calls P → IfFirst calls Q
+if_first {G} {naming} [] P Q so first = tt
+if_first {G} {naming} (staged ∷ calls) P Q so first = so staged first
+
+-- what came is a reply to the first of them
+pub first_replied : {G E : Type 0} {naming : Ghosts G} (calls : List (Staged G naming)) (result : Result (SeatReply G naming) E) (reply : SeatReply G naming) → result ≡ Ok reply
+    → IfFirst calls (λ (staged : Staged G naming). IsOkAnd result (IsReplyOf staged)) → IfFirst calls (λ (staged : Staged G naming). IsReplyOf staged reply)
+first_replied {G} {E} {naming} calls result reply is first =
+    let P : Result (SeatReply G naming) E → Type 0 = λ r. IfFirst calls (λ (staged : Staged G naming). IsOkAnd r (IsReplyOf staged)) in
+    subst P is first

@@ -10,9 +10,12 @@ use Rattle.history.specs.declared.entry.HistoryEntry.TheVariants.{Began}
 use Rattle.history.specs.Legal.{IsOfPut, MayDecide}
 use Rattle.tenant_sessions.specs.Running.{MayBegin}
 use Rattle.tenant_sessions.specs.declared.running.Running.{Running}
-use Rattle.traced_client.specs.Clients.{ClientTrace}
+use Rattle.history.specs.declared.entry.Mark.{Mark}
+use Rattle.traced_client.specs.Clients.{ClientTrace, HasWith}
+use Rattle.hub.specs.declared.seat_request.SeatRequest.{SeatRequest}
+use Rattle.hub.specs.declared.seat_request.SeatRequest.TheVariants.{Put, Get, Find}
 use Rattle.hub.specs.Replies.{IsStampOf, Reads}
-use Rattle.hub.specs.Sights.{SeatSight}
+use Rattle.hub.specs.Sights.{OperationSight}
 
 -- the put of a write is an entry
 abbrev pub HasBegunIn : List HistoryEntry → ℕ → Asked → Type 0
@@ -21,7 +24,7 @@ HasBegunIn seen tenant (Gets keys) = Unit {0}
 HasBegunIn seen tenant (Finds tag) = Unit {0}
 
 -- Something was asked, the put of which is an entry if it is a write, and what runs took replies that were entered since then.
-pub record IsUnderWay (sight : SeatSight) (own : Stamp) (entries : List Entry) (running : Option Running) (told : Option Answer)
+pub record IsUnderWay (sight : OperationSight) (own : Stamp) (entries : List Entry) (running : Option Running) (told : Option Answer)
     : Type 0 where
   pub setup : Setup
   pub asked : Asked
@@ -30,6 +33,16 @@ pub record IsUnderWay (sight : SeatSight) (own : Stamp) (entries : List Entry) (
   pub well : MayBegin asked
   pub began : HasBegunIn sight.seen sight.tenant asked
   pub reads : Reads sight setup asked start entries running told
+
+-- that of no entries
+abbrev pub no_mark : Mark
+no_mark = record { word = 0; entries = 0 }
+
+-- what has the mark of a read or a search has all that was seen before it; nothing is said of a put
+abbrev pub IsMarkedSince : SeatRequest → Mark → (seen before : List HistoryEntry) → Type 0
+IsMarkedSince (Put items) mark seen before = Unit {0}
+IsMarkedSince (Get keys) mark seen before = HasWith mark seen before
+IsMarkedSince (Find tag) mark seen before = HasWith mark seen before
 
 -- a client's word, where it is here, is of the tenant
 abbrev pub tenant_or : ℕ → Option ClientTrace → ℕ

@@ -9,18 +9,18 @@ use Rattle.history.specs.declared.rule.Naming.{Ghosts}
 use Rattle.hub.specs.Evidence.{IsUnderWay}
 use Rattle.hub.specs.Replies.{AreServed, Reads}
 use Rattle.hub.specs.Seats.{Follows, told_by}
-use Rattle.hub.specs.Sights.{SeatSight, sight_of}
+use Rattle.hub.specs.Sights.{OperationSight, sight_of}
 use Rattle.hub.specs.declared.operation.RunningOperation.{RunningOperation}
 
 -- ---- where it stands, with this place for its answer
 
 -- what it has outstanding is so by its entries, for whoever sees so much
-abbrev pub IsUnderWayAt : {G : Type 0} {naming : Ghosts G} → SeatSight → Stamp → RunningOperation G naming → Answer → Type 0
+abbrev pub IsUnderWayAt : {G : Type 0} {naming : Ghosts G} → OperationSight → Stamp → RunningOperation G naming → Answer → Type 0
 IsUnderWayAt sight own operation answer =
     ∥ IsUnderWay sight own operation.entries.items operation.session.running (told_by operation.place answer) ∥₁
 
 -- its entries are those of a request that began behind these
-abbrev pub ReadsAt : {G : Type 0} {naming : Ghosts G} → SeatSight → Setup → Intent → List Entry → RunningOperation G naming → Answer → Type 0
+abbrev pub ReadsAt : {G : Type 0} {naming : Ghosts G} → OperationSight → Setup → Intent → List Entry → RunningOperation G naming → Answer → Type 0
 ReadsAt sight setup asked start operation answer =
     Reads sight setup asked start operation.entries.items operation.session.running (told_by operation.place answer)
 
@@ -41,19 +41,27 @@ StillServed old new =
 abbrev pub OnlySends : {G : Type 0} {naming : Ghosts G} → (old new : RunningOperation G naming) → Type 0
 OnlySends old new =
     (new.name ≡ old.name) × (new.session ≡ old.session) × (new.entries ≡ old.entries) × (new.first ≡ old.first)
-    × (new.place ≡ old.place) × (new.fault ≡ old.fault) × (new.readings ≡ old.readings) × (new.seen ≡ old.seen)
+    × (new.place ≡ old.place) × (new.fault ≡ old.fault) × (new.readings ≡ old.readings) × (new.seen ≡ old.seen) × (new.mark ≡ old.mark)
 
 -- it is the same seat's, whose calls are numbered on from the same place, and what was seen of the history is seen still
-pub record GoesOnAs {G : Type 0} {naming : Ghosts G} (old new : RunningOperation G naming) : Type 0 where
+pub record IsSameSeat {G : Type 0} {naming : Ghosts G} (old new : RunningOperation G naming) : Type 0 where
   pub name : new.name ≡ old.name
   pub first : new.first ≡ old.first
   pub seen : IsPrefix old.seen new.seen
 
--- the seat, its session and what was seen of the history are the same
+-- so within one operation, whose mark stays
+pub record GoesOnAs {G : Type 0} {naming : Ghosts G} (old new : RunningOperation G naming) : Type 0 where
+  pub name : new.name ≡ old.name
+  pub first : new.first ≡ old.first
+  pub seen : IsPrefix old.seen new.seen
+  pub mark : new.mark ≡ old.mark
+
+-- the seat, its session, its mark and what was seen of the history are the same
 pub record KeepsSession {G : Type 0} {naming : Ghosts G} (old new : RunningOperation G naming) : Type 0 where
   pub name : new.name ≡ old.name
   pub session : new.session ≡ old.session
   pub seen : new.seen ≡ old.seen
+  pub mark : new.mark ≡ old.mark
 
 -- all is the same but the entries and the room for the answer
 pub record OnlyEnters {G : Type 0} {naming : Ghosts G} (old new : RunningOperation G naming) : Type 0 where
@@ -61,6 +69,7 @@ pub record OnlyEnters {G : Type 0} {naming : Ghosts G} (old new : RunningOperati
   pub first : new.first ≡ old.first
   pub session : new.session ≡ old.session
   pub seen : new.seen ≡ old.seen
+  pub mark : new.mark ≡ old.mark
   pub dispatcher : new.dispatcher ≡ old.dispatcher
   pub fault : new.fault ≡ old.fault
   pub readings : new.readings ≡ old.readings

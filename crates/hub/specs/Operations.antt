@@ -10,7 +10,7 @@ use Rattle.plain_store.specs.declared.step.Act.TheVariants.{Put, Get, Find}
 use Rattle.plain_store.specs.Words.{Key, Tag, Setup}
 use Rattle.hub.specs.Limits.{max_calls}
 use Rattle.hub.specs.Replies.{AreServed, IfDone, IfListed, IfRead, IsListOf, IsReadOf, IsWriteOf}
-use Rattle.hub.specs.Seats.{SeatView, Extends, IsEntered, begun_entries, sight}
+use Rattle.hub.specs.Seats.{SeatView, Extends, IsEntered, begun_entries, last_operation, sight}
 
 -- The seat is that of the same session, later: its entries stay, it sent at most so many calls more, and each reply that
 -- it entered since came to one of these.
@@ -35,13 +35,13 @@ pub record IsOperation (act : Act) (old : SeatView) (answer : Answer) (new : Sea
 abbrev pub ReportsWrite : List Item → SeatView → Answer → SeatView → Type 0
 ReportsWrite items old answer new =
     (setup : Setup) → setup.partitions ≡ old.parts
-    → IfDone answer (λ own. IsWriteOf (sight new) setup own items (begun_entries old (Put old.name.client items)) new.entries)
+    → IfDone answer (λ own. IsWriteOf (last_operation new) setup own items (begun_entries old (Put old.name.client items)) new.entries)
 
 abbrev pub ReportsRead : List Key → SeatView → Answer → SeatView → Type 0
 ReportsRead keys old answer new =
-    IfRead answer (IsReadOf (sight new) keys (begun_entries old (Get old.name.client keys)) new.entries)
+    IfRead answer (IsReadOf (last_operation new) keys (begun_entries old (Get old.name.client keys)) new.entries)
 
 abbrev pub ReportsList : Tag → SeatView → Answer → SeatView → Type 0
 ReportsList tag old answer new =
     (setup : Setup) → setup.partitions ≡ old.parts
-    → IfListed answer (IsListOf (sight new) setup tag (begun_entries old (Find old.name.client tag)) new.entries)
+    → IfListed answer (IsListOf (last_operation new) setup tag (begun_entries old (Find old.name.client tag)) new.entries)

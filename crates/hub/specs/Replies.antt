@@ -14,8 +14,9 @@ use Rattle.entry_list.specs.declared.kinds.Entry.{Entry}
 use Rattle.entry_list.specs.declared.kinds.Entry.TheVariants.{Began, Took, Answered}
 use Rattle.tenant_sessions.specs.declared.running.Running.{Running}
 use Rattle.tenant_sessions.specs.Showing.{IsCallFor, IsWritersAnswer, IsReadersAnswer, IsFindersAnswer, IsAnswerTo, IsShown}
+use Rattle.history.specs.declared.entry.Mark.{Mark}
 use Rattle.shard.specs.Journals.{IsServedIn}
-use Rattle.hub.specs.Sights.{SeatSight}
+use Rattle.hub.specs.Sights.{OperationSight, SeatSight}
 use Rattle.hub.specs.declared.seat_request.SeatRequest.{SeatRequest}
 use Rattle.hub.specs.declared.seat_request.SeatRequest.TheVariants.{Put, Get, Find}
 
@@ -27,7 +28,7 @@ abbrev pub IsServedFor : SeatSight → (first last : ℕ) → Entry → Type 0
 IsServedFor sight first last (Began act) = Unit {0}
 IsServedFor sight first last (Took number partition place reply) =
     (first < number) × (number ≤ last)
-    × ∥ ((call : Call) × IsServedIn sight.seen partition sight.tenant sight.seat number place call reply) ∥₁
+    × ∥ ((call : Call) × (mark : Mark) × IsServedIn sight.seen mark partition sight.tenant sight.seat number place call reply) ∥₁
 IsServedFor sight first last (Answered answer) = Unit {0}
 
 -- the entries so far, and others, each reply among which was so given
@@ -51,17 +52,18 @@ IsOf (Gets keys) call = Unit {0}
 IsOf (Finds tag) call = Unit {0}
 
 -- The message has the reply of this entry, which this session's call of that number was given at that place of a journal of the
--- partition, and of the history that its seat has seen. That call is one of what was asked, and is the message's, but for its stamp.
-abbrev pub IsReplyIn : SeatSight → Asked → Message → Entry → Type 0
+-- partition, and of the history that its seat has seen, behind the mark of its operation. That call is one of what was asked, and is
+-- the message's, but for its stamp.
+abbrev pub IsReplyIn : OperationSight → Asked → Message → Entry → Type 0
 IsReplyIn sight asked message (Began act) = ⊥
 IsReplyIn sight asked message (Took number partition place reply) =
     (message.reply ≡ Some reply)
     × ∥ ((call : Call) × IsCallFor call message.call × IsOf asked call
-    × IsServedIn sight.seen partition sight.tenant sight.seat number place call reply) ∥₁
+    × IsServedIn sight.seen sight.mark partition sight.tenant sight.seat number place call reply) ∥₁
 IsReplyIn sight asked message (Answered answer) = ⊥
 
 -- the messages have, in order, replies among those entered
-abbrev pub AreAmong : SeatSight → Asked → List Message → List Entry → Type 0
+abbrev pub AreAmong : OperationSight → Asked → List Message → List Entry → Type 0
 AreAmong sight asked [] entries = Unit {0}
 AreAmong sight asked (message ∷ messages) [] = ⊥
 AreAmong sight asked (message ∷ messages) (entry ∷ entries) =
@@ -70,7 +72,7 @@ AreAmong sight asked (message ∷ messages) (entry ∷ entries) =
 
 -- What is reported answers replies that were entered after these entries, in their order: those that the session took.
 -- Answers: those before the last, and the last
-pub record IsFromReplies (sight : SeatSight) (asked : Asked) (start entries : List Entry)
+pub record IsFromReplies (sight : OperationSight) (asked : Asked) (start entries : List Entry)
     (Answers : List Message → Message → Type 0) : Type 0 where
   pub more : List Entry
   pub is : entries ≡ start ++ more
@@ -81,22 +83,22 @@ pub record IsFromReplies (sight : SeatSight) (asked : Asked) (start entries : Li
 
 -- That the write of these items under this stamp is done is the writer's answer to them, which were given to calls under that
 -- stamp: each item's PREPARE was accepted, and the COMMIT done at each home.
-abbrev pub IsWriteOf : SeatSight → Setup → Stamp → List Item → List Entry → List Entry → Type 0
+abbrev pub IsWriteOf : OperationSight → Setup → Stamp → List Item → List Entry → List Entry → Type 0
 IsWriteOf sight setup own items start entries =
     IsFromReplies sight (Writes own items) start entries (λ taken last. IsWritersAnswer setup own items taken last)
 
 -- it is the reader's answer to them: what they showed, and unfractured by the write sets that they showed
-abbrev pub IsReadOf : SeatSight → List Key → List Entry → List Entry → List Reading → Type 0
+abbrev pub IsReadOf : OperationSight → List Key → List Entry → List Entry → List Reading → Type 0
 IsReadOf sight keys start entries told =
     IsFromReplies sight (Gets keys) start entries (λ taken last. IsReadersAnswer keys taken last told)
 
 -- it is the finder's answer to them: of what they showed that which carries the tag, unfractured as well
-abbrev pub IsListOf : SeatSight → Setup → Tag → List Entry → List Entry → List Reading → Type 0
+abbrev pub IsListOf : OperationSight → Setup → Tag → List Entry → List Entry → List Reading → Type 0
 IsListOf sight setup tag start entries told =
     IsFromReplies sight (Finds tag) start entries (λ taken last. IsFindersAnswer setup tag taken last told)
 
 -- by what was asked
-abbrev pub IsToldOf : SeatSight → Setup → Asked → List Entry → List Entry → List Reading → Type 0
+abbrev pub IsToldOf : OperationSight → Setup → Asked → List Entry → List Entry → List Reading → Type 0
 IsToldOf sight setup asked start entries told =
     IsFromReplies sight asked start entries (λ taken last. IsAnswerTo setup asked taken last told)
 
@@ -130,7 +132,7 @@ abbrev pub IsDrawn : (client before after : ℕ) → Stamp → Type 0
 IsDrawn client before after told = (told ≡ stamp (before + 1) client) × (before < after)
 
 -- so of a request that writes under a stamp that was so drawn, reads keys, or searches so many partitions
-abbrev pub IsToldFor : SeatSight → ℕ → (Stamp → Type 0) → SeatRequest → Answer → List Entry → List Entry → Type 0
+abbrev pub IsToldFor : OperationSight → ℕ → (Stamp → Type 0) → SeatRequest → Answer → List Entry → List Entry → Type 0
 IsToldFor sight parts Drawn (Put items) answer start entries =
     IfDone answer Drawn
     × ((setup : Setup) → setup.partitions ≡ parts
@@ -138,6 +140,12 @@ IsToldFor sight parts Drawn (Put items) answer start entries =
 IsToldFor sight parts Drawn (Get keys) answer start entries = IfRead answer (IsReadOf sight keys.now start entries)
 IsToldFor sight parts Drawn (Find tag) answer start entries =
     (setup : Setup) → setup.partitions ≡ parts → IfListed answer (IsListOf sight setup tag start entries)
+
+-- what is said of a request that reads or searches, where its answer reports what was read or found
+abbrev pub IfShows : SeatRequest → Answer → Type 0 → Type 0
+IfShows (Put items) answer P = Unit {0}
+IfShows (Get keys) answer P = IfRead answer (λ told. P)
+IfShows (Find tag) answer P = IfListed answer (λ told. P)
 
 -- ---- while the operation runs
 
@@ -148,7 +156,7 @@ IsStampOf told (Gets keys) = Unit {0}
 IsStampOf told (Finds tag) = Unit {0}
 
 -- what runs, if something does, took replies that were entered after these entries
-pub record IsReadBySeat (sight : SeatSight) (setup : Setup) (asked : Asked) (start entries : List Entry)
+pub record IsReadBySeat (sight : OperationSight) (setup : Setup) (asked : Asked) (start entries : List Entry)
     (running : Option Running) : Type 0 where
   pub more : List Entry
   pub is : entries ≡ start ++ more
@@ -162,7 +170,7 @@ IfTold None P = Unit {0}
 IfTold (Some answer) P = P answer
 
 -- and what was answered by then, if anything was, is so read or found
-pub record Reads (sight : SeatSight) (setup : Setup) (asked : Asked) (start entries : List Entry)
+pub record Reads (sight : OperationSight) (setup : Setup) (asked : Asked) (start entries : List Entry)
     (running : Option Running) (told : Option Answer) : Type 0 where
   pub reading : IsReadBySeat sight setup asked start entries running
   pub answered : IfTold told (λ answer. IfSays asked answer (IsToldOf sight setup asked start entries))

@@ -11,7 +11,8 @@ use Rattle.shard.specs.declared.jobs.Fault.TheVariants as faults
 use Rattle.shard.specs.declared.seat_name.SeatName.{SeatName}
 use Rattle.closed_store.specs.declared.transcript.Transcript.{Transcript}
 use Rattle.history.specs.declared.entry.HistoryEntry.{HistoryEntry}
-use Rattle.hub.specs.Sights.{SeatSight, sight_of}
+use Rattle.history.specs.declared.entry.Mark.{Mark}
+use Rattle.hub.specs.Sights.{OperationSight, SeatSight, operation_of, sight_of}
 use Rattle.entry_list.specs.declared.kinds.Entry.{Entry}
 use Rattle.entry_list.specs.declared.kinds.Entry.TheVariants.{Began, Answered}
 
@@ -21,12 +22,17 @@ pub record SeatView : Type 0 where
   pub sent : ℕ
   pub counter : ℕ
   pub parts : ℕ
+  pub mark : Mark
   pub entries : List Entry
   pub seen : List HistoryEntry
 
 -- whose seat it is, and what it has seen
 abbrev pub sight : SeatView → SeatSight
 sight seat = sight_of seat.name seat.seen
+
+-- so of its last operation
+abbrev pub last_operation : SeatView → OperationSight
+last_operation seat = operation_of seat.name seat.mark seat.seen
 
 -- the refusals that no transcript has: 10, 19, 25, 26 and 30
 abbrev pub is_outside : Refusal → Bool

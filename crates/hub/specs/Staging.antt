@@ -100,6 +100,7 @@ pub record IsReplyOf {G : Type 0} {naming : Ghosts G} (staged : Staged G naming)
   pub tenant : reply.tenant ≡ staged.call.tenant
   pub seat : reply.seat ≡ staged.call.seat
   pub number : reply.number ≡ staged.call.number
+  pub mark : reply.mark ≡ staged.call.mark
   pub partition : reply.partition ≡ staged.call.partition
   pub outcome : reply.outcome ≡ came_to staged.stage
   pub message : reply.message ≡ staged.call.message

@@ -2,6 +2,7 @@
 ghost use Rattle.std.specs.Prelude.{◌≡◌, ◌<◌, ◌≤◌, ◌+◌, ◌-◌, ◌^◌, ◌↔◌, [], ℕ, None, Some, OnOk, IfOk, IsOkAnd, IfSome, IsSomeAnd, IfNone, IsTrue, cond, drop, false, is_some, length, map, min, slice_index_or, vec_len};
 ghost use Rattle.std.specs.VecDeque.{deque_capacity, deque_len};
 ghost use Rattle.stamps.specs.Bounds.{IsParts};
+ghost use Rattle.history.specs.Entries.{HasMark};
 ghost use Rattle.history.specs.Legal.{HasParts, IsOfPut};
 ghost use Rattle.shard.specs.Asked.{asked_by, without_reply};
 ghost use Rattle.shard.specs.Homes.{HasHome, place_of as place_for};
@@ -10,7 +11,7 @@ ghost use Rattle.shard.specs.declared.shard.Staged.{Staged as Waiting};
 ghost use Rattle.hub.specs.Staging.{HasSentAt, is_unserved, place_if_open, unserved, IfFirst, IsFirstOf, IsReplyOf, IsStagedNext};
 
 use crossbeam_channel::{Receiver, RecvError, Sender};
-use history::{Front, Naming};
+use history::{Front, Mark, Naming};
 use plain_store::{Call, Message};
 use shard::{
     CallState, FollowUp, Gate, Job, JobSender, SeatCall, SeatName, SeatReply, Shard, ShardState,
@@ -234,19 +235,21 @@ impl<'a, G: Naming> Dispatcher<'a, G> {
         Ok(reply)
     }
 
-    /// The next reply to a call of this seat, and of this operation, which began after so many calls; it waits for it. None where
-    /// none can come.
+    /// The next reply to a call of this seat, and of the operation with this mark, which began after so many calls; it waits for it.
+    /// None where none can come.
     pub fn next_reply<R: Wait>(
         &mut self,
         rt: &R,
         name: &SeatName,
         before: u64,
+        mark: Mark,
     ) -> Option<SeatReply<G>>
         requires { before ≤ 2 ^ 62 }
         ensures first { 0 < self.old.served
             → IfFirst self.old.calls.items (λ staged. staged.call.tenant ≡ name.now.tenant
             → staged.call.seat ≡ name.now.seat → before < staged.call.number
-            → staged.call.number ≤ before + self.old.sent → IsSomeAnd result (IsReplyOf staged)) }
+            → staged.call.number ≤ before + self.old.sent → staged.call.mark ≡ mark
+            → IsSomeAnd result (IsReplyOf staged)) }
         // One call of those that are here, or of those with workers, is answered at most.
         ensures queued { (self.new.queued ≤ self.old.queued)
             × (self.old.queued + self.old.served ≤ self.new.queued + self.new.served + 1) }
@@ -254,6 +257,7 @@ impl<'a, G: Naming> Dispatcher<'a, G> {
             → self.new.queued ≡ self.old.queued }
         ensures own { IfSome result (λ reply. (reply.tenant ≡ name.now.tenant)
             × (reply.seat ≡ name.now.seat)) }
+        ensures marked { IfSome result (λ reply. reply.mark ≡ mark) }
         ensures numbered { IfSome result (λ reply. (before < reply.number)
             × (reply.number ≤ before + self.old.sent)) }
         ensures room { (calls : ℕ) → HasRoom calls self.old → HasRoom calls self.new }
@@ -263,8 +267,7 @@ impl<'a, G: Naming> Dispatcher<'a, G> {
             return None;
         };
         let last = before + self.sent as u64;
-        let is_numbered = before < reply.number && reply.number <= last;
-        if reply.tenant == name.tenant && reply.seat == name.seat && is_numbered {
+        if is_own(&reply, name, before, last, mark) {
             Some(reply)
         } else {
             None
@@ -391,10 +394,18 @@ impl<'a, G: Naming> Dispatcher<'a, G> {
 impl<'a, G: Gate + Naming> Dispatcher<'a, G> {
     ghost use Rattle.hub.specs.Rooms.{HasPlaces, HasRoom, ServesHere};
 
-    /// Stages the call in this box as the seat's call of this number, for `dispatch`, once it has passed the gate, with what the
-    /// seat has seen of the history: that shows of which put it is.
-    pub fn stage(&mut self, name: &SeatName, number: u64, message: Box<Message>, seen: &Front<G>)
+    /// Stages the call in this box as the seat's call of this number, for `dispatch`, once it has passed the gate, with the mark of its
+    /// operation, and with what the seat has seen of the history: that shows of which put it is, and has the mark.
+    pub fn stage(
+        &mut self,
+        name: &SeatName,
+        number: u64,
+        message: Box<Message>,
+        mark: Mark,
+        seen: &Front<G>,
+    )
         requires places { HasPlaces 1 self.old }
+        requires marked { HasMark seen.now mark }
         requires put { ∥ IsOfPut seen.now name.now.tenant message.value.call ∥₁ }
         ensures counted { self.new.sent ≡ self.old.sent + 1 }
         ensures calls { deque_len self.new.calls ≡ deque_len self.old.calls + 1 }
@@ -405,7 +416,7 @@ impl<'a, G: Gate + Naming> Dispatcher<'a, G> {
         ensures room { (calls : ℕ) → HasPlaces (1 + calls) self.old → HasPlaces calls self.new }
         ensures queued { self.new.queued ≡ self.old.queued }
     {
-        let call = self.called(name, number, message, seen);
+        let call = self.called(name, number, message, mark, seen);
         let stage = CallState::Pending;
         self.calls.push_back_reserved(Staged { call, stage });
         self.sent += 1;
@@ -417,12 +428,15 @@ impl<'a, G: Gate + Naming> Dispatcher<'a, G> {
         name: &SeatName,
         number: u64,
         message: Box<Message>,
+        mark: Mark,
         seen: &Front<G>,
     ) -> SeatCall<G>
-        requires { ∥ IsOfPut seen.now name.now.tenant message.value.call ∥₁ }
+        requires put { ∥ IsOfPut seen.now name.now.tenant message.value.call ∥₁ }
+        requires marked { HasMark seen.now mark }
         ensures owner { (result.tenant ≡ name.now.tenant) × (result.seat ≡ name.now.seat)
             × (result.number ≡ number) × (result.parts ≡ self.now.parts) }
         ensures message { result.message ≡ message }
+        ensures mark { result.mark ≡ mark }
         ensures place { result.partition
             ≡ place_for message.value.call self.now.parts message.value.partition }
         ensures passed { result.partition < length self.now.shards.now
@@ -439,6 +453,7 @@ impl<'a, G: Gate + Naming> Dispatcher<'a, G> {
             number,
             arrival: self.pass(partition),
             message,
+            mark,
             front,
         }
     }
@@ -539,6 +554,23 @@ impl<'a, G: Gate + Naming> Dispatcher<'a, G> {
     {
         state.serve_round(&shard.config, self.gate, &mut self.calls)
     }
+}
+
+/// Whether it is a reply to this seat, to a call of the operation with this mark, behind the first so many, up to the last.
+fn is_own<G: Naming>(
+    reply: &SeatReply<G>,
+    name: &SeatName,
+    before: u64,
+    last: u64,
+    mark: Mark,
+) -> bool
+    ensures { IsTrue result
+        ↔ ((reply.now.tenant ≡ name.now.tenant) × (reply.now.seat ≡ name.now.seat)
+        × (before < reply.now.number) × (reply.now.number ≤ last) × (reply.now.mark ≡ mark)) }
+{
+    let is_of_seat = reply.tenant == name.tenant && reply.seat == name.seat;
+    let is_numbered = before < reply.number && reply.number <= last;
+    is_of_seat && is_numbered && reply.mark == mark
 }
 
 /// What lies in a box that holds no call yet.

@@ -254,7 +254,7 @@ impl<G: Gate + Naming> Hub<G> {
 
     /// Opens a session of a client. The tests come first, in the order of the refusals' numbers, and then memory: 10 where
     /// there is no such tenant, 12 where the client has a session, 24 where the tenant has as many clients as it may have,
-    /// 26 where seats or tickets are used up, 30 where an allocation failed. A refusal changes nothing.
+    /// 26 where seats, tickets or the words of clients are used up, 30 where an allocation failed. A refusal changes nothing.
     pub fn seat<R: Wait>(
         &self,
         rt: &R,

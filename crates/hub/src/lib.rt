@@ -19,7 +19,9 @@ pub use history::{Front, Naming};
 pub use hub::Hub;
 pub use new_store::NewStore;
 pub use partition::Usage;
-pub use read_laws::{seat_lists_are_atomic, seat_reads_are_atomic};
+pub use read_laws::{
+    seat_lists_are_atomic, seat_lists_are_fresh, seat_reads_are_atomic, seat_reads_are_fresh,
+};
 pub use seat::Seat;
 pub use shard::{Gate, Named, Sink, TenantUsage};
 pub use start::HubFault;

@@ -1,8 +1,9 @@
 //! One operation of a seat: its calls go out, and their replies come in until each is answered.
-ghost use Rattle.std.specs.Prelude.{◌≡◌, ◌<◌, ◌≤◌, ◌+◌, ◌^◌, ◌↔◌, ℕ, true, None, IsTrue};
+ghost use Rattle.std.specs.Prelude.{◌≡◌, ◌<◌, ◌≤◌, ◌+◌, ◌^◌, ◌↔◌, ℕ, true, None, IfSome, IsTrue};
 ghost use mathlib.Core.List.{IsPrefix};
+ghost use Rattle.history.specs.Entries.{HasMark};
 ghost use Rattle.history.specs.Legal.{IsDecided, IsLegal};
-ghost use Rattle.hub.specs.Evidence.{HasBegunIn, IsOfTenant, MayBeDecided};
+ghost use Rattle.hub.specs.Evidence.{HasBegunIn, IsMarkedSince, IsOfTenant, MayBeDecided};
 ghost use Rattle.hub.specs.Requests.{intent_of};
 ghost use Rattle.tenant_sessions.specs.declared.moves.MoveKind.TheVariants.{Decided as Decides};
 ghost use Rattle.hub.specs.Replies.{IsUnder};
@@ -14,7 +15,7 @@ ghost use Rattle.hub.specs.Seats.{at_seat, is_final};
 use crate::dispatcher::{Dispatcher, MOST_CALLS};
 use crate::seat_request::SeatRequest;
 use closed_store::{Entry, EntryList};
-use history::{Front, Naming};
+use history::{Front, Mark, Naming};
 use plain_store::{Answer, Call, Message, Readings, Refusal, Reply, Rows};
 use shard::{Fault, Gate, SeatName, SeatReply};
 use stamps::Stamp;
@@ -26,6 +27,12 @@ use traced_client::TracedClient;
 /// The room that an operation needs in the list of entries: for the replies to its calls, and for its answer, which takes
 /// that of 5.
 const MOST_ROOM: usize = MOST_CALLS + 5;
+
+/// The mark of no entries: all that was seen has it.
+const NO_MARK: Mark = Mark {
+    word: 0,
+    entries: 0,
+};
 
 /// That room is kept for the answer of an operation.
 #[derive(Clone, Copy, Drop)]
@@ -40,6 +47,8 @@ pub(crate) struct RunningOperation<'a, G: Naming> {
     pub(crate) entries: EntryList,
     /// What it has seen of the history: each call of it that was answered.
     pub(crate) seen: Front<G>,
+    /// That of the operation: what has it has what was seen as it began, if it reads or searches. What was seen has it.
+    pub(crate) mark: Mark,
     /// Its client's word, until the session has ended.
     pub(crate) client: Option<TracedClient<G>>,
     /// How many calls were sent before this operation: its own are numbered on from there.
@@ -54,6 +63,7 @@ pub(crate) struct RunningOperation<'a, G: Naming> {
     ghost opened: { session.is_open ≡ true },
     ghost of_tenant: { IsOfTenant name.tenant client },
     ghost legal: { ∥ IsLegal seen ∥₁ },
+    ghost marked: { HasMark seen mark },
 }
 
 /// Whether a call is not a PREPARE or COMMIT under another stamp.
@@ -106,32 +116,54 @@ fn tell_end(taken: &MoveKind, readings: &Readings, answer: &mut Answer)
     }
 }
 
-/// Enters that what has begun under this stamp is a put of this tenant's client, if it is one, and says whether that was done. It
-/// was not where the word is not here, or has other entries than were seen.
+/// Enters what has begun: a put of this tenant's client under this stamp, or a read or a search, and answers its mark. What has the mark
+/// of a read or a search has all that was seen before. A put has that of no entries. None where the word is not here, or has other
+/// entries than were seen: nothing was entered then.
 fn enter_begun<G: Naming>(
     client: &mut Option<TracedClient<G>>,
     seen: &mut Front<G>,
     tenant: u32,
     own: Stamp,
     request: &SeatRequest<'_>,
-) -> bool
+) -> Option<Mark>
     requires { IsOfTenant tenant client.old }
-    ensures began { IsTrue result → HasBegunIn seen.new tenant (intent_of own request.now) }
+    ensures began { IfSome result (λ _. HasBegunIn seen.new tenant (intent_of own request.now)) }
+    ensures since { IfSome result (λ mark. IsMarkedSince request.now mark seen.new seen.old) }
+    ensures marked { IfSome result (λ mark. HasMark seen.new mark) }
     ensures later { IsPrefix seen.old seen.new }
     ensures legal { ∥ IsLegal seen.old ∥₁ → ∥ IsLegal seen.new ∥₁ }
     ensures of_tenant { IsOfTenant tenant client.new }
 {
-    let SeatRequest::Put(items) = request else {
-        return true;
-    };
     let Some(its) = client else {
-        return false;
+        return None;
+    };
+    let Some(mark) = begun_mark(its, seen, own, request) else {
+        return None;
+    };
+    seen.learn(&its.seen());
+    Some(mark)
+}
+
+/// Enters the put of this client under this stamp, or the read or search, and answers its mark.
+fn begun_mark<G: Naming>(
+    its: &mut TracedClient<G>,
+    seen: &Front<G>,
+    own: Stamp,
+    request: &SeatRequest<'_>,
+) -> Option<Mark>
+    ensures began { IfSome result
+        (λ _. HasBegunIn its.new.seen its.old.tenant (intent_of own request.now)) }
+    ensures since { IfSome result (λ mark. IsMarkedSince request.now mark its.new.seen seen.now) }
+    ensures marked { IfSome result (λ mark. HasMark its.new.seen mark) }
+    ensures tenant { its.new.tenant ≡ its.old.tenant }
+{
+    let SeatRequest::Put(items) = request else {
+        return its.begin_read(seen);
     };
     if !its.begin(own, items) {
-        return false;
+        return None;
     }
-    seen.learn(&its.seen());
-    true
+    Some(NO_MARK)
 }
 
 /// Enters that a put of this tenant's client is decided, if the move says so, and says whether that was done. It was not where the
@@ -175,7 +207,7 @@ impl<'a, G: Gate + Naming> RunningOperation<'a, G> {
     ghost use Rattle.entry_list.specs.declared.kinds.Entry.{Entry as Entered};
     ghost use Rattle.shard.specs.declared.jobs.Fault.{Fault as Broken};
     ghost use Rattle.hub.specs.Limits.{max_calls};
-    ghost use Rattle.hub.specs.Operating.{GoesOnAs, IsUnderWayAt, KeepsSession, OnlyEnters, OnlySends, ReadsAt, StillFollows, StillServed};
+    ghost use Rattle.hub.specs.Operating.{GoesOnAs, IsSameSeat, IsUnderWayAt, KeepsSession, OnlyEnters, OnlySends, ReadsAt, StillFollows, StillServed};
     ghost use Rattle.hub.specs.Rooms.{HasPlaces, HasRoom, awaited};
     ghost use Rattle.tenant_sessions.specs.CallsLeft.{calls_left, calls_waiting, calls_sent};
     ghost use Rattle.plain_store.specs.declared.refusal.Refusal.{Refusal as Why};
@@ -183,9 +215,11 @@ impl<'a, G: Gate + Naming> RunningOperation<'a, G> {
     ghost use Rattle.plain_store.specs.History.{Intent as Asked};
     ghost use Rattle.plain_store.specs.Words.{Setup};
     ghost use Rattle.tenant_sessions.specs.Showing.{IfTells};
-    ghost use Rattle.hub.specs.Sights.{SeatSight, sight_of};
+    ghost use Rattle.hub.specs.Sights.{OperationSight, operation_of, sight_of};
     ghost use mathlib.Core.List.{IsPrefix};
-    ghost use Rattle.hub.specs.Replies.{AreServed, IsDrawn, IsStampOf, IsToldFor, IsToldOf, IsUnder};
+    ghost use Rattle.hub.specs.Replies.{AreServed, IsDrawn, IsStampOf, IfShows, IsToldFor, IsToldOf, IsUnder};
+    ghost use Rattle.traced_client.specs.Clients.{HasWith};
+    ghost use Rattle.hub.specs.Evidence.{no_mark};
     ghost use Rattle.stamps.specs.Stamp.{stamp};
     ghost use Rattle.hub.specs.Seats.{at_seat, is_final, is_unrecorded, outcome_of, spare, EndsSo, Follows, Extends};
     ghost use Rattle.shard.specs.Asked.{without_reply};
@@ -217,7 +251,7 @@ impl<'a, G: Gate + Naming> RunningOperation<'a, G> {
         ensures given { (result.name ≡ name) × (result.dispatcher ≡ dispatcher.entry)
             × (result.session ≡ session) × (result.readings ≡ readings) × (result.seen ≡ seen) }
         ensures begun { (result.first ≡ 0) × (result.entries.items ≡ []) × (result.place ≡ None)
-            × (result.fault ≡ None) }
+            × (result.fault ≡ None) × (result.mark ≡ no_mark) }
     {
         RunningOperation {
             name,
@@ -225,6 +259,7 @@ impl<'a, G: Gate + Naming> RunningOperation<'a, G> {
             session,
             entries: EntryList::new(alloc),
             seen,
+            mark: NO_MARK,
             client: Some(client),
             first: 0,
             place: None,
@@ -285,7 +320,7 @@ impl<'a, G: Gate + Naming> RunningOperation<'a, G> {
             ≤ replies_in self.old.entries.items + takes }
         ensures recorded { OnOk result (is_unrecorded answer.new ≡ false) }
         ensures read { OnOk result
-            (IsToldFor (sight_of self.old.name self.new.seen) parts
+            (IsToldFor (operation_of self.old.name self.new.mark self.new.seen) parts
             (IsDrawn self.old.name.client self.old.session.counter self.new.session.counter)
             request.now answer.new self.old.entries.items self.new.entries.items) }
         ensures counter { self.old.session.counter ≤ self.new.session.counter }
@@ -293,21 +328,28 @@ impl<'a, G: Gate + Naming> RunningOperation<'a, G> {
         ensures refused { (refusal : Why) → test_of self.old.session request.now ≡ Err refusal
             → answer.new ≡ Answer.Refused refusal }
         // Each of its calls was answered.
-        ensures awaited { awaited self.old.dispatcher ≡ 0 → OnOk result (awaited self.new.dispatcher ≡ 0) }
+        ensures awaited { awaited self.old.dispatcher ≡ 0
+            → OnOk result (awaited self.new.dispatcher ≡ 0) }
         ensures outcome { result ≡ outcome_of self.new.fault self.new.place }
         ensures entered { (told : Option Said)
             × Follows self.old.entries.items told self.new.entries.items }
-        ensures goes_on { GoesOnAs self.old self.new }
+        // What has the mark of a read has all that was seen before.
+        ensures since { OnOk result
+            (IfShows request.now answer.new
+            (HasWith self.new.mark self.new.seen self.old.seen)) }
+        ensures goes_on { IsSameSeat self.old self.new }
     {
         let client = self.name.client;
         match request.start(&mut self.session, client, parts) {
             Ok(()) => {
                 let own = self.last_stamp();
                 let tenant = self.name.tenant;
-                if !enter_begun(&mut self.client, &mut self.seen, tenant, own, request) {
+                let Some(mark) = enter_begun(&mut self.client, &mut self.seen, tenant, own, request)
+                else {
                     self.fault = Some(Fault::NoTenant);
                     return Err(Fault::NoTenant);
-                }
+                };
+                self.mark = mark;
                 self.exchange(rt, own, takes, answer)
             }
             Err(refusal) => {
@@ -336,7 +378,8 @@ impl<'a, G: Gate + Naming> RunningOperation<'a, G> {
         ensures rest { (self.new.name ≡ self.old.name) × (self.new.dispatcher ≡ self.old.dispatcher)
             × (self.new.session ≡ self.old.session) × (self.new.first ≡ self.old.first)
             × (self.new.place ≡ self.old.place) × (self.new.fault ≡ self.old.fault)
-            × (self.new.readings ≡ self.old.readings) × (self.new.seen ≡ self.old.seen) }
+            × (self.new.readings ≡ self.old.readings) × (self.new.seen ≡ self.old.seen)
+            × (self.new.mark ≡ self.old.mark) }
     {
         self.entries.take()
     }
@@ -373,7 +416,7 @@ impl<'a, G: Gate + Naming> RunningOperation<'a, G> {
         requires puts { ∥ AreOfPuts
             self.old.seen self.old.name.tenant (waiting_of self.old.session.running) ∥₁ }
         requires under_way { IsUnderWayAt
-            (sight_of self.old.name self.old.seen) own self.old answer.old }
+            (operation_of self.old.name self.old.mark self.old.seen) own self.old answer.old }
         ensures outcome { result ≡ outcome_of self.new.fault self.new.place }
         ensures few { replies_in self.new.entries.items
             ≤ replies_in self.old.entries.items + takes }
@@ -382,8 +425,10 @@ impl<'a, G: Gate + Naming> RunningOperation<'a, G> {
         ensures answered { OnOk result (IsNone self.new.place) }
         ensures entered { StillFollows self.old answer.old self.new answer.new }
         ensures read { (setup : Setup) (asked : Asked) (start : List Entered) → IsStampOf own asked
-            → ReadsAt (sight_of self.old.name self.old.seen) setup asked start self.old answer.old
-            → ReadsAt (sight_of self.old.name self.new.seen) setup asked start self.new answer.new }
+            → ReadsAt (operation_of self.old.name self.old.mark self.old.seen)
+            setup asked start self.old answer.old
+            → ReadsAt (operation_of self.old.name self.old.mark self.new.seen)
+            setup asked start self.new answer.new }
         ensures served { StillServed self.old self.new }
         ensures counter { self.old.session.counter ≤ self.new.session.counter }
         ensures goes_on { GoesOnAs self.old self.new }
@@ -407,7 +452,7 @@ impl<'a, G: Gate + Naming> RunningOperation<'a, G> {
         requires room { max_calls + spare self.old.place ≤ self.old.entries.room }
         requires calls { HasRoom (calls_left self.old.session.running) self.old.dispatcher }
         requires under_way { IsUnderWayAt
-            (sight_of self.old.name self.old.seen) own self.old answer.old }
+            (operation_of self.old.name self.old.mark self.old.seen) own self.old answer.old }
         ensures over { IsSome self.old.fault
             → (self.new.fault ≡ self.old.fault) × (self.new.entries ≡ self.old.entries) }
         ensures awaited { IsNone self.new.fault → awaited self.new.dispatcher ≡ 0 }
@@ -416,8 +461,10 @@ impl<'a, G: Gate + Naming> RunningOperation<'a, G> {
         ensures ends { EndsSo self.old.place answer.old → EndsSo self.new.place answer.new }
         ensures entered { StillFollows self.old answer.old self.new answer.new }
         ensures read { (setup : Setup) (asked : Asked) (start : List Entered) → IsStampOf own asked
-            → ReadsAt (sight_of self.old.name self.old.seen) setup asked start self.old answer.old
-            → ReadsAt (sight_of self.old.name self.new.seen) setup asked start self.new answer.new }
+            → ReadsAt (operation_of self.old.name self.old.mark self.old.seen)
+            setup asked start self.old answer.old
+            → ReadsAt (operation_of self.old.name self.old.mark self.new.seen)
+            setup asked start self.new answer.new }
         ensures served { StillServed self.old self.new }
         ensures counter { self.old.session.counter ≤ self.new.session.counter }
         ensures goes_on { GoesOnAs self.old self.new }
@@ -426,7 +473,10 @@ impl<'a, G: Gate + Naming> RunningOperation<'a, G> {
             if taken >= takes || !self.dispatcher.awaits() {
                 break;
             }
-            let Some(reply) = self.dispatcher.next_reply(rt, &self.name, self.first) else {
+            let Some(reply) = self
+                .dispatcher
+                .next_reply(rt, &self.name, self.first, self.mark)
+            else {
                 self.fault = Some(self.fault.unwrap_or(Fault::NoTenant));
                 break;
             };
@@ -452,13 +502,13 @@ impl<'a, G: Gate + Naming> RunningOperation<'a, G> {
         requires room { 1 + spare self.old.place ≤ self.old.entries.room }
         requires calls { HasRoom (calls_left self.old.session.running) self.old.dispatcher }
         requires own { (reply.now.tenant ≡ self.old.name.tenant)
-            × (reply.now.seat ≡ self.old.name.seat) }
+            × (reply.now.seat ≡ self.old.name.seat) × (reply.now.mark ≡ self.old.mark) }
         requires front { IsPrefix reply.now.front self.old.seen }
         requires under_way { IsUnderWayAt
-            (sight_of self.old.name self.old.seen) own self.old answer.old }
+            (operation_of self.old.name self.old.mark self.old.seen) own self.old answer.old }
         ensures calls { HasRoom (calls_left self.new.session.running) self.new.dispatcher }
         ensures under_way { IsUnderWayAt
-            (sight_of self.old.name self.new.seen) own self.new answer.new }
+            (operation_of self.old.name self.old.mark self.new.seen) own self.new answer.new }
         ensures took { (place : ℕ) (told : Served) → IsNone self.old.fault
             → reply.now.outcome ≡ Ok place → reply.now.message.value.reply ≡ Some told
             → IsUnder own reply.now.message.value.call
@@ -475,9 +525,10 @@ impl<'a, G: Gate + Naming> RunningOperation<'a, G> {
             ≤ replies_in self.old.entries.items + 1 }
         ensures ends { EndsSo self.old.place answer.old → EndsSo self.new.place answer.new }
         ensures entered { StillFollows self.old answer.old self.new answer.new }
-        ensures read { (sight : SeatSight) (setup : Setup) (asked : Asked) (start : List Entered)
+        ensures read { (sight : OperationSight) (setup : Setup) (asked : Asked)
+            (start : List Entered)
             → IsStampOf own asked → reply.now.tenant ≡ sight.tenant → reply.now.seat ≡ sight.seat
-            → IsPrefix reply.now.front sight.seen
+            → reply.now.mark ≡ sight.mark → IsPrefix reply.now.front sight.seen
             → ReadsAt sight setup asked start self.old answer.old
             → ReadsAt sight setup asked start self.new answer.new }
         ensures served { (first last : ℕ) (start : List Entered)
@@ -515,13 +566,13 @@ impl<'a, G: Gate + Naming> RunningOperation<'a, G> {
         requires calls { HasRoom (calls_left self.old.session.running) self.old.dispatcher }
         requires served { reply.now.outcome ≡ Ok place }
         requires own { (reply.now.tenant ≡ self.old.name.tenant)
-            × (reply.now.seat ≡ self.old.name.seat) }
+            × (reply.now.seat ≡ self.old.name.seat) × (reply.now.mark ≡ self.old.mark) }
         requires front { IsPrefix reply.now.front self.old.seen }
         requires under_way { IsUnderWayAt
-            (sight_of self.old.name self.old.seen) own self.old answer.old }
+            (operation_of self.old.name self.old.mark self.old.seen) own self.old answer.old }
         ensures calls { HasRoom (calls_left self.new.session.running) self.new.dispatcher }
         ensures under_way { IsUnderWayAt
-            (sight_of self.old.name self.new.seen) own self.new answer.new }
+            (operation_of self.old.name self.old.mark self.new.seen) own self.new answer.new }
         ensures took { (told : Served) → reply.now.message.value.reply ≡ Some told
             → IsUnder own reply.now.message.value.call
             → Extends (self.old.entries.items
@@ -533,9 +584,11 @@ impl<'a, G: Gate + Naming> RunningOperation<'a, G> {
             ≤ replies_in self.old.entries.items + 1 }
         ensures ends { EndsSo self.old.place answer.old → EndsSo self.new.place answer.new }
         ensures entered { StillFollows self.old answer.old self.new answer.new }
-        ensures read { (sight : SeatSight) (setup : Setup) (asked : Asked) (start : List Entered)
+        ensures read { (sight : OperationSight) (setup : Setup) (asked : Asked)
+            (start : List Entered)
             → IsStampOf own asked → reply.now.outcome ≡ Ok place → reply.now.tenant ≡ sight.tenant
-            → reply.now.seat ≡ sight.seat → IsPrefix reply.now.front sight.seen
+            → reply.now.seat ≡ sight.seat → reply.now.mark ≡ sight.mark
+            → IsPrefix reply.now.front sight.seen
             → ReadsAt sight setup asked start self.old answer.old
             → ReadsAt sight setup asked start self.new answer.new }
         ensures served { (first last : ℕ) (start : List Entered) → reply.now.outcome ≡ Ok place
@@ -597,7 +650,8 @@ impl<'a, G: Gate + Naming> RunningOperation<'a, G> {
             ≤ self.new.entries.room + spare self.old.place }
         ensures ends { EndsSo self.old.place answer.old → EndsSo self.new.place answer.new }
         ensures entered { StillFollows self.old answer.old self.new answer.new }
-        ensures read { (sight : SeatSight) (setup : Setup) (asked : Asked) (start : List Entered)
+        ensures read { (sight : OperationSight) (setup : Setup) (asked : Asked)
+            (start : List Entered)
             → ReadsAt sight setup asked start self.old answer.old
             → IfTells asked (moved taken.now self.old.readings.value)
             (IsToldOf sight setup asked start self.old.entries.items)
@@ -610,6 +664,7 @@ impl<'a, G: Gate + Naming> RunningOperation<'a, G> {
             (sight_of self.old.name self.new.seen) first last start self.new.entries.items }
         ensures session { self.new.session ≡ self.old.session }
         ensures seen { IsPrefix self.old.seen self.new.seen }
+        ensures mark { self.new.mark ≡ self.old.mark }
         ensures name { self.new.name ≡ self.old.name }
         ensures first { self.new.first ≡ self.old.first }
     {
@@ -636,12 +691,13 @@ impl<'a, G: Gate + Naming> RunningOperation<'a, G> {
             → HasRoom calls self.new.dispatcher }
         ensures counted { self.old.dispatcher.sent ≤ self.new.dispatcher.sent }
         ensures sent { IsTrue result
-            → self.new.dispatcher.sent ≡ self.old.dispatcher.sent + calls_waiting self.old.session.running }
+            → self.new.dispatcher.sent
+            ≡ self.old.dispatcher.sent + calls_waiting self.old.session.running }
         ensures seen { IsPrefix self.old.seen self.new.seen }
         ensures rest { (self.new.name ≡ self.old.name) × (self.new.session ≡ self.old.session)
             × (self.new.entries ≡ self.old.entries) × (self.new.first ≡ self.old.first)
             × (self.new.place ≡ self.old.place) × (self.new.fault ≡ self.old.fault)
-            × (self.new.readings ≡ self.old.readings) }
+            × (self.new.readings ≡ self.old.readings) × (self.new.mark ≡ self.old.mark) }
     {
         let tenant = self.name.tenant;
         if !enter_decided(&mut self.client, &mut self.seen, tenant, taken) {
@@ -663,7 +719,8 @@ impl<'a, G: Gate + Naming> RunningOperation<'a, G> {
             ≤ self.new.entries.room + spare self.old.place }
         ensures ends { EndsSo self.old.place answer.old → EndsSo self.new.place answer.new }
         ensures entered { StillFollows self.old answer.old self.new answer.new }
-        ensures read { (sight : SeatSight) (setup : Setup) (asked : Asked) (start : List Entered)
+        ensures read { (sight : OperationSight) (setup : Setup) (asked : Asked)
+            (start : List Entered)
             → ReadsAt sight setup asked start self.old answer.old
             → IfTells asked (moved taken.now self.old.readings.value)
             (IsToldOf sight setup asked start self.old.entries.items)
@@ -742,10 +799,11 @@ impl<'a, G: Gate + Naming> RunningOperation<'a, G> {
             ≡ self.old.dispatcher.sent + calls_waiting self.old.session.running }
         ensures staged { (setup : Setup) (asked : Asked) (taken : List Sent) (running : Running)
             → self.old.session.running ≡ Some running → RunningStands setup asked taken running
-            → AreStagedBehind self.old.name self.old.dispatcher.parts (self.old.first + 1
-            + self.old.dispatcher.sent)
+            → AreStagedBehind self.old.name self.old.dispatcher.parts
+            (self.old.first + 1 + self.old.dispatcher.sent)
             (map (call_message self.old.name.client self.old.session.ticket)
-            (waiting_calls setup asked taken)) self.old.dispatcher.calls.items self.new.dispatcher.calls.items }
+            (waiting_calls setup asked taken))
+            self.old.dispatcher.calls.items self.new.dispatcher.calls.items }
         ensures rest { OnlySends self.old self.new }
     {
         let count = self.session.pending_calls().unwrap();
@@ -767,11 +825,12 @@ impl<'a, G: Gate + Naming> RunningOperation<'a, G> {
         ensures parts { self.new.dispatcher.parts ≡ self.old.dispatcher.parts }
         ensures staged { (setup : Setup) (asked : Asked) (taken : List Sent) (running : Running)
             → self.old.session.running ≡ Some running → RunningStands setup asked taken running
-            → IsStagedNext self.old.name self.old.dispatcher.parts (self.old.first + 1
-            + self.old.dispatcher.sent)
+            → IsStagedNext self.old.name self.old.dispatcher.parts
+            (self.old.first + 1 + self.old.dispatcher.sent)
             (slice_get
             (map (call_message self.old.name.client self.old.session.ticket)
-            (waiting_calls setup asked taken)) nth) self.old.dispatcher.calls.items self.new.dispatcher.calls.items }
+            (waiting_calls setup asked taken)) nth)
+            self.old.dispatcher.calls.items self.new.dispatcher.calls.items }
         ensures rest { OnlySends self.old self.new }
     {
         let mut message = self.dispatcher.take_box(commits);
@@ -788,7 +847,8 @@ impl<'a, G: Gate + Naming> RunningOperation<'a, G> {
             → HasRoom (length (ending (moved taken.now self.old.readings.value))
             + calls) self.old.dispatcher → HasRoom calls self.new.dispatcher }
         ensures sent { (told : List Shown)
-            → self.new.dispatcher.sent ≡ self.old.dispatcher.sent + length (ending (moved taken.now told)) }
+            → self.new.dispatcher.sent
+            ≡ self.old.dispatcher.sent + length (ending (moved taken.now told)) }
         ensures rest { OnlySends self.old self.new }
     {
         if !taken.has_ending(0) {
@@ -806,13 +866,15 @@ impl<'a, G: Gate + Naming> RunningOperation<'a, G> {
             → HasRoom (length (ending (moved taken.now self.old.readings.value))
             + calls) self.old.dispatcher → HasRoom calls self.new.dispatcher }
         ensures all { (told : List Shown)
-            → self.new.dispatcher.sent ≡ self.old.dispatcher.sent + length (ending (moved taken.now told)) }
+            → self.new.dispatcher.sent
+            ≡ self.old.dispatcher.sent + length (ending (moved taken.now told)) }
         ensures staged { (told : List Shown)
-            → AreStagedBehind self.old.name self.old.dispatcher.parts (self.old.first + 1
-            + self.old.dispatcher.sent)
+            → AreStagedBehind self.old.name self.old.dispatcher.parts
+            (self.old.first + 1 + self.old.dispatcher.sent)
             (map (call_message self.old.name.client ticket)
             (ending
-            (moved taken.now told))) self.old.dispatcher.calls.items self.new.dispatcher.calls.items }
+            (moved taken.now told)))
+            self.old.dispatcher.calls.items self.new.dispatcher.calls.items }
         ensures rest { OnlySends self.old self.new }
     {
         for nth in 0..MOST_CALLS as u32 {
@@ -833,12 +895,13 @@ impl<'a, G: Gate + Naming> RunningOperation<'a, G> {
         ensures counted { self.new.dispatcher.sent ≡ self.old.dispatcher.sent + 1 }
         ensures parts { self.new.dispatcher.parts ≡ self.old.dispatcher.parts }
         ensures staged { (told : List Shown)
-            → IsStagedNext self.old.name self.old.dispatcher.parts (self.old.first + 1
-            + self.old.dispatcher.sent)
+            → IsStagedNext self.old.name self.old.dispatcher.parts
+            (self.old.first + 1 + self.old.dispatcher.sent)
             (slice_get
             (map (call_message self.old.name.client ticket)
             (ending
-            (moved taken.now told))) nth) self.old.dispatcher.calls.items self.new.dispatcher.calls.items }
+            (moved taken.now told))) nth)
+            self.old.dispatcher.calls.items self.new.dispatcher.calls.items }
         ensures rest { OnlySends self.old self.new }
     {
         let mut message = self.dispatcher.take_box(false);
@@ -856,13 +919,15 @@ impl<'a, G: Gate + Naming> RunningOperation<'a, G> {
         ensures boxes { self.new.dispatcher.boxes ≡ self.old.dispatcher.boxes }
         ensures counted { self.new.dispatcher.sent ≡ self.old.dispatcher.sent + 1 }
         ensures parts { self.new.dispatcher.parts ≡ self.old.dispatcher.parts }
-        ensures staged { IsStagedNext self.old.name self.old.dispatcher.parts (self.old.first + 1
-            + self.old.dispatcher.sent)
+        ensures staged { IsStagedNext self.old.name self.old.dispatcher.parts
+            (self.old.first + 1 + self.old.dispatcher.sent)
             (Some
-            (without_reply message.value)) self.old.dispatcher.calls.items self.new.dispatcher.calls.items }
+            (without_reply message.value))
+            self.old.dispatcher.calls.items self.new.dispatcher.calls.items }
         ensures rest { OnlySends self.old self.new }
     {
         let number = self.first + 1 + self.dispatcher.sent() as u64;
-        self.dispatcher.stage(&self.name, number, message, &self.seen);
+        self.dispatcher
+            .stage(&self.name, number, message, self.mark, &self.seen);
     }
 }

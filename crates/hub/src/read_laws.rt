@@ -4,14 +4,17 @@ ghost use Rattle.entry_list.specs.declared.kinds.Entry.{Entry};
 ghost use Rattle.plain_store.specs.declared.reading.Reading.{Reading};
 ghost use Rattle.plain_store.specs.Words.{Key, Tag, Setup};
 ghost use Rattle.history.specs.Legal.{IsLegal};
+ghost use Rattle.history.specs.declared.entry.HistoryEntry.{HistoryEntry};
+ghost use Rattle.traced_client.specs.Clients.{HasWith};
 ghost use Rattle.hub.specs.Atomic.{IsReadAtomic};
+ghost use Rattle.hub.specs.Fresh.{IsReadFresh};
 ghost use Rattle.hub.specs.Replies.{IsListOf, IsReadOf};
-ghost use Rattle.hub.specs.Sights.{SeatSight};
+ghost use Rattle.hub.specs.Sights.{OperationSight};
 
 /// What a seat reads is read atomic: it was written by decided puts of the store's history, and of none of these a part is read beside
 /// an older version of what else it wrote.
 pub fn seat_reads_are_atomic()
-    ensures { (sight : SeatSight) (keys : List Key) (start entries : List Entry)
+    ensures { (sight : OperationSight) (keys : List Key) (start entries : List Entry)
         (told : List Reading)
         → IsLegal sight.seen → IsReadOf sight keys start entries told
         → IsReadAtomic sight.seen sight.tenant told }
@@ -19,8 +22,25 @@ pub fn seat_reads_are_atomic()
 
 /// So is what a seat lists.
 pub fn seat_lists_are_atomic()
-    ensures { (sight : SeatSight) (setup : Setup) (tag : Tag) (start entries : List Entry)
+    ensures { (sight : OperationSight) (setup : Setup) (tag : Tag) (start entries : List Entry)
         (told : List Reading)
         → IsLegal sight.seen → IsListOf sight setup tag start entries told
         → IsReadAtomic sight.seen sight.tenant told }
+{}
+
+/// What a seat reads is fresh: where what has the mark of the read has what was seen before, no key is read below a version that was
+/// committed by then.
+pub fn seat_reads_are_fresh()
+    ensures { (sight : OperationSight) (before : List HistoryEntry) (keys : List Key)
+        (start entries : List Entry) (told : List Reading)
+        → IsLegal sight.seen → HasWith sight.mark sight.seen before
+        → IsReadOf sight keys start entries told → IsReadFresh before sight.tenant told }
+{}
+
+/// So is what a seat lists.
+pub fn seat_lists_are_fresh()
+    ensures { (sight : OperationSight) (before : List HistoryEntry) (setup : Setup) (tag : Tag)
+        (start entries : List Entry) (told : List Reading)
+        → IsLegal sight.seen → HasWith sight.mark sight.seen before
+        → IsListOf sight setup tag start entries told → IsReadFresh before sight.tenant told }
 {}

@@ -6,9 +6,12 @@ ghost use Rattle.hub.specs.Rooms.{awaited};
 ghost use Rattle.hub.specs.Limits.{max_calls};
 ghost use Rattle.hub.specs.Operations.{IsLater, IsOperation, ReportsList, ReportsRead, ReportsWrite};
 ghost use Rattle.hub.specs.Atomic.{IsReadAtomic};
-ghost use Rattle.hub.specs.Replies.{IfDone, IfListed, IfRead, IsDrawn, IsToldFor};
+ghost use Rattle.hub.specs.Fresh.{IsReadFresh};
+ghost use Rattle.hub.specs.Evidence.{no_mark};
+ghost use Rattle.hub.specs.Replies.{IfDone, IfListed, IfRead, IfShows, IsDrawn, IsToldFor};
+ghost use Rattle.traced_client.specs.Clients.{HasWith};
 ghost use Rattle.hub.specs.Requests.{act_of};
-ghost use Rattle.hub.specs.Seats.{SeatView, Extends, IsEntered, IsNamed, begun_entries, is_unbegun, sight};
+ghost use Rattle.hub.specs.Seats.{SeatView, Extends, IsEntered, IsNamed, begun_entries, is_unbegun, last_operation};
 ghost use Rattle.hub.specs.Taken.{replies_in};
 ghost use Rattle.shard.specs.Jobs.{refusal_of};
 
@@ -59,7 +62,7 @@ impl<'a, G: Naming> Model for Seat<'a, G> {
 
     ghost Value = { SeatView };
 
-    ghost view = { λ s. record { name = s.operation.name; stopped = s.stopped; sent = s.operation.first; counter = s.operation.session.counter; parts = s.hub.now.parts; entries = s.operation.entries.items; seen = s.operation.seen } };
+    ghost view = { λ s. record { name = s.operation.name; stopped = s.stopped; sent = s.operation.first; counter = s.operation.session.counter; parts = s.hub.now.parts; mark = s.operation.mark; entries = s.operation.entries.items; seen = s.operation.seen } };
 }
 
 impl<'a, G: Gate + Naming> Seat<'a, G> {
@@ -76,7 +79,7 @@ impl<'a, G: Gate + Naming> Seat<'a, G> {
         ensures seen { result.seen ≡ seen }
         ensures rest { (result.name ≡ name) × (result.stopped ≡ false) × (result.sent ≡ 0)
             × (result.counter ≡ ends.entry.session.counter) × (result.parts ≡ hub.now.parts)
-            × (result.entries ≡ []) }
+            × (result.mark ≡ no_mark) × (result.entries ≡ []) }
     {
         let Ends {
             dispatcher,
@@ -160,13 +163,16 @@ impl<'a, G: Gate + Naming> Seat<'a, G> {
     /// What it reports is the reader's answer to replies that this operation entered, whatever they are, each given to just the
     /// call that was answered by it: each version that it reports was in one of them, and it shows no write in part among those
     /// whose write sets they told. So it is read atomic, by the puts of the store's one history: what it reports is what decided puts
-    /// wrote, and none of them is shown in part.
+    /// wrote, and none of them is shown in part. And it is fresh: no key is reported below a version that was committed, by what this
+    /// seat had seen as the read began.
     pub fn get_all<R: Wait>(&mut self, rt: &R, keys: &[Key]) -> Answer
         ensures operated { IsOperation
             (GetAll self.old.name.client keys.now) self.old result self.new }
         ensures read { ReportsRead keys.now self.old result self.new }
         ensures atomic { IfRead result
             (λ told. ∥ IsReadAtomic self.new.seen self.new.name.tenant told ∥₁) }
+        ensures fresh { IfRead result
+            (λ told. IsReadFresh self.old.seen self.new.name.tenant told) }
     {
         let mut answer = Answer::Ignored;
         self.get_all_into(rt, keys, &mut answer);
@@ -180,6 +186,8 @@ impl<'a, G: Gate + Naming> Seat<'a, G> {
         ensures read { ReportsRead keys.now self.old answer.new self.new }
         ensures atomic { IfRead answer.new
             (λ told. ∥ IsReadAtomic self.new.seen self.new.name.tenant told ∥₁) }
+        ensures fresh { IfRead answer.new
+            (λ told. IsReadFresh self.old.seen self.new.name.tenant told) }
     {
         self.run(rt, &SeatRequest::Get(keys), usize::MAX, answer);
     }
@@ -188,12 +196,14 @@ impl<'a, G: Gate + Naming> Seat<'a, G> {
     ///
     /// What it lists is the finder's answer to replies that this operation entered, whatever they are, each given to just the
     /// call that was answered by it: each version that it lists was in one of them, and it shows no write in part among those
-    /// whose write sets they told. So it is read atomic, as `get_all` says.
+    /// whose write sets they told. So it is read atomic and fresh, as `get_all` says.
     pub fn find<R: Wait>(&mut self, rt: &R, tag: Tag) -> Answer
         ensures operated { IsOperation (Find self.old.name.client tag) self.old result self.new }
         ensures listed { ReportsList tag self.old result self.new }
         ensures atomic { IfListed result
             (λ told. ∥ IsReadAtomic self.new.seen self.new.name.tenant told ∥₁) }
+        ensures fresh { IfListed result
+            (λ told. IsReadFresh self.old.seen self.new.name.tenant told) }
     {
         let mut answer = Answer::Ignored;
         self.find_into(rt, tag, &mut answer);
@@ -207,6 +217,8 @@ impl<'a, G: Gate + Naming> Seat<'a, G> {
         ensures listed { ReportsList tag self.old answer.new self.new }
         ensures atomic { IfListed answer.new
             (λ told. ∥ IsReadAtomic self.new.seen self.new.name.tenant told ∥₁) }
+        ensures fresh { IfListed answer.new
+            (λ told. IsReadFresh self.old.seen self.new.name.tenant told) }
     {
         self.run(rt, &SeatRequest::Find(tag), usize::MAX, answer);
     }
@@ -258,10 +270,13 @@ impl<'a, G: Gate + Naming> Seat<'a, G> {
         ensures past { (answer.new ≡ Answer.Refused Refusal.RowsUsed)
             ↔ ((self.old.stopped ≡ false) × (2 ^ 62 - 128 < self.old.sent)) }
         ensures later { IsLater max_calls self.old self.new }
-        ensures told { IsToldFor (sight self.new) self.old.parts
+        ensures told { IsToldFor (last_operation self.new) self.old.parts
             (IsDrawn self.old.name.client self.old.counter self.new.counter) request.now answer.new
             (begun_entries self.old (act_of self.old.name.client request.now)) self.new.entries }
         ensures few { replies_in self.new.entries ≤ replies_in self.old.entries + takes }
+        // What has the mark of a read has all that was seen before.
+        ensures since { IfShows request.now answer.new
+            (HasWith self.new.mark self.new.seen self.old.seen) }
         ensures legal { ∥ IsLegal self.new.seen ∥₁ }
     {
         if let Some(refusal) = self.refuses() {

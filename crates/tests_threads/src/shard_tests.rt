@@ -3,7 +3,7 @@ ghost use Rattle.std.specs.Prelude.{◌≡◌, ◌≤◌, [], ◌∷◌, IfSome,
 ghost use Rattle.history.specs.declared.entry.HistoryEntry.TheVariants.{Opened};
 
 use crossbeam_channel::{Receiver, unbounded};
-use history::{Front, Naming, NewHistory};
+use history::{Front, Mark, Naming, NewHistory};
 use partition::{Book, Epoch};
 use plain_store::{Call, Message};
 use shard::{
@@ -123,6 +123,10 @@ fn job<J: Naming>(
         number,
         arrival: number,
         message: Box::new(alloc, message).ok()?,
+        mark: Mark {
+            word: 0,
+            entries: 0,
+        },
         front: seen.again(),
     };
     let (reply_to, replies) = unbounded(alloc).ok()?;

@@ -1,4 +1,4 @@
-use Rattle.std.proofs.Common.{List, subst}
+use Rattle.std.proofs.Common.{subst}
 use Rattle.std.specs.Prelude.{IfSome}
 use Rattle.history.proofs.Lists.{prefix_of_itself}
 use Rattle.shard.specs.Journals.{AreOf}

@@ -1,25 +1,34 @@
 use Rattle.std.proofs.Common.{◌≡◌, ◌∙◌, ℕ, List, ap, sym, subst}
-use Rattle.plain_store.specs.Words.{◌∈◌}
+use mathlib.Core.List.{IsPrefix}
 use Rattle.history.specs.declared.entry.HistoryEntry.{HistoryEntry}
-use Rattle.history.specs.declared.entry.HistoryEntry.TheVariants.{Began}
-use Rattle.history.proofs.Lists.{prefix_has}
+use Rattle.history.proofs.Counts.{mark_later}
 use Rattle.hub.specs.Evidence.{HasBegunIn, tenant_or}
 use Rattle.hub.specs.Requests.{intent_of}
-use Rattle.hub.specs.declared.seat_request.SeatRequest.{SeatRequest}
+use Rattle.hub.proofs.Replies.{begun_in_later, marked_since_later}
 use Rattle.hub.proofs.operation.enter_begun.Goals as goal
 
 pub returns-clause-legal : goal.returns-clause-legal
 returns-clause-legal g c was = ∣ c.learn-2.ensures.legal ∣₁
 
--- the client's word has the entry, and it is seen
+-- what the client's word has is seen
 pub returns-clause-began : goal.returns-clause-began
-returns-clause-began g c did =
+returns-clause-began g c =
     let its = c.in-Some.its in
     let seen = c.learn-2.new.self in
+    let request = c.args.request.now in
     let of_tenant : its.tenant ≡ c.args.tenant = ap (tenant_or c.args.tenant) (sym c.in-Some.is) ∙ c.requires in
-    let items = c.in-Put.items.now in
-    let P : ℕ → Type 0 = λ t. Began (record { word = its.word; tenant = t; stamp = c.args.own; items = items }) ∈ c.begin.new.self.seen in
-    let Q : List HistoryEntry → Type 0 = λ l. Began (record { word = its.word; tenant = c.args.tenant; stamp = c.args.own; items = items }) ∈ l in
-    let R : SeatRequest → Type 0 = λ r. HasBegunIn seen c.args.tenant (intent_of c.args.own r) in
-    let entered : P c.args.tenant = subst P of_tenant (c.begin.ensures.began c.if-not-begin.false) in
-    subst R (sym c.in-Put.is) (its.word, prefix_has c.seen.result seen _ c.learn-2.ensures.that (subst Q (sym c.seen.ensures) entered))
+    let P : List HistoryEntry → Type 0 = λ l. IsPrefix l seen in
+    let Q : ℕ → Type 0 = λ t. HasBegunIn c.begun_mark.new.its.seen t (intent_of c.args.own request) in
+    begun_in_later c.begun_mark.new.its.seen seen c.args.tenant (intent_of c.args.own request) (subst P c.seen.ensures c.learn-2.ensures.that) (subst Q of_tenant c.in-Some-begun_mark.ensures.began)
+
+pub returns-clause-since : goal.returns-clause-since
+returns-clause-since g c =
+    let seen = c.learn-2.new.self in
+    let P : List HistoryEntry → Type 0 = λ l. IsPrefix l seen in
+    marked_since_later c.args.request.now c.in-Some-begun_mark.mark c.begun_mark.new.its.seen seen c.args.seen.now (subst P c.seen.ensures c.learn-2.ensures.that) c.in-Some-begun_mark.ensures.since
+
+pub returns-clause-marked : goal.returns-clause-marked
+returns-clause-marked g c =
+    let seen = c.learn-2.new.self in
+    let P : List HistoryEntry → Type 0 = λ l. IsPrefix l seen in
+    mark_later c.begun_mark.new.its.seen seen c.in-Some-begun_mark.mark (subst P c.seen.ensures c.learn-2.ensures.that) c.in-Some-begun_mark.ensures.marked

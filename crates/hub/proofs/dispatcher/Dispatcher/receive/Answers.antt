@@ -7,5 +7,5 @@ use Rattle.hub.proofs.dispatcher.Dispatcher.receive.Goals as goal
 pub replied-requires : goal.replied-requires
 replied-requires g c =
     let call = c.in-Some.staged.call in
-    let P : Result ℕ Fault → Type 0 = λ outcome. CameSo call.front call.partition call.tenant call.seat call.number call.message.value outcome in
+    let P : Result ℕ Fault → Type 0 = λ outcome. CameSo call.front call.mark call.partition call.tenant call.seat call.number call.message.value outcome in
     subst P (sym c.outcome-outcome.ensures) c.in-Some.staged.came

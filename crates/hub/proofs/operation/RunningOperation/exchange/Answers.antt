@@ -6,9 +6,9 @@ use Rattle.hub.specs.Rooms.{HasRoom}
 use Rattle.hub.specs.declared.operation.RunningOperation.{RunningOperation}
 use Rattle.hub.specs.Evidence.{IsUnderWay}
 use Rattle.hub.specs.Seats.{told_by}
-use Rattle.hub.specs.Sights.{sight_of}
+use Rattle.hub.specs.Sights.{operation_of}
 use Rattle.hub.proofs.Evidence.{under_way_same}
-use Rattle.hub.proofs.Given.{IsStagedOn, served-on, sights}
+use Rattle.hub.proofs.Given.{IsStagedOn, operations, served-on, sights}
 use Rattle.hub.proofs.operation.RunningOperation.exchange.Goals as goal
 use Rattle.hub.proofs.operation.RunningOperation.exchange.Goals.{then-not-send_calls, else-not-send_calls}
 
@@ -51,7 +51,7 @@ pub take_replies-requires-clause-under_way : goal.take_replies-requires-clause-u
 take_replies-requires-clause-under_way g c =
     let rest = c.send_calls.ensures.rest in
     let answer = c.args.answer.now in
-    let P : RunningOperation g.row.G.Denot g.G.Naming → Type 0 = λ o. ∥ IsUnderWay (sight_of o.name o.seen) c.args.own o.entries.items o.session.running (told_by o.place answer) ∥₁ in
+    let P : RunningOperation g.row.G.Denot g.G.Naming → Type 0 = λ o. ∥ IsUnderWay (operation_of o.name o.mark o.seen) c.args.own o.entries.items o.session.running (told_by o.place answer) ∥₁ in
     let all : P c.send_calls.new.self =
-    ∥∥₁_map c.requires.under_way (under_way_same _ _ c.args.own _ _ _ _ _ _ (sights _ _ _ _ rest.0 rest.7) (ap (λ e. e.items) rest.2) (ap (λ (s : ClientSession). s.running) rest.1) (ap (λ place. told_by place answer) rest.4)) in
+    ∥∥₁_map c.requires.under_way (under_way_same _ _ c.args.own _ _ _ _ _ _ (operations _ _ _ _ _ _ rest.0 rest.8 rest.7) (ap (λ e. e.items) rest.2) (ap (λ (s : ClientSession). s.running) rest.1) (ap (λ place. told_by place answer) rest.4)) in
     elim c.if-not-send_calls.branch [ then-not-send_calls w ↦ subst P (sym w.self-is) all | else-not-send_calls w ↦ subst P (sym w.self-is) all ]

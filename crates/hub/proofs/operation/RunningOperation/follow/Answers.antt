@@ -128,3 +128,13 @@ returns-else-sends-clause-served g c first last start are =
           (served-same (sight_of before.name now.seen) (sight_of before.name now.seen) first first last last start before.entries.items now.entries.items refl refl (omega arith) (ap (λ e. e.items) w.send_asked.ensures.rest.2) later)
       | else-sends-via-else-sends w ↦ subst P (sym w.self-is) are
     ]
+
+-- within the same operation
+pub returns-else-sends-clause-mark : goal.returns-else-sends-clause-mark
+returns-else-sends-clause-mark g c =
+    let before = c.args.self.now in
+    let P : RunningOperation g.row.G.Denot g.G.Naming → Type 0 = λ o. o.mark ≡ before.mark in
+    elim c.else-sends.branch [
+      | else-sends-via-then-sends+else-not-send_asked w ↦ subst P (sym w.self-is) w.send_asked.ensures.rest.7
+      | else-sends-via-else-sends w ↦ subst P (sym w.self-is) refl
+    ]

@@ -20,6 +20,7 @@ invariant-loop-nth g l = record {
   fault : l.self.fault ≡ l.fn.self.fault;
   readings : l.self.readings ≡ l.fn.self.readings;
   seen : l.self.seen ≡ l.fn.self.seen;
+  mark : l.self.mark ≡ l.fn.self.mark;
   sent : l.self.dispatcher.sent ≡ l.fn.self.dispatcher.sent + l.nth;
   parts : l.self.dispatcher.parts ≡ l.fn.self.dispatcher.parts;
   staged : (setup : Setup) (asked : Asked) (taken : List Message) (running : Running) → l.fn.self.session.running ≡ Some running → RunningStands setup asked taken running

@@ -17,6 +17,7 @@ invariant-loop-nth g l = record {
   fault : l.self.fault ≡ l.fn.self.fault;
   readings : l.self.readings ≡ l.fn.self.readings;
   seen : l.self.seen ≡ l.fn.self.seen;
+  mark : l.self.mark ≡ l.fn.self.mark;
   sent : l.self.dispatcher.sent ≡ l.fn.self.dispatcher.sent + l.nth;
   parts : l.self.dispatcher.parts ≡ l.fn.self.dispatcher.parts;
   staged : (told : List Reading) → AreStagedBehind l.fn.self.name l.fn.self.dispatcher.parts (l.fn.self.first + 1 + l.fn.self.dispatcher.sent)

@@ -1,9 +1,11 @@
 use Rattle.std.proofs.Common.{refl}
-use Rattle.std.proofs.Math.Logic.{∥∥₁_map}
+use Rattle.std.proofs.Math.Bridge.{le_prop}
+use Rattle.std.proofs.Math.Logic.{∥∥₁_elim, ∥∥₁_map}
 use Rattle.plain_store.specs.Words.{Setup}
-use Rattle.hub.specs.Seats.{sight}
+use Rattle.hub.specs.Seats.{last_operation}
 use Rattle.hub.proofs.Atomic.{lists_atomic}
-use Rattle.hub.proofs.Replies.{if_listed}
+use Rattle.hub.proofs.Fresh.{lists_fresh}
+use Rattle.hub.proofs.Replies.{both_listed, if_listed}
 use Rattle.hub.proofs.seat.Seat.find_into.Goals as goal
 
 pub returns-clause-operated : goal.returns-clause-operated
@@ -14,4 +16,16 @@ pub returns-clause-atomic : goal.returns-clause-atomic
 returns-clause-atomic g c =
     let now = c.run.new.self in
     let setup : Setup = record { partitions = c.args.self.now.parts; room = record { slots = 0; items = 0; clients = 0 }; keep = 0 } in
-    if_listed c.run.new.answer _ _ (λ told is. ∥∥₁_map c.run.ensures.legal (λ legal. lists_atomic (sight now) setup c.args.tag _ now.entries told legal is)) (c.run.ensures.told setup refl)
+    if_listed c.run.new.answer _ _ (λ told is. ∥∥₁_map c.run.ensures.legal (λ legal. lists_atomic (last_operation now) setup c.args.tag _ now.entries told legal is)) (c.run.ensures.told setup refl)
+
+-- what had been committed is not missed
+pub returns-clause-fresh : goal.returns-clause-fresh
+returns-clause-fresh g c =
+    let before = c.args.self.now in
+    let now = c.run.new.self in
+    let setup : Setup = record { partitions = before.parts; room = record { slots = 0; items = 0; clients = 0 }; keep = 0 } in
+    both_listed c.run.new.answer _ _ _
+    (λ told since is reading stamp has committed.
+    ∥∥₁_elim c.run.ensures.legal le_prop (λ legal.
+    lists_fresh (last_operation now) before.seen setup c.args.tag _ now.entries told legal since is reading stamp has committed))
+    c.run.ensures.since (c.run.ensures.told setup refl)

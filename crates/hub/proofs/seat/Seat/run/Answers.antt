@@ -1,23 +1,24 @@
-use Rattle.std.proofs.Common.{◌≡◌, ◌≤◌, ◌+◌, ℕ, ap, subst, sym, refl, ◌∙◌, ◌++◌, ◌∷◌, [], List, Some, true, false, inl, inr, arith}
+use Rattle.std.proofs.Common.{◌≡◌, ◌≤◌, ◌+◌, ℕ, ap, subst, sym, refl, ◌∙◌, ◌++◌, ◌∷◌, [], List, Some, false, arith}
 use Rattle.entry_list.specs.declared.kinds.Entry.{Entry}
 use Rattle.tenant_sessions.specs.declared.session.ClientSession.{ClientSession}
 use Rattle.entry_list.specs.declared.kinds.Entry.TheVariants.{Began}
 use Rattle.history.specs.declared.entry.HistoryEntry.{HistoryEntry}
 use Rattle.history.specs.Legal.{IsLegal}
-use Rattle.hub.specs.Operations.{IsLater}
 use Rattle.hub.specs.Limits.{max_calls}
-use Rattle.hub.specs.Replies.{IsDrawn, IsToldFor}
+use Rattle.hub.specs.Replies.{IfShows, IsDrawn, IsToldFor}
 use Rattle.shard.specs.declared.seat_name.SeatName.{SeatName}
 use Rattle.hub.specs.Requests.{act_of}
-use Rattle.hub.specs.Seats.{SeatView, Follows, IsEntered, sight}
-use Rattle.hub.specs.Sights.{SeatSight, sight_of}
+use Rattle.hub.specs.Seats.{SeatView, Follows, last_operation, sight}
+use Rattle.hub.specs.Sights.{OperationSight, operation_of, sight_of}
+use Rattle.history.specs.declared.entry.Mark.{Mark}
 use Rattle.history.proofs.Lists.{prefix_join}
+use Rattle.traced_client.specs.Clients.{HasWith}
 use Rattle.hub.specs.Taken.{replies_in}
 use Rattle.hub.proofs.Taking.{replies-other}
 use Rattle.hub.proofs.Entries.{follows-extends, extends-after, answer-entered, on_ok, fault-left, recorded-goes-on}
-use Rattle.hub.proofs.Given.{prefix_is, served-began, served-same, sights}
+use Rattle.hub.proofs.Given.{prefix_is, operations, served-began, served-same, sights}
 use Rattle.hub.proofs.Operations.{entered-as, later-same, unbegun-entered}
-use Rattle.hub.proofs.Replies.{reads-refused, reads-run}
+use Rattle.hub.proofs.Replies.{reads-refused, reads-run, shows_refused, shows_run}
 use Rattle.hub.proofs.seat.Seat.run.Goals as goal
 
 pub returns-clause-entered : goal.returns-clause-entered
@@ -80,10 +81,10 @@ returns-clause-told g c =
     let named = c.in-Ok.ensures.keeps.name ∙ ap (λ (s : SeatView). s.name) c.self.view_is in
     let counted = ap (λ (s : ClientSession). s.counter) c.in-Ok.ensures.keeps.session ∙ ap (λ (s : SeatView). s.counter) c.self.view_is in
     let after = c.finish.new.self.counter in
-    let now = sight c.finish.new.self in
-    let ran = sight_of c.prepare.new.self.name c.perform-told.new.self.seen in
-    let same : now ≡ ran = sights _ _ _ _ ((ap (λ (s : SeatView). s.name) c.finish.ensures.stays) ∙ c.count-sent.ensures.keeps.name ∙ c.perform-told.ensures.goes_on.name) ((ap (λ (s : SeatView). s.seen) c.finish.ensures.stays) ∙ c.count-sent.ensures.keeps.seen) in
-    let U : SeatSight → Type 0 = λ v. IsToldFor v c.parts-parts.result (IsDrawn c.prepare.new.self.name.client c.prepare.new.self.session.counter c.perform-told.new.self.session.counter) c.args.request.now c.finish.new.answer start c.finish.new.self.entries in
+    let now = last_operation c.finish.new.self in
+    let ran = operation_of c.prepare.new.self.name c.perform-told.new.self.mark c.perform-told.new.self.seen in
+    let same : now ≡ ran = operations _ _ _ _ _ _ ((ap (λ (s : SeatView). s.name) c.finish.ensures.stays) ∙ c.count-sent.ensures.keeps.name ∙ c.perform-told.ensures.goes_on.name) ((ap (λ (s : SeatView). s.mark) c.finish.ensures.stays) ∙ c.count-sent.ensures.keeps.mark) ((ap (λ (s : SeatView). s.seen) c.finish.ensures.stays) ∙ c.count-sent.ensures.keeps.seen) in
+    let U : OperationSight → Type 0 = λ v. IsToldFor v c.parts-parts.result (IsDrawn c.prepare.new.self.name.client c.prepare.new.self.session.counter c.perform-told.new.self.session.counter) c.args.request.now c.finish.new.answer start c.finish.new.self.entries in
     let P : ℕ → Type 0 = λ n. IsToldFor now n (IsDrawn c.args.self.now.name.client c.args.self.now.counter after) c.args.request.now c.finish.new.answer start c.finish.new.self.entries in
     let Q : ℕ → Type 0 = λ n. IsToldFor now c.parts-parts.result (IsDrawn c.args.self.now.name.client n after) c.args.request.now c.finish.new.answer start c.finish.new.self.entries in
     let R : SeatName → Type 0 = λ s. IsToldFor now c.parts-parts.result (IsDrawn s.client c.prepare.new.self.session.counter after) c.args.request.now c.finish.new.answer start c.finish.new.self.entries in
@@ -95,7 +96,7 @@ returns-clause-told g c =
 -- a refusal reports no stamp
 pub returns-in-Some-clause-told : goal.returns-in-Some-clause-told
 returns-in-Some-clause-told g c =
-    reads-refused (sight c.args.self.now) c.args.self.now.parts _ c.args.request.now c.in-Some.refusal _ _ _ c.tell_refusal.ensures
+    reads-refused (last_operation c.args.self.now) c.args.self.now.parts _ c.args.request.now c.in-Some.refusal _ _ _ c.tell_refusal.ensures
 
 -- that it began is no reply
 pub returns-clause-few : goal.returns-clause-few
@@ -113,3 +114,21 @@ pub returns-in-Some-clause-legal : goal.returns-in-Some-clause-legal
 returns-in-Some-clause-legal g c =
     let P : List HistoryEntry → Type 0 = λ l. ∥ IsLegal l ∥₁ in
     subst P (ap (λ (s : SeatView). s.seen) c.self.view_is) c.self.inside.operation.legal
+
+-- what has the mark of a read has what was seen before
+pub returns-clause-since : goal.returns-clause-since
+returns-clause-since g c =
+    let now = c.finish.new.self in
+    let request = c.args.request.now in
+    let ran = c.perform-told.new.self in
+    let kept = c.in-Ok.ensures.keeps.seen ∙ ap (λ (s : SeatView). s.seen) c.self.view_is in
+    let seen = ap (λ (s : SeatView). s.seen) c.finish.ensures.stays ∙ c.count-sent.ensures.keeps.seen in
+    let marked = ap (λ (s : SeatView). s.mark) c.finish.ensures.stays ∙ c.count-sent.ensures.keeps.mark in
+    let P : List HistoryEntry → Type 0 = λ l. IfShows request c.finish.new.answer (HasWith now.mark now.seen l) in
+    let Q : Mark → Type 0 = λ m. IfShows request c.finish.new.answer (HasWith m now.seen c.prepare.new.self.seen) in
+    let R : List HistoryEntry → Type 0 = λ l. IfShows request c.finish.new.answer (HasWith ran.mark l c.prepare.new.self.seen) in
+    subst P kept (subst Q (sym marked) (subst R (sym seen)
+    (shows_run c.perform-told.result request c.perform-told.new.answer c.finish.new.answer (HasWith ran.mark ran.seen c.prepare.new.self.seen) c.perform-told.ensures.since c.finish.ensures.served c.finish.ensures.refused)))
+
+pub returns-in-Some-clause-since : goal.returns-in-Some-clause-since
+returns-in-Some-clause-since g c = shows_refused c.args.request.now c.in-Some.refusal _ _ c.tell_refusal.ensures
