@@ -16,7 +16,7 @@ use Rattle.settle.specs.Trace.{Origin, OfTranscript, OfJournal, Trace, after, re
 use Rattle.settle.specs.Fronts.{Gives, IsRequest, MayTake, AgreesAt, Delivers, IsFront, AllAgree, TakesAll}
 use Rattle.settle.specs.Replaying.{step_of, steps_of}
 use Rattle.settle.specs.Verdict.{LogsAreJournals}
-use Rattle.settle.proofs.Replayed.{steps-push}
+use Rattle.settle.proofs.Replayed.{steps-push, all_last}
 use Rattle.settle.proofs.Served.{exchange, added, adds, cancel, delivered_quiet, added_once}
 
 -- ---- every act is a valid one
@@ -27,10 +27,6 @@ AllActs (taken ∷ older) = IsAct taken.act × AllActs older
 
 abbrev pub IsValid : Step → Type 0
 IsValid step = IsAct step.act
-
-all_last : (xs : List Step) (y : Step) → All IsValid (xs ++ y ∷ []) → IsValid y
-all_last [] y all = all 0 y (omega arith)
-all_last (x ∷ xs) y all = all_last xs y (λ k d h. all (suc k) d (omega (arith, h)))
 
 all_front : (xs : List Step) (y : Step) → All IsValid (xs ++ y ∷ []) → All IsValid xs
 all_front [] y all k d h = absurd (omega (arith, h))

@@ -1,5 +1,11 @@
 -- What is found by place.
-use Rattle.std.proofs.Common.{◌≡◌, ◌-◌, ℕ, zero, suc, List, slice_get, Option, Some, None, refl, ap, sym, ◌∙◌, arith}
+use Rattle.std.proofs.Common.{◌≡◌, ◌-◌, ℕ, zero, suc, List, Bool, true, false, IsTrue, ◌↔◌, cond, slice_get, Option, Some, None, refl, ap, sym, ◌∙◌, eq-eqb, arith}
+use Rattle.std.specs.Prelude.{nat_eq}
+use Rattle.std.proofs.lemmas.Bool.{ne_eqb}
+use Rattle.plain_store.specs.Words.{Setup}
+use Rattle.plain_store.specs.History.{History, keep_in}
+use Rattle.settle.specs.Words.{Call, Collect, CollectAt, Message}
+use Rattle.settle.specs.Standing.{call_in, call_coming}
 use Rattle.std.specs.Option.{option_map}
 use Rattle.partition.specs.Events.{Event}
 use Rattle.partition.specs.PackedEvents.{caller_of}
@@ -35,3 +41,33 @@ pub is_call : (events : List Event) (seat number place its_seat its_number : ℕ
 is_call events seat number place its_seat its_number there of_seat of_number =
     let found = called_there (at_place events place) its_seat its_number there in
     record { event = found.0; there = found.1; of_seat = found.2 ∙ of_seat; of_number = found.3 ∙ of_number }
+
+-- ---- the call that a step would bring to a partition
+
+-- a message's, at its partition
+pub call_here : (partition : ℕ) (call : Call) (message : Message) (same : Bool) → message.partition ≡ partition → (IsTrue same ↔ (call ≡ message.call)) → IsTrue same ↔ (call_in partition (Some message) ≡ Some call)
+call_here partition call message same here tells =
+    let is : call_in partition (Some message) ≡ Some message.call = ap (λ t. cond t (Some message.call) None) (eq-eqb message.partition partition here) in
+    (λ yes. is ∙ ap Some (sym (tells.0 yes)), λ e. tells.1 (some_is call message.call (sym e ∙ is)))
+
+-- none, at another
+pub call_elsewhere : (partition : ℕ) (call : Call) (message : Message) → (message.partition ≡ partition → ⊥) → IsTrue (nat_eq message.partition partition) ↔ (call_in partition (Some message) ≡ Some call)
+call_elsewhere partition call message apart =
+    let test : nat_eq message.partition partition ≡ false = ne_eqb message.partition partition apart in (
+      λ yes. let bad : false ≡ true = sym test ∙ yes in cc,
+      λ e. let bad : None ≡ Some call = sym (ap (λ t. cond t (Some message.call) None) test) ∙ e in cc,
+    )
+
+-- none, where there is no message
+pub call_nowhere : (partition : ℕ) (call : Call) → IsTrue false ↔ (call_in partition None ≡ Some call)
+call_nowhere partition call = (
+  λ no. let bad : false ≡ true = no in cc,
+  λ e. let bad : None ≡ Some call = e in cc,
+)
+
+-- a collection's, which keeps what is in force
+pub collects_here : (setup : Setup) (history : History) (partition place keep : ℕ) (call : Call) (same : Bool) → place ≡ partition → keep ≡ keep_in setup history → (IsTrue same ↔ (call ≡ Collect keep))
+    → IsTrue same ↔ (call_coming setup history partition (CollectAt place) ≡ Some call)
+collects_here setup history partition place keep call same here kept tells =
+    let is : call_coming setup history partition (CollectAt place) ≡ Some (Collect keep) = ap (λ t. cond t (Some (Collect (keep_in setup history))) None) (eq-eqb place partition here) ∙ ap (λ k. Some (Collect k)) (sym kept) in
+    (λ yes. is ∙ ap Some (sym (tells.0 yes)), λ e. tells.1 (some_is call (Collect keep) (sym e ∙ is)))

@@ -1,10 +1,11 @@
 -- What the store that takes the steps anew answers.
-use Rattle.std.proofs.Common.{◌≡◌, ℕ, List, [], ◌∷◌, ◌++◌, Option, Some, None, refl, ap, ◌∙◌, map}
-use Rattle.plain_store.specs.Words.{Setup}
+use Rattle.std.proofs.Common.{◌≡◌, ◌+◌, suc, arith, ℕ, List, [], ◌∷◌, ◌++◌, Option, Some, None, refl, ap, ◌∙◌, map}
+use Rattle.std.specs.Prelude.{All}
+use Rattle.plain_store.specs.Words.{Setup, IsAct}
 use Rattle.plain_store.specs.History.{History}
 use Rattle.plain_store.specs.Run.{answer_to, run}
 use Rattle.plain_store.specs.Tenants.{only, store_answer}
-use Rattle.settle.specs.Words.{Act, SetKeep}
+use Rattle.settle.specs.Words.{Act, SetKeep, Step}
 use Rattle.world.specs.Standing.{history_of}
 use Rattle.world.proofs.Moments.{run-push}
 use Rattle.settle.specs.Input.{Input, setup_for}
@@ -20,6 +21,11 @@ only-own (act ∷ acts) = ap (λ rest. act ∷ rest) (only-own acts)
 pub steps-push : (acts : List Act) (act : Act) → steps_of (acts ++ act ∷ []) ≡ steps_of acts ++ step_of 0 act ∷ []
 steps-push [] act = refl
 steps-push (a ∷ acts) act = ap (λ rest. step_of 0 a ∷ rest) (steps-push acts act)
+
+-- the last of valid steps is valid
+pub all_last : (xs : List Step) (y : Step) → All (λ (step : Step). IsAct step.act) (xs ++ y ∷ []) → IsAct y.act
+all_last [] y all = all 0 y (omega arith)
+all_last (x ∷ xs) y all = all_last xs y (λ k d h. all (suc k) d (omega (arith, h)))
 
 -- a run with one act more
 pub run-more : (setup : Setup) (acts : List Act) (history : History) (act : Act) → run setup [] acts ≡ history → run setup [] (acts ++ act ∷ []) ≡ with_act setup act history

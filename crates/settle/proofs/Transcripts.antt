@@ -1,5 +1,5 @@
 -- A step that a transcript gives.
-use Rattle.std.proofs.Common.{◌≡◌, ◌≢◌, ◌+◌, ℕ, zero, suc, List, [], ◌∷◌, ◌++◌, Bool, true, false, cond, ◌==◌, inl, inr, length, append-nil, drop, set, slice_get, Some, refl, sym, ap, ◌∙◌, subst, arith, eq-eqb}
+use Rattle.std.proofs.Common.{◌≡◌, ◌≢◌, ◌+◌, ℕ, zero, suc, List, [], ◌∷◌, ◌++◌, Bool, true, false, cond, ◌==◌, inl, inr, length, append-nil, drop, set, slice_get, Option, Some, None, IsTrue, ◌↔◌, refl, sym, ap, ◌∙◌, subst, arith, eq-eqb}
 use Rattle.std.specs.Global.{Vec}
 use Rattle.std.proofs.lemmas.Bool.{cases_Bool, cases_lt, ne_eqb, eqb-true}
 use Rattle.std.proofs.lemmas.List.{drop-drop}
@@ -9,14 +9,15 @@ use Rattle.closed_store.specs.declared.transcript.Transcript.{Transcript}
 use Rattle.settle.specs.declared.progress.TranscriptState.{TranscriptState}
 use Rattle.settle.specs.declared.progress.Progress.{Progress}
 use Rattle.settle.specs.declared.replay.Replay.{Replay}
-use Rattle.settle.specs.Words.{Act, Answer}
+use Rattle.plain_store.specs.History.{History}
+use Rattle.settle.specs.Words.{Act, Answer, Reply}
 use Rattle.settle.specs.Input.{Input, transcripts_in}
 use Rattle.settle.specs.Program.{TranscriptItem, reply_taken, program_of}
 use Rattle.settle.specs.Trace.{OfTranscript, TracedStep, Trace, told_next, after, is_origin, times, is_seat, is_seats_step, rows_sent, call_rows, replies_sent}
-use Rattle.settle.specs.Fronts.{IsTranscriptAt, IsNextItem, MayTake, AgreesAt, AgreesWithItem, Delivers}
+use Rattle.settle.specs.Fronts.{IsTranscriptAt, IsNextItem, MayTake, AgreesAt, AgreesWithItem, reply_delivered, Delivers}
 use Rattle.settle.specs.Replaying.{Replays}
 use Rattle.settle.specs.Standing.{rest_of, IsAt, Advances, AreAll, NoneOfSeat, IsSlot, IsPushed, IsNotedOf}
-use Rattle.settle.proofs.Words.{some_is}
+use Rattle.settle.proofs.Words.{some_is, none_some}
 
 -- what is next is the first of what is left
 pub next-rest : {X : Type 0} (xs : List X) (n : ℕ) → slice_get xs n ≡ slice_get (drop n xs) 0
@@ -24,6 +25,23 @@ next-rest [] zero = refl
 next-rest [] (suc n) = refl
 next-rest (x ∷ xs) zero = refl
 next-rest (x ∷ xs) (suc n) = next-rest xs n
+
+-- a step delivers the reply that was taken, where it delivers one that is the same
+pub delivers_it : (history : History) (act : Act) (reply : Option Reply) (taken delivered : Reply) (same : Bool) → reply ≡ Some taken → reply_delivered history act ≡ Some delivered → (IsTrue same ↔ (delivered ≡ taken))
+    → IsTrue same ↔ Delivers history act reply
+delivers_it history act reply taken delivered same took delivers tells =
+    subst (λ r. IsTrue same ↔ Delivers history act r) (sym took) (
+      λ yes. delivers ∙ ap Some (tells.0 yes),
+      λ is. tells.1 (some_is delivered taken (sym delivers ∙ is)),
+    )
+
+-- and does not, where it delivers none
+pub delivers_none : (history : History) (act : Act) (reply : Option Reply) (taken : Reply) → reply ≡ Some taken → reply_delivered history act ≡ None → IsTrue false ↔ Delivers history act reply
+delivers_none history act reply taken took delivers =
+    subst (λ r. IsTrue false ↔ Delivers history act r) (sym took) (
+      λ no. let bad : false ≡ true = no in cc,
+      λ is. absurd (none_some (reply_delivered history act) (sym delivers) taken is),
+    )
 
 -- two places of the same seat's first transcript are one
 pub one_slot : (transcripts : List Transcript) (tenant seat a b : ℕ) → IsSlot transcripts tenant seat a → IsSlot transcripts tenant seat b → a ≡ b

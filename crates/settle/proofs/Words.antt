@@ -1,7 +1,7 @@
 -- What holds of results and of options.
 use Rattle.std.proofs.Common.{subst, MatchResult}
-use Rattle.settle.specs.declared.settle_fault.SettleFault.{SettleFault}
-use Rattle.settle.specs.declared.settle_fault.SettleFault.TheVariants.{OutOfMemory}
+use Rattle.settle.specs.declared.step_fault.StepFault.{StepFault}
+use Rattle.settle.specs.declared.step_fault.StepFault.TheVariants.{OutOfMemory}
 use Rattle.settle.specs.Words.{Act}
 use Rattle.settle.specs.Input.{Input}
 use Rattle.settle.specs.Trace.{Origin, Trace}
@@ -9,7 +9,7 @@ use Rattle.settle.specs.Standing.{FaultsAt}
 use Rattle.std.proofs.lemmas.Bool.{ltb-true, ltb-false}
 use Rattle.std.proofs.lemmas.Option.{slice_get_read, slice_get_past}
 use Rattle.std.specs.Option.{option_copied}
-use Rattle.std.proofs.Common.{ℕ, List, length, get_or, slice_get, is_some, ltb, Bor, sym, ◌≡◌, refl, Option, Some, None, MatchOption, ◌∙◌, Result, Ok, Err, IfOk, OnOk, IfErr, IfSome}
+use Rattle.std.proofs.Common.{ℕ, List, length, get_or, slice_get, is_some, ltb, Bor, sym, ◌≡◌, refl, Option, Some, None, MatchOption, ◌∙◌, Result, Ok, Err, IfOk, OnOk, IfErr, IfSome, Bool}
 
 pub if_ok_map : {A E : Type 0} (r : Result A E) (P Q : A → Type 0) → ((x : A) → P x → Q x) → IfOk r P → IfOk r Q
 if_ok_map (Ok x) P Q f h = f x h
@@ -39,7 +39,7 @@ pub looked_up : {X : Type 0} (xs : List X) (i : ℕ) (o : Option (Bor X)) → is
 looked_up xs i None test is = sym (slice_get_past xs i (ltb-false i (length xs) (sym test)))
 looked_up xs i (Some y) test is = sym (slice_get_read xs (length xs) i y.now refl (ltb-true i (length xs) (sym test)) is)
 
-none_some : {X : Type 0} (p : Option X) → None ≡ p → (x : X) → p ≡ Some x → ⊥
+pub none_some : {X : Type 0} (p : Option X) → None ≡ p → (x : X) → p ≡ Some x → ⊥
 none_some p e x h = let bad = e ∙ h in cc
 
 pub matched : {X : Type 0} (o : Option X) (p : Option X) → o ≡ p → MatchOption o ((x : X) → p ≡ Some x → ⊥) (λ y. p ≡ Some y)
@@ -47,7 +47,7 @@ matched None p e = none_some p e
 matched (Some y) p e = sym e
 
 -- where there was no memory, the run is not said to differ
-pub match_pushed : (input : Input) (trace : Trace) (origin : Origin) (act : Act) (r : Result (Unit {0}) SettleFault) (P Q : Type 0) → OnOk r P → IfErr r (λ fault. fault ≡ OutOfMemory) → (P → Q)
-    → MatchResult r (λ _. Q) (FaultsAt input trace origin act)
-match_pushed input trace origin act (Ok x) P Q ok err f = f ok
-match_pushed input trace origin act (Err fault) P Q ok err f = subst (FaultsAt input trace origin act) (sym err) tt
+pub match_pushed : (input : Input) (trace : Trace) (origin : Origin) (act : Act) (loses : Bool) (r : Result (Unit {0}) StepFault) (P Q : Type 0) → OnOk r P → IfErr r (λ fault. fault ≡ OutOfMemory) → (P → Q)
+    → MatchResult r (λ _. Q) (FaultsAt input trace origin act loses)
+match_pushed input trace origin act loses (Ok x) P Q ok err f = f ok
+match_pushed input trace origin act loses (Err fault) P Q ok err f = subst (FaultsAt input trace origin act loses) (sym err) tt

@@ -1,12 +1,12 @@
 -- What progress stands for: the steps that were taken so far.
 use Rattle.std.specs.Prelude.{◌++◌, ◌==◌, cond, ◌≡◌, ◌≢◌, ◌<◌, ◌≤◌, ℕ, List, [], ◌∷◌, map, drop, length, slice_get}
-use Rattle.std.specs.Prelude.{All, Bool, false, IsTrue, Option, Some, None, MatchOption, Result, IfErr, OnOk, MatchResult}
+use Rattle.std.specs.Prelude.{All, Bool, true, false, IsTrue, Option, Some, None, MatchOption, Result, IfErr, OnOk, MatchResult}
 use Rattle.std.specs.Global.{Vec}
 use Rattle.closed_store.specs.declared.closed.Closed.{Closed}
 use Rattle.entry_list.specs.declared.kinds.Entry.{Entry}
 use Rattle.closed_store.specs.declared.transcript.Transcript.{Transcript}
-use Rattle.settle.specs.declared.settle_fault.SettleFault.{SettleFault}
-use Rattle.settle.specs.declared.settle_fault.SettleFault.TheVariants.{NoTenant, Missing, Mismatch, Stuck, OutOfMemory}
+use Rattle.settle.specs.declared.step_fault.StepFault.{StepFault}
+use Rattle.settle.specs.declared.step_fault.StepFault.TheVariants.{Mismatch, Lost, OutOfMemory}
 use Rattle.settle.specs.declared.progress.TranscriptState.{TranscriptState}
 use Rattle.settle.specs.declared.progress.TranscriptState.TheVariants.{Waiting, Open, Over}
 use Rattle.settle.specs.declared.progress.Progress.{Progress}
@@ -258,45 +258,46 @@ pub record IsChosen (closed : Closed) (tenant : ℕ) (progress : Progress) (P : 
   pub within : IsWithinNext closed next
 
 -- this was done, or there was no memory
-pub record DoneOrNoMemory (result : Result (Unit {0}) SettleFault) (P : Type 0) : Type 0 where
+pub record DoneOrNoMemory (result : Result (Unit {0}) StepFault) (P : Type 0) : Type 0 where
   pub ok : OnOk result P
   pub err : IfErr result (λ fault. fault ≡ OutOfMemory)
 
--- the lists are as many as before, and the limits are the same
+-- the lists are as many as before, the limits are the same, and messages are lost or kept as before
 pub record KeepsSize (old new : Progress) : Type 0 where
   pub sized : (closed : Closed) → IsSized closed old → IsSized closed new
   pub limits : new.replay.limits ≡ old.replay.limits
+  pub loses : new.replay.loses ≡ old.replay.loses
 
--- the run differs at the step, or there was no memory
-abbrev pub FaultsAt : Input → Trace → Origin → Act → SettleFault → Type 0
-FaultsAt input trace origin act Mismatch = AgreesAt input trace origin act → ⊥
-FaultsAt input trace origin act OutOfMemory = Unit {0}
-FaultsAt input trace origin act NoTenant = ⊥
-FaultsAt input trace origin act Missing = ⊥
-FaultsAt input trace origin act Stuck = ⊥
+-- the run differs at the step, a store that loses messages may have lost the one that the step delivers, or there was no
+-- memory
+abbrev pub FaultsAt : Input → Trace → Origin → Act → Bool → StepFault → Type 0
+FaultsAt input trace origin act loses Mismatch = AgreesAt input trace origin act → ⊥
+FaultsAt input trace origin act loses Lost = loses ≡ true
+FaultsAt input trace origin act loses OutOfMemory = Unit {0}
 
 -- Whatever steps progress noted, the Keep step before this one among them, it notes one that may be taken next and was
 -- found there, or says why it can't.
-abbrev pub NotesOne : Input → Source → Act → Progress → Progress → Result (Unit {0}) SettleFault → Type 0
+abbrev pub NotesOne : Input → Source → Act → Progress → Progress → Result (Unit {0}) StepFault → Type 0
 NotesOne input source act old new result =
     (trace : Trace) → IsNotedReady input trace (origin_of source) old → MayTake input trace (origin_of source) act
     → IsFound input trace source
     → MatchResult result
     (λ _. IsNotedOf input (record { origin = origin_of source; act = act } ∷ trace) new
     × AgreesAt input trace (origin_of source) act)
-    (FaultsAt input trace (origin_of source) act)
+    (FaultsAt input trace (origin_of source) act old.replay.loses)
 
 -- whatever steps progress stands for, it takes one that may be taken next and was found there, or says why it can't
-abbrev pub TakesOne : Input → Source → Act → Progress → Progress → Result (Unit {0}) SettleFault → Type 0
+abbrev pub TakesOne : Input → Source → Act → Progress → Progress → Result (Unit {0}) StepFault → Type 0
 TakesOne input source act old new result =
     (trace : Trace) → HasTakenSteps input trace old → MayTake input trace (origin_of source) act
     → IsFound input trace source
     → MatchResult result (λ _. HasTakenSteps input (record { origin = origin_of source; act = act } ∷ trace) new)
-    (FaultsAt input trace (origin_of source) act)
+    (FaultsAt input trace (origin_of source) act old.replay.loses)
 
--- it takes such a step, the lists are as many as before, and the limits are the same
+-- it takes such a step, the lists are as many as before, the limits are the same, and messages are lost or kept as before
 pub record TakesStep (closed : Closed) (tenant : ℕ) (source : Source) (act : Act) (old new : Progress)
-    (result : Result (Unit {0}) SettleFault) : Type 0 where
+    (result : Result (Unit {0}) StepFault) : Type 0 where
   pub takes : TakesOne (input_of closed tenant old.replay.limits) source act old new result
   pub sized : IsSized closed new
   pub limits : new.replay.limits ≡ old.replay.limits
+  pub loses : new.replay.loses ≡ old.replay.loses

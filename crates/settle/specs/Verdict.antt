@@ -1,6 +1,6 @@
 -- What settle answers.
 use Rattle.std.specs.Prelude.{◌≡◌, ◌≢◌, ◌⊎◌, ◌<◌, ℕ, List, ◌∷◌, ◌++◌, length, map, reverse, slice_get, All}
-use Rattle.std.specs.Prelude.{Option, Some, None, Result, Ok, Err}
+use Rattle.std.specs.Prelude.{Bool, true, Option, Some, None, Result, Ok, Err, MatchResult, IfOk, IfSome, IfNone}
 use Rattle.std.specs.Global.{Vec}
 use Rattle.stamps.specs.declared.bounds.Limits.{Limits}
 use Rattle.settle.specs.Words.{Act, Reply, Step}
@@ -14,6 +14,8 @@ use Rattle.closed_store.specs.declared.transcript.Transcript.{Transcript}
 use Rattle.closed_store.specs.declared.closed.Closed.{Closed}
 use Rattle.settle.specs.declared.settle_fault.SettleFault.{SettleFault}
 use Rattle.settle.specs.declared.settle_fault.SettleFault.TheVariants.{NoTenant, Missing, Mismatch, Stuck, OutOfMemory}
+use Rattle.settle.specs.declared.step_fault.StepFault.{StepFault}
+use Rattle.settle.specs.declared.step_fault.StepFault.TheVariants.{Mismatch as Differs, Lost, OutOfMemory as NoMemory}
 use Rattle.settle.specs.Input.{Input, input_of, setup_for, journal_of_closed, events_of_partition}
 use Rattle.settle.specs.Program.{TranscriptItem, program_of}
 use Rattle.settle.specs.Replaying.{step_of}
@@ -187,6 +189,19 @@ IsFaulty closed tenant limits Mismatch =
     SomeLimitsDiffer closed tenant limits ⊎ DiffersSomewhere (input_of closed tenant limits)
 IsFaulty closed tenant limits Stuck = IsStuck (input_of closed tenant limits)
 IsFaulty closed tenant limits OutOfMemory = Unit {0}
+
+-- what is come to where a step was not taken: no list, where a message may have been lost that the step delivers
+abbrev pub ended_by : StepFault → Result (Option (Vec Step)) SettleFault
+ended_by Differs = Err Mismatch
+ended_by Lost = Ok None
+ended_by NoMemory = Err OutOfMemory
+
+-- a list that settles, or a fault that shows in what was left; no list, where messages are lost and one is asked for again
+abbrev pub ComesTo : Closed → ℕ → Limits → Bool → Result (Option (Vec Step)) SettleFault → Type 0
+ComesTo closed tenant limits loses result =
+    MatchResult result (λ found. IfSome found (λ steps. Settles (input_of closed tenant limits) steps.items))
+    (IsFaulty closed tenant limits)
+    × IfOk result (λ found. IfNone found (loses ≡ true))
 
 -- ---- the verdict
 

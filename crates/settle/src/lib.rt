@@ -11,6 +11,7 @@ mod same;
 mod search_order;
 mod session_order;
 mod settle_fault;
+mod step_fault;
 mod steps_taken;
 mod verdict;
 mod verdict_laws;

@@ -45,9 +45,15 @@ pub struct Progress {
 }
 
 impl Progress {
-    /// No step was taken.
-    pub fn open(alloc: Global, closed: &Closed, limits: &Limits) -> Result<Progress, OutOfMemory>
+    /// No step was taken. The store loses messages once they were delivered, or keeps all.
+    pub fn open(
+        alloc: Global,
+        closed: &Closed,
+        limits: &Limits,
+        loses: bool,
+    ) -> Result<Progress, OutOfMemory>
         ensures limits { IfOk result (λ progress. progress.replay.limits ≡ limits.now) }
+        ensures loses { IfOk result (λ progress. progress.replay.loses ≡ loses) }
         ensures sized { IfOk result (λ progress. IsSized closed.now progress) }
         ensures stands { IfOk result (λ progress. (tenant : ℕ)
             → HasTakenSteps (input_of closed.now tenant limits.now) [] progress) }
@@ -58,7 +64,7 @@ impl Progress {
         let sent = no_rows(alloc, closed.transcripts.len())?;
         let replies = no_rows(alloc, parts as usize)?;
         Ok(Progress {
-            replay: Replay::open(alloc, parts, limits)?,
+            replay: Replay::open(alloc, parts, limits, loses)?,
             stages,
             sent,
             replies,

@@ -1,5 +1,5 @@
 //! The store that takes the steps anew.
-ghost use Rattle.std.specs.Prelude.{Some, IsTrue, ◌↔◌, ◌≡◌, ◌++◌, ◌∷◌, [], List, IfOk, OnOk};
+ghost use Rattle.std.specs.Prelude.{Some, None, true, false, IsTrue, ◌↔◌, ◌≡◌, ◌++◌, ◌∷◌, [], List, IfOk, OnOk};
 ghost use Rattle.std.specs.Option.{option_copied};
 ghost use Rattle.stamps.specs.Bounds.{IsParts};
 ghost use Rattle.plain_store.specs.History.{History, message_at, keep_in};
@@ -7,10 +7,12 @@ ghost use Rattle.plain_store.specs.Run.{answer_to};
 ghost use Rattle.settle.specs.Words.{Act as Acted};
 ghost use Rattle.settle.specs.Input.{Input, setup_for};
 ghost use Rattle.settle.specs.Trace.{with_act};
-ghost use Rattle.settle.specs.Replaying.{Plays};
-ghost use Rattle.settle.specs.Fronts.{reply_delivered};
-ghost use Rattle.settle.specs.Standing.{call_coming};
+ghost use Rattle.settle.specs.Losing.{StillHas, is_delivered};
+ghost use Rattle.settle.specs.Replaying.{Plays, PlaysOn};
+ghost use Rattle.settle.specs.Fronts.{reply_in, reply_delivered};
+ghost use Rattle.settle.specs.Standing.{call_in, call_coming};
 
+use crate::same::no_reply;
 use partition::Event;
 use plain_store::{Act, Answer, Call, Message, OutOfMemory, Reply, Step};
 use stamps::{Keep, Limits};
@@ -21,43 +23,140 @@ use world::World;
 #[derive(Drop)]
 pub struct Replay {
     pub limits: Limits,
+    /// Whether a message is lost as soon as it was delivered. Then memory goes by the messages that are in flight.
+    pub loses: bool,
     pub world: World,
 }
 
 impl Replay {
-    /// The store that has taken no step.
-    pub fn open(alloc: Global, parts: u32, limits: &Limits) -> Result<Replay, OutOfMemory>
+    /// The store that has taken no step. It loses messages once they were delivered, or keeps all.
+    pub fn open(
+        alloc: Global,
+        parts: u32,
+        limits: &Limits,
+        loses: bool,
+    ) -> Result<Replay, OutOfMemory>
         requires { IsParts parts }
         ensures limits { IfOk result (λ replay. replay.limits ≡ limits.now) }
+        ensures loses { IfOk result (λ replay. replay.loses ≡ loses) }
         ensures stands { IfOk result (λ replay. (input : Input) → input.limits ≡ limits.now
             → input.closed.config.parts ≡ parts → Plays input [] [] replay) }
     {
         Ok(Replay {
             limits: *limits,
+            loses,
             world: World::open(alloc, parts, &[*limits])?,
         })
     }
 
-    /// Takes a step of its tenant, which has the number 0.
+    /// Takes a step of its tenant, which has the number 0, and loses the message that was delivered, unless it keeps all. The
+    /// plain store's answer is that of one that lost nothing.
     pub fn step(&mut self, step: &Step) -> Result<Answer, OutOfMemory>
         requires { step.now.tenant ≡ 0 }
         ensures answer { IfOk result
             (λ answer. (input : Input) (acts : List Acted) (history : History)
-            → Plays input acts history self.old
+            (plays : Plays input acts history self.old)
+            → StillHas plays.own history step.now.act
             → answer ≡ answer_to (setup_for input) history step.now.act) }
         ensures stands { OnOk result ((input : Input) (acts : List Acted) (history : History)
-            → Plays input acts history self.old
+            (plays : Plays input acts history self.old)
+            → StillHas plays.own history step.now.act
+            → PlaysOn input acts
+            step.now.act (with_act (setup_for input) step.now.act history) self.new) }
+        ensures limits { self.new.limits ≡ self.old.limits }
+        ensures loses { self.new.loses ≡ self.old.loses }
+    {
+        let _named = no_reply();
+        let answer = self.take(step)?;
+        self.lose_delivered(&step.act)?;
+        Ok(answer)
+    }
+
+    /// Takes a step of its tenant.
+    fn take(&mut self, step: &Step) -> Result<Answer, OutOfMemory>
+        requires { step.now.tenant ≡ 0 }
+        ensures answer { IfOk result
+            (λ answer. (input : Input) (acts : List Acted) (history : History)
+            (plays : Plays input acts history self.old)
+            → StillHas plays.own history step.now.act
+            → answer ≡ answer_to (setup_for input) history step.now.act) }
+        ensures stands { OnOk result ((input : Input) (acts : List Acted) (history : History)
+            (plays : Plays input acts history self.old)
+            → StillHas plays.own history step.now.act
             → Plays input (acts
             ++ step.now.act ∷ []) (with_act (setup_for input) step.now.act history) self.new) }
         ensures limits { self.new.limits ≡ self.old.limits }
+        ensures loses { self.new.loses ≡ self.old.loses }
     {
         self.world.step(step)
     }
 
-    /// The message of a row, unless it was never sent.
+    /// Loses the message that an act delivered which was taken last, unless all are kept. What was taken stays the same.
+    fn lose_delivered(&mut self, act: &Act) -> Result<(), OutOfMemory>
+        ensures stands { OnOk result ((input : Input) (acts : List Acted) (history : History)
+            → Plays input (acts ++ act.now ∷ []) history self.old
+            → PlaysOn input acts act.now history self.new) }
+        ensures limits { self.new.limits ≡ self.old.limits }
+        ensures loses { self.new.loses ≡ self.old.loses }
+    {
+        if !self.loses {
+            return Ok(());
+        }
+        match act {
+            Act::Deliver(row) => self.lose(*row),
+            _ => Ok(()),
+        }
+    }
+
+    /// Loses the message of a row that was delivered.
+    fn lose(&mut self, row: u64) -> Result<(), OutOfMemory>
+        requires { self.old.loses ≡ true }
+        ensures stands { OnOk result ((input : Input) (acts : List Acted) (history : History)
+            → Plays input acts history self.old → is_delivered acts row ≡ true
+            → (plays : Plays input acts history self.new)
+            × (message_at plays.own row ≡ None)) }
+        ensures limits { self.new.limits ≡ self.old.limits }
+        ensures loses { self.new.loses ≡ self.old.loses }
+    {
+        let _named = no_reply();
+        let _answer = self.world.step(&Step {
+            tenant: 0,
+            act: Act::Lose(row),
+        })?;
+        Ok(())
+    }
+
+    /// Whether the message of which an act is may have been lost. Such a step is not one to take here.
+    pub fn may_have_lost(&self, act: &Act) -> bool
+        ensures loses { IsTrue result → self.now.loses ≡ true }
+        ensures has { (input : Input) (acts : List Acted) (history : History)
+            (plays : Plays input acts history self.now) → result ≡ false
+            → StillHas plays.own history act.now }
+    {
+        match act {
+            Act::Deliver(row) | Act::Lose(row) => self.is_missing(*row),
+            _ => false,
+        }
+    }
+
+    /// Whether the message of a row is not there, though one that loses none may have it.
+    fn is_missing(&self, row: u64) -> bool
+        ensures loses { IsTrue result → self.now.loses ≡ true }
+        ensures has { (input : Input) (acts : List Acted) (history : History)
+            (plays : Plays input acts history self.now) → result ≡ false
+            → message_at plays.own row ≡ message_at history row }
+    {
+        if !self.loses {
+            return false;
+        }
+        self.message(row).is_none()
+    }
+
+    /// The message of a row, unless it was never sent or was lost.
     pub fn message(&self, row: u64) -> Option<&Message>
         ensures { (input : Input) (acts : List Acted) (history : History)
-            → Plays input acts history self.now → option_copied result ≡ message_at history row }
+            (plays : Plays input acts history self.now)
+            → option_copied result ≡ message_at plays.own row }
     {
         self.world.message(0, row)
     }
@@ -76,30 +175,54 @@ impl Replay {
     /// The reply that a step delivers.
     pub fn reply_delivered(&self, act: &Act) -> Option<Reply>
         ensures { (input : Input) (acts : List Acted) (history : History)
-            → Plays input acts history self.now → result ≡ reply_delivered history act.now }
+            (plays : Plays input acts history self.now)
+            → StillHas plays.own history act.now → result ≡ reply_delivered history act.now }
     {
         match act {
-            Act::Deliver(row) => self.message(*row)?.reply,
+            Act::Deliver(row) => self.reply_at(*row),
             _ => None,
+        }
+    }
+
+    /// The reply that the message of a row brings.
+    fn reply_at(&self, row: u64) -> Option<Reply>
+        ensures { (input : Input) (acts : List Acted) (history : History)
+            (plays : Plays input acts history self.now)
+            → result ≡ reply_in (message_at plays.own row) }
+    {
+        match self.message(row) {
+            Some(message) => message.reply,
+            None => None,
         }
     }
 
     /// Whether a step brings the event's call to the partition.
     pub fn brings(&self, partition: usize, event: &Event, act: &Act) -> bool
         ensures { (input : Input) (acts : List Acted) (history : History)
-            → Plays input acts history self.now
+            (plays : Plays input acts history self.now)
+            → StillHas plays.own history act.now
             → IsTrue result
             ↔ (call_coming (setup_for input) history partition act.now ≡ Some event.now.call) }
     {
         match act {
-            Act::Deliver(row) => match self.message(*row) {
-                Some(message) => message.partition as usize == partition
-                    && event.has_call(&message.call),
-                None => false,
-            },
+            Act::Deliver(row) => self.brings_at(partition, event, *row),
             Act::Collect(place) => *place as usize == partition
                 && event.has_call(&Call::Collect(self.keep())),
             _ => false,
+        }
+    }
+
+    /// Whether the message of a row is the event's call to the partition, or its reply.
+    fn brings_at(&self, partition: usize, event: &Event, row: u64) -> bool
+        ensures { (input : Input) (acts : List Acted) (history : History)
+            (plays : Plays input acts history self.now)
+            → IsTrue result
+            ↔ (call_in partition (message_at plays.own row) ≡ Some event.now.call) }
+    {
+        match self.message(row) {
+            Some(message) => message.partition as usize == partition
+                && event.has_call(&message.call),
+            None => false,
         }
     }
 }

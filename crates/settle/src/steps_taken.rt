@@ -8,15 +8,16 @@ ghost use Rattle.settle.specs.Trace.{at_seat, Trace, after, with_act, keep_befor
 ghost use Rattle.settle.specs.Fronts.{IsNextEvent, Delivers};
 ghost use Rattle.settle.specs.Standing.{rest_of, IsCompared, AreAll, IsNoted, Advances, reply_told, origin_of, IsNotedOf, IsReady, HasTakenSteps, NotesOne, TakesOne, TakesStep, KeepsSize, DoneOrNoMemory, IsWithin, IsPushed};
 ghost use Rattle.settle.specs.Sessions.{BelongTo};
+ghost use Rattle.settle.specs.Losing.{StillHas};
 ghost use Rattle.settle.specs.Replaying.{Plays, Replays, step_of};
 ghost use Rattle.settle.specs.declared.next_step.Source.TheVariants.{Transcript as FromTranscript, Journal as FromJournal};
 ghost use Rattle.settle.specs.Trace.{OfJournal};
 
-use crate::SettleFault;
 use crate::next_step::{Next, Source};
 use crate::progress::{Progress, TranscriptState};
 use crate::same::{is_reply, no_reply};
 use crate::session_order::SessionOrder;
+use crate::step_fault::StepFault;
 use closed_store::{Closed, EntryList, Transcript};
 use partition::Event;
 use plain_store::{Act, Answer, Call, Reply, Rows, Step};
@@ -30,7 +31,7 @@ impl Progress {
         tenant: u32,
         places: &SessionOrder,
         next: Next,
-    ) -> Result<(), SettleFault>
+    ) -> Result<(), StepFault>
         requires given { BelongTo closed.now tenant self.old places.now }
         requires within { IsWithin closed.now (origin_of next.source) }
         ensures { TakesStep closed.now tenant next.source next.act self.old self.new result }
@@ -55,7 +56,7 @@ impl Progress {
         place: usize,
         reply: &Option<Reply>,
         act: Act,
-    ) -> Result<(), SettleFault>
+    ) -> Result<(), StepFault>
         requires given { BelongTo closed.now tenant self.old places.now }
         requires place { place < length closed.now.transcripts.items }
         ensures { TakesStep closed.now tenant (FromTranscript place reply.now) act
@@ -76,7 +77,7 @@ impl Progress {
         partition: usize,
         event: &Event,
         act: Act,
-    ) -> Result<(), SettleFault>
+    ) -> Result<(), StepFault>
         requires { partition < length self.old.replies.items }
         ensures takes { (input : Input) → input.tenant ≡ tenant
             → TakesOne input (FromJournal partition event.now) act self.old self.new result }
@@ -93,7 +94,7 @@ impl Progress {
     }
 
     /// Takes the Keep step that stands right before the step of a journal's next event, if there is one.
-    fn make_ready(&mut self, tenant: u32, event: &Event) -> Result<(), SettleFault>
+    fn make_ready(&mut self, tenant: u32, event: &Event) -> Result<(), StepFault>
         ensures ready { DoneOrNoMemory result ((input : Input) (trace : Trace) (partition : ℕ)
             → input.tenant ≡ tenant → HasTakenSteps input trace self.old
             → IsNextEvent input trace partition event.now
@@ -123,7 +124,7 @@ impl Progress {
     }
 
     /// Takes a Keep step.
-    fn set_keep(&mut self, tenant: u32, keep: Keep) -> Result<(), SettleFault>
+    fn set_keep(&mut self, tenant: u32, keep: Keep) -> Result<(), StepFault>
         ensures played { DoneOrNoMemory result ((input : Input) (acts : List Acted)
             (history : History) → Plays input acts history self.old.replay
             → Plays input (acts ++ SetKeep keep ∷ [])
@@ -133,6 +134,7 @@ impl Progress {
         ensures rest { self.new
             ≡ record self.old { replay = self.new.replay; steps = self.new.steps } }
         ensures limits { self.new.replay.limits ≡ self.old.replay.limits }
+        ensures loses { self.new.replay.loses ≡ self.old.replay.loses }
     {
         let _named = no_reply();
         let _answer = self.replay.step(&Step {
@@ -152,7 +154,7 @@ impl Progress {
         place: usize,
         reply: &Option<Reply>,
         step: &Step,
-    ) -> Result<(), SettleFault>
+    ) -> Result<(), StepFault>
         requires given { BelongTo closed.now tenant self.old places.now }
         requires place { place < length closed.now.transcripts.items }
         requires step { step.now.tenant ≡ 0 }
@@ -164,15 +166,19 @@ impl Progress {
         let _named = no_reply();
         let transcript = &closed.transcripts[place];
         let stage = self.stages[place];
+        if self.replay.may_have_lost(&step.act) {
+            return Err(StepFault::Lost);
+        }
         if !self.delivers(&step.act, reply) {
-            return Err(SettleFault::Mismatch);
+            return Err(StepFault::Mismatch);
         }
         let Some(slot) = places.slot_of(transcript.seat) else {
-            return Err(SettleFault::Stuck);
+            // A seat whose transcript is here has a place.
+            return Err(StepFault::Mismatch);
         };
         let answer = self.replay.step(step)?;
         let Some(next) = next_stage(transcript, stage, &answer) else {
-            return Err(SettleFault::Mismatch);
+            return Err(StepFault::Mismatch);
         };
         self.stages[place] = next;
         push_rows_at(&mut self.sent, slot, &answer)
@@ -180,7 +186,8 @@ impl Progress {
 
     /// Whether a step delivers this reply, if there is one.
     fn delivers(&self, act: &Act, reply: &Option<Reply>) -> bool
-        ensures { (input : Input) (trace : Trace) → Replays input trace self.now.replay
+        ensures { (input : Input) (trace : Trace) (plays : Replays input trace self.now.replay)
+            → StillHas plays.own (after input trace) act.now
             → IsTrue result ↔ Delivers (after input trace) act.now reply.now }
     {
         let Some(taken) = reply else {
@@ -193,12 +200,7 @@ impl Progress {
     }
 
     /// Has the store take a step that the event of a partition's journal gives, and notes what it answered.
-    fn note_event(
-        &mut self,
-        partition: usize,
-        event: &Event,
-        step: &Step,
-    ) -> Result<(), SettleFault>
+    fn note_event(&mut self, partition: usize, event: &Event, step: &Step) -> Result<(), StepFault>
         requires partition { partition < length self.old.replies.items }
         requires step { step.now.tenant ≡ 0 }
         ensures notes { (input : Input) → NotesOne input (FromJournal partition event.now)
@@ -207,12 +209,15 @@ impl Progress {
         ensures steps { self.new.steps ≡ self.old.steps }
     {
         let _named = no_reply();
+        if self.replay.may_have_lost(&step.act) {
+            return Err(StepFault::Lost);
+        }
         if !self.replay.brings(partition, event, &step.act) {
-            return Err(SettleFault::Mismatch);
+            return Err(StepFault::Mismatch);
         }
         let answer = self.replay.step(step)?;
         let Some(row) = row_replied(&answer, event) else {
-            return Err(SettleFault::Mismatch);
+            return Err(StepFault::Mismatch);
         };
         push_at(&mut self.replies, partition, row)
     }
@@ -326,7 +331,7 @@ fn row_replied(answer: &Answer, event: &Event) -> Option<u64>
 }
 
 /// Adds a step of the tenant.
-fn push_step(steps: &mut Vec<Step>, tenant: u32, act: Act) -> Result<(), SettleFault>
+fn push_step(steps: &mut Vec<Step>, tenant: u32, act: Act) -> Result<(), StepFault>
     ensures { DoneOrNoMemory result
         (steps.new.items ≡ steps.old.items ++ step_of tenant act ∷ []) }
 {
@@ -336,7 +341,7 @@ fn push_step(steps: &mut Vec<Step>, tenant: u32, act: Act) -> Result<(), SettleF
 }
 
 /// Adds a row to the list at a place.
-fn push_at(lists: &mut Vec<Vec<u64>>, place: usize, row: u64) -> Result<(), SettleFault>
+fn push_at(lists: &mut Vec<Vec<u64>>, place: usize, row: u64) -> Result<(), StepFault>
     requires { place < length lists.old.items }
     ensures pushed { DoneOrNoMemory result
         (IsPushed lists.old.items lists.new.items place (row ∷ [])) }
@@ -349,7 +354,7 @@ fn push_at(lists: &mut Vec<Vec<u64>>, place: usize, row: u64) -> Result<(), Sett
 }
 
 /// Adds the rows of the calls that a step sent to the list at a place.
-fn push_rows_at(lists: &mut Vec<Vec<u64>>, place: usize, answer: &Answer) -> Result<(), SettleFault>
+fn push_rows_at(lists: &mut Vec<Vec<u64>>, place: usize, answer: &Answer) -> Result<(), StepFault>
     requires { place < length lists.old.items }
     ensures pushed { DoneOrNoMemory result
         (IsPushed lists.old.items lists.new.items place (rows_sent answer.now)) }
@@ -359,7 +364,7 @@ fn push_rows_at(lists: &mut Vec<Vec<u64>>, place: usize, answer: &Answer) -> Res
 }
 
 /// Adds the rows of the calls that a step sent.
-fn push_rows(list: &mut Vec<u64>, answer: &Answer) -> Result<(), SettleFault>
+fn push_rows(list: &mut Vec<u64>, answer: &Answer) -> Result<(), StepFault>
     ensures { DoneOrNoMemory result (list.new.items ≡ list.old.items ++ rows_sent answer.now) }
 {
     if let Some(rows) = rows_sent(answer) {

@@ -202,8 +202,24 @@ const STUCK: Case<'static> = Case {
     ..EMPTY
 };
 
+/// A call that was served twice, and a reply that was taken twice: messages that are delivered again.
+const AGAIN: Case<'static> = Case {
+    journals: [&[(1, 1, Initial), (1, 1, Initial)], &[]],
+    transcripts: &[(
+        1,
+        &[
+            Get(&["x"]),
+            Took(1, 0, 2, Initial),
+            Took(1, 0, 2, Initial),
+            Took(1, 0, 1, Initial),
+        ],
+    )],
+    verdict: Ok(8),
+    ..EMPTY
+};
+
 /// How many cases there are.
-const CASES: usize = 11;
+const CASES: usize = 12;
 
 /// The nth case. There is none after the last.
 fn nth_case(nth: usize) -> Option<Case<'static>> {
@@ -219,6 +235,7 @@ fn nth_case(nth: usize) -> Option<Case<'static>> {
         8 => Some(NO_EVENT),
         9 => Some(INVENTED),
         10 => Some(STUCK),
+        11 => Some(AGAIN),
         _ => None,
     }
 }

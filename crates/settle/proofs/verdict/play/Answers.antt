@@ -1,12 +1,12 @@
 use Rattle.std.proofs.Common.{[], sym, subst}
 use Rattle.settle.specs.Input.{input_of}
 use Rattle.settle.specs.Standing.{HasTakenSteps}
-use Rattle.settle.specs.Verdict.{HasJournals}
-use Rattle.settle.proofs.Verdicts.{faulty}
+use Rattle.settle.specs.Verdict.{HasJournals, ComesTo}
+use Rattle.settle.proofs.Verdicts.{comes_to}
 use Rattle.settle.proofs.verdict.play.Goals as goal
 
 pub loop-step-init : goal.loop-step-init
-loop-step-init c = record { sized = c.in_ok-progress.ensures.sized; limits = c.in_ok-progress.ensures.limits; stands = ([], c.in_ok-progress.ensures.stands c.args.tenant) }
+loop-step-init c = record { sized = c.in_ok-progress.ensures.sized; limits = c.in_ok-progress.ensures.limits; loses = c.in_ok-progress.ensures.loses; stands = ([], c.in_ok-progress.ensures.stands c.args.tenant) }
 
 pub returns-in-Err : goal.returns-in-Err
 returns-in-Err c =
@@ -14,8 +14,9 @@ returns-in-Err c =
     let own = c.loop-step.progress.replay.limits in
     let trace = c.loop-step.invariant.stands.0 in
     let stands = subst (λ l. HasTakenSteps (input_of closed c.args.tenant l) trace c.loop-step.progress) (sym c.loop-step.invariant.limits) c.loop-step.invariant.stands.1 in
-    faulty closed c.args.tenant c.args.limits.now own trace c.loop-step.progress c.in_ok-next.field-0 c.in-Some.next c.in-Err.fault c.loop-step.invariant.limits stands
-    (c.in_ok-next.ensures.choice trace stands) c.in-Some.is (c.in-Err.ensures.takes trace stands)
+    let come = comes_to closed c.args.tenant c.args.limits.now own trace c.loop-step.progress c.args.loses c.in_ok-next.field-0 c.in-Some.next c.in-Err.fault c.loop-step.invariant.limits c.loop-step.invariant.loses stands
+    (c.in_ok-next.ensures.choice trace stands) c.in-Some.is (c.in-Err.ensures.takes trace stands) in
+    subst (ComesTo closed c.args.tenant c.args.limits.now c.args.loses) (sym c.ended_by.ensures) come
 
 pub verdict-requires-clause-journals : goal.verdict-requires-clause-journals
 verdict-requires-clause-journals c = subst (HasJournals c.args.closed.now c.args.tenant) (sym c.loop-step.invariant.limits) c.requires.journals

@@ -38,4 +38,5 @@ returns-in-Some-clause-keeps c =
         replies = ap (λ (p : Progress). length p.replies.items) rest ∙ is.replies;
       };
       limits = c.set_keep.ensures.limits;
+      loses = c.set_keep.ensures.loses;
     }

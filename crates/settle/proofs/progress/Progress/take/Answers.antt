@@ -12,4 +12,5 @@ returns-in-Journal c =
           (sym c.in-Journal.is) (c.take_of_journal.ensures.takes input refl);
       sized = c.take_of_journal.ensures.keeps.sized c.args.closed.now c.requires.given.sized;
       limits = c.take_of_journal.ensures.keeps.limits;
+      loses = c.take_of_journal.ensures.keeps.loses;
     }

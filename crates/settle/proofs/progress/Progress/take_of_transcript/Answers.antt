@@ -13,13 +13,14 @@ returns-in-Ok c = record {
       let origin = OfTranscript c.args.place in
       let old = c.args.self.now in
       let ready = ready_already input trace origin old stands refl in
-      match_pushed input trace origin c.args.act c.push_step.result _ _ c.push_step.ensures.ok c.push_step.ensures.err
+      match_pushed input trace origin c.args.act old.replay.loses c.push_step.result _ _ c.push_step.ensures.ok c.push_step.ensures.err
       (λ pushed. written input trace origin c.args.act old c.note_item.new.self _ ready may (c.in-Ok.ensures.notes trace ready.noted may found) refl refl refl refl
       (pushed ∙ ap (λ steps. steps.items ++ step_of c.args.tenant c.args.act ∷ []) c.note_item.ensures.steps));
   sized =
       let sized = c.note_item.ensures.keeps.sized c.args.closed.now c.requires.given.sized in
       record { stages = sized.stages; sent = sized.sent; replies = sized.replies };
   limits = c.note_item.ensures.keeps.limits;
+  loses = c.note_item.ensures.keeps.loses;
 }
 
 pub returns-in-Err : goal.returns-in-Err
@@ -27,4 +28,5 @@ returns-in-Err c = record {
   takes = search rules;
   sized = c.note_item.ensures.keeps.sized c.args.closed.now c.requires.given.sized;
   limits = c.note_item.ensures.keeps.limits;
+  loses = c.note_item.ensures.keeps.loses;
 }

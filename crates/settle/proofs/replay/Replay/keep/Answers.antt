@@ -9,13 +9,14 @@ use Rattle.settle.proofs.Replayed.{history_played}
 use Rattle.settle.proofs.replay.Replay.keep.Goals as goal
 
 pub returns-in-Some : goal.returns-in-Some
-returns-in-Some c input acts history played =
+returns-in-Some c input acts history plays =
     some_is _ _
-    (sym c.in-Some.is ∙ c.keep.ensures (steps_of acts) input.limits played.stands (ap (λ ls. slice_get ls 0) played.limits)
-    ∙ (λ i. Some (keep_in (setup_of (played.parts i) input.limits) (history_of (setup_of (played.parts i) input.limits) 0 (steps_of acts))))
-    ∙ ap (λ h. Some (keep_in (setup_for input) h)) (history_played input acts history played.ran))
+    (sym c.in-Some.is ∙ c.keep.ensures (steps_of plays.taken) input.limits plays.stands (ap (λ ls. slice_get ls 0) plays.limits)
+    ∙ (λ i. Some (keep_in (setup_of (plays.parts i) input.limits) (history_of (setup_of (plays.parts i) input.limits) 0 (steps_of plays.taken))))
+    ∙ ap (λ h. Some (keep_in (setup_for input) h)) (history_played input plays.taken plays.own plays.ran)
+    ∙ ap Some plays.more.keep)
 
 pub returns-in-None : goal.returns-in-None
-returns-in-None c input acts history played =
-    let bad = sym c.in-None.is ∙ c.keep.ensures (steps_of acts) input.limits played.stands (ap (λ ls. slice_get ls 0) played.limits) in
+returns-in-None c input acts history plays =
+    let bad = sym c.in-None.is ∙ c.keep.ensures (steps_of plays.taken) input.limits plays.stands (ap (λ ls. slice_get ls 0) plays.limits) in
     cc
