@@ -29,7 +29,7 @@ use Rattle.line_protocol.specs.declared.request.Request.TheVariants.{Hello, Put,
 use Rattle.line_runs.specs.RunAnswers.{Gathers}
 use Rattle.server_sessions.specs.Answered.{IsOfSeat}
 use Rattle.server_sessions.specs.Histories.{IsGivenIn}
-use Rattle.server_sessions.specs.SeatAnswers.{AreGiven, IsAnswered, IsAnsweredAndDrained, IsDrained, IsFresh, IsPut, IsServed, IsToldBySeat, IsToldNext, Nothing, OneMore, ReportsFind, ReportsGet, Returned, refusals_text}
+use Rattle.server_sessions.specs.SeatAnswers.{AreGiven, IsAnswered, IsAnsweredAndDrained, IsDrained, IsFresh, IsPut, IsServedWith, IsToldBySeat, IsToldNext, Nothing, OneMore, ReportsFind, ReportsGet, Returned, refusals_text}
 use Rattle.server_sessions.specs.Telling.{Telling, Entered, Refuses, KeepsSo, answer_told, answer_untold, answers_entered, tellings_text, IsLeftOf, IsReplaced, HasHeard, WasHeard, WasTold, Tells, HasTold, SessionLeft, IsLastLine, IsWritten, IsBegun, BreaksTelling, HasName, IsSeated, seat_tenant}
 use Rattle.server_sessions.proofs.SeatsGiven.{drained_name, given_at_end, given_drained, given_fresh, given_later}
 use Rattle.line_runs.proofs.Fronts.{begins_behind_gathered}
@@ -454,13 +454,13 @@ asked_put newest tenants request items given old new answer is same served =
     subst (λ (r : Request). IsAnswered newest tenants r old answer new) (sym is) (subst (λ (xs : List Item). IsPut newest xs old answer new) same served)
 
 pub asked_get : (newest : Bool) (tenants : ℕ) (request : Request) (keys given : List (List ℕ)) (old new : SeatView) (answer : Answer) → request ≡ Get keys → given ≡ keys
-    → IsServed (GetAct old.name.client given) (ReportsGet given) old answer new → IsAnswered newest tenants request old answer new
+    → IsServedWith (GetAct old.name.client given) (ReportsGet given) old answer new → IsAnswered newest tenants request old answer new
 asked_get newest tenants request keys given old new answer is same served =
     subst (λ (r : Request). IsAnswered newest tenants r old answer new) (sym is)
-    (subst (λ (xs : List (List ℕ)). IsServed (GetAct old.name.client xs) (ReportsGet xs) old answer new) same served)
+    (subst (λ (xs : List (List ℕ)). IsServedWith (GetAct old.name.client xs) (ReportsGet xs) old answer new) same served)
 
 pub asked_find : (newest : Bool) (tenants : ℕ) (request : Request) (tag : List ℕ) (old new : SeatView) (answer : Answer) → request ≡ Find tag
-    → IsServed (FindAct old.name.client tag) (ReportsFind tag) old answer new → IsAnswered newest tenants request old answer new
+    → IsServedWith (FindAct old.name.client tag) (ReportsFind tag) old answer new → IsAnswered newest tenants request old answer new
 asked_find newest tenants request tag old new answer is served = subst (λ (r : Request). IsAnswered newest tenants r old answer new) (sym is) served
 
 -- what was gathered is written

@@ -2,6 +2,7 @@
 use Rattle.std.specs.Prelude.{◌≡◌, ◌⊎◌, ℕ, Bool, List}
 use Rattle.std.specs.Net.Socket.{socket_port}
 use Rattle.history.specs.declared.rule.Naming.{Ghosts}
+use Rattle.server_sessions.specs.Answering.{no_options}
 use Rattle.server_sessions.specs.declared.answer_counts.AnswerCounts.{AnswerCounts}
 use Rattle.closed_store.specs.declared.transcript.Transcript.{Transcript}
 use Rattle.server_sessions.specs.declared.kept_transcripts.KeptTranscripts.{KeptTranscripts}
@@ -42,11 +43,12 @@ answers_of server = server.answers
 abbrev pub count_of : {L G : Type 0} {naming : Ghosts G} → Server L G naming → SessionCount
 count_of server = server.count
 
--- a server of so many connections at a time that come from there, and whether it stays
+-- a server of so many connections at a time that come from there, and whether it stays; its sessions have no options
 pub record IsServerOf {L G : Type 0} {naming : Ghosts G} (source : L) (count : ℕ) (does_stay : Bool) (server : Server L G naming) : Type 0 where
   pub listener : listener_of server ≡ source
   pub most : most_of server ≡ count
   pub stays : stays_of server ≡ does_stay
+  pub plain : options_of server ≡ no_options
 
 -- the transcripts that are kept
 abbrev pub transcripts_of : {G : Type 0} {naming : Ghosts G} → KeptTranscripts G naming → List Transcript

@@ -21,7 +21,7 @@ use Rattle.line_protocol.specs.declared.request.Request.TheVariants.{Hello, Put,
 
 -- The seat ran an operation of this act, and the answer reports what it entered meanwhile: each reply has its place in the
 -- history that the seat has seen.
-pub record IsServed (act : Act) (Reports : SeatView → Answer → SeatView → Type 0) (old : SeatView) (answer : Answer)
+pub record IsServedWith (act : Act) (Reports : SeatView → Answer → SeatView → Type 0) (old : SeatView) (answer : Answer)
     (new : SeatView) : Type 0 where
   pub operated : IsOperation act old answer new
   pub reports : Reports old answer new
@@ -43,7 +43,7 @@ ReportsFind tag old answer new =
 
 -- a put is served; or, where puts read first, its keys are read and then it is
 abbrev pub IsPut : Bool → List Item → SeatView → Answer → SeatView → Type 0
-IsPut false items old answer new = IsServed (PutAct old.name.client items) (ReportsPut items) old answer new
+IsPut false items old answer new = IsServedWith (PutAct old.name.client items) (ReportsPut items) old answer new
 IsPut true items old answer new = IsReadAndWritten items old answer new × IsLater (2 * max_calls) old new
 
 -- What a seat of a store of so many tenants answers to a request: `hello` is refused 12; a put, a get and a find are
@@ -52,9 +52,9 @@ abbrev pub IsAnswered : Bool → ℕ → Request → SeatView → Answer → Sea
 IsAnswered newest tenants (Hello name client base) old answer new = (answer ≡ Refused Busy) × (new ≡ old)
 IsAnswered newest tenants (Put items) old answer new = IsPut newest items old answer new
 IsAnswered newest tenants (Get keys) old answer new =
-    IsServed (GetAct old.name.client keys) (ReportsGet keys) old answer new
+    IsServedWith (GetAct old.name.client keys) (ReportsGet keys) old answer new
 IsAnswered newest tenants (Find tag) old answer new =
-    IsServed (FindAct old.name.client tag) (ReportsFind tag) old answer new
+    IsServedWith (FindAct old.name.client tag) (ReportsFind tag) old answer new
 IsAnswered newest tenants (Keep keep) old answer new =
     (answer ≡ cond (nat_lt old.name.tenant tenants) (Keeps keep) (Refused NoTenant)) × (new ≡ old)
 IsAnswered newest tenants Bye old answer new = ⊥

@@ -5,14 +5,14 @@ ghost use Rattle.plain_store.specs.declared.refusal.Refusal.TheVariants.{NoTenan
 ghost use Rattle.line_protocol.specs.declared.request.Request.TheVariants.{Bye};
 ghost use Rattle.line_protocol.specs.AnswerSpelling.{answer_line};
 ghost use Rattle.server_sessions.specs.Counting.{counted_as, kind_of};
-ghost use Rattle.server_sessions.specs.SeatAnswers.{IsAnswered, IsPut};
+ghost use Rattle.server_sessions.specs.SeatAnswers.{IsAnswered};
 
 use crate::answer_counts::{AnswerCounts, Counted};
 use bytes::BytesMut;
 use hub::{Gate, Hub, Naming, Seat};
 use line_protocol::{LINE_LIMIT, Request};
 use plain_store::{Answer, Refusal};
-use stamps::{Counter, Item, Keep};
+use stamps::{Counter, Keep};
 use std::marker::Model;
 use std::sync::Wait;
 
@@ -48,6 +48,13 @@ impl Given {
         self.answer = Answer::Ready(counter);
     }
 
+    /// It is refused. A function of its own, so that no caller reserves stack space for a second `Answer`.
+    pub(crate) fn refuse(&mut self, refusal: Refusal)
+        ensures { self.new ≡ Refused refusal }
+    {
+        self.answer = Answer::Refused(refusal);
+    }
+
     /// Counts it, and answers the receipt; none where it is neither a refusal nor a restart.
     pub(crate) fn count(&self, counts: &AnswerCounts) -> Option<Counted>
         ensures { kind_of result ≡ counted_as self.now }
@@ -72,13 +79,6 @@ pub(crate) fn put_answer(answer: &Given, out: &mut BytesMut)
     line_runs::put_answer(&answer.answer, out);
 }
 
-/// Writes a refusal into the answer. A function of its own, so that no caller reserves stack space for a second `Answer`.
-pub(crate) fn tell_refusal(refusal: Refusal, answer: &mut Given)
-    ensures { answer.new ≡ Refused refusal }
-{
-    answer.answer = Answer::Refused(refusal);
-}
-
 /// Answers a request by a seat, and says whether it is answered. Newest: whether a put reads its keys first.
 pub(crate) fn ask_seat<G: Gate + Naming, H: Wait>(
     rt: &H,
@@ -95,11 +95,16 @@ pub(crate) fn ask_seat<G: Gate + Naming, H: Wait>(
 {
     match request {
         Request::Hello(..) => {
-            tell_refusal(Refusal::Busy, answer);
+            answer.refuse(Refusal::Busy);
             true
         }
         Request::Put(items) => {
-            ask_put(rt, newest, seat, items.as_slice(), answer);
+            let items = items.as_slice();
+            if newest {
+                seat.put_newest_into(rt, items, &mut answer.answer);
+                return true;
+            }
+            seat.put_all_into(rt, items, &mut answer.answer);
             true
         }
         Request::Get(keys) => {
@@ -116,23 +121,6 @@ pub(crate) fn ask_seat<G: Gate + Naming, H: Wait>(
         }
         Request::Bye => false,
     }
-}
-
-// Answers a put by a seat.
-fn ask_put<G: Gate + Naming, H: Wait>(
-    rt: &H,
-    newest: bool,
-    seat: &mut Seat<'_, G>,
-    items: &[Item],
-    answer: &mut Given,
-)
-    ensures answered { IsPut newest items.now seat.old answer.new seat.new }
-    ensures name { seat.new.name ≡ seat.old.name }
-{
-    if newest {
-        return seat.put_newest_into(rt, items, &mut answer.answer);
-    }
-    seat.put_all_into(rt, items, &mut answer.answer);
 }
 
 // Sets how many versions a collection of this tenant keeps.

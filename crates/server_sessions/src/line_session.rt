@@ -13,11 +13,11 @@ ghost use Rattle.server_sessions.specs.declared.line_session.SessionEnd.TheVaria
 ghost use Rattle.server_sessions.specs.Answering.{IsAnsweredBy, IsEndOfInput, IsGreeted, last_line, no_options, refused_as};
 ghost use Rattle.server_sessions.specs.Counting.{counted_as, counted_last, if_counts, kind_of};
 ghost use Rattle.server_sessions.specs.Promised.{AnswersLine, EndsAtLine, HasRun, KeepsTelling, MayAnswer};
-ghost use Rattle.server_sessions.specs.SeatAnswers.{IsAnsweredAndDrained, IsDrained};
+ghost use Rattle.server_sessions.specs.SeatAnswers.{IsDrained};
 ghost use Rattle.server_sessions.specs.Telling.{IsLastLine, IsSeated, SessionLeft as LeftBehind, Tells};
 
 use crate::answer_counts::{AnswerCounts, Counted};
-use crate::given::{Given, ask_seat, put_answer, tell_refusal};
+use crate::given::{Given, ask_seat, put_answer};
 use crate::session_options::SessionOptions;
 use bytes::BytesMut;
 use hub::{Front, Gate, Hub, Naming, Seat, Transcript};
@@ -482,7 +482,7 @@ impl<'s, G: Gate + Naming> Connection<'s, G> {
             return Some(SessionEnd::Unread);
         }
         let cause = self.refuse(refusal);
-        tell_refusal(cause, &mut self.answer);
+        self.answer.refuse(cause);
         None
     }
 
@@ -543,7 +543,9 @@ impl<'s, G: Gate + Naming> Connection<'s, G> {
     {
         let newest = self.terms.options.newest;
         if let Some(seat) = &mut self.seat {
-            return answer_by_seat(rt, hub, newest, seat, request, &mut self.answer);
+            let is_answered = ask_seat(rt, hub, newest, seat, request, &mut self.answer);
+            drain_seat(hub, seat);
+            return is_answered;
         }
         match request {
             Request::Hello(name, client, base) => {
@@ -551,7 +553,7 @@ impl<'s, G: Gate + Naming> Connection<'s, G> {
                 true
             }
             Request::Put(_) | Request::Get(_) | Request::Find(_) | Request::Keep(_) => {
-                tell_refusal(Refusal::NoSession, &mut self.answer);
+                self.answer.refuse(Refusal::NoSession);
                 true
             }
             Request::Bye => false,
@@ -578,7 +580,7 @@ impl<'s, G: Gate + Naming> Connection<'s, G> {
             name.now client base self.new.answer self.new.seat }
     {
         let Some(tenant) = tenant_number(self.terms.names, name) else {
-            tell_refusal(Refusal::NoTenant, &mut self.answer);
+            self.answer.refuse(Refusal::NoTenant);
             return;
         };
         self.greet(hub.seat(rt, tenant, client, base));
@@ -598,31 +600,9 @@ impl<'s, G: Gate + Naming> Connection<'s, G> {
                 self.seat = Some(seat);
                 self.answer.ready(counter);
             }
-            Err(refusal) => tell_refusal(refusal, &mut self.answer),
+            Err(refusal) => self.answer.refuse(refusal),
         }
     }
-}
-
-// Answers a request by a connection's seat, and says whether it is answered. Where journals are cut, what the seat noted is
-// released.
-fn answer_by_seat<G: Gate + Naming, H: Wait>(
-    rt: &H,
-    hub: &Hub<G>,
-    newest: bool,
-    seat: &mut Seat<'_, G>,
-    request: &Request,
-    answer: &mut Given,
-) -> bool
-    ensures answered { result ≡ true
-        → IsAnsweredAndDrained newest hub.now.epoch
-        (length hub.now.limits) request.now seat.old answer.new seat.new }
-    ensures bye { result ≡ false → IsDrained hub.now.epoch seat.old seat.new }
-    ensures said_bye { result ≡ false → request.now ≡ Bye }
-    ensures name { seat.new.name ≡ seat.old.name }
-{
-    let is_answered = ask_seat(rt, hub, newest, seat, request, answer);
-    drain_seat(hub, seat);
-    is_answered
 }
 
 // Hands out what a seat noted, where journals are cut.

@@ -1,5 +1,5 @@
 //! The connections of a server, each served in a thread of its own.
-ghost use Rattle.std.specs.Prelude.{◌≡◌, false, IfSome, IsTrue};
+ghost use Rattle.std.specs.Prelude.{◌≡◌, ◌<◌, false, None, IfSome, IsTrue};
 ghost use Rattle.std.specs.Io.KnownBytes.{IsAtEnd};
 ghost use Rattle.server_sessions.specs.declared.served.Change.TheVariants.{Ended};
 ghost use Rattle.server_sessions.specs.Histories.{IsGivenIn};
@@ -30,7 +30,9 @@ pub type OpenHub<J> = Hub<Named<J, Open>>;
 pub type OpenSeat<'a, J> = Seat<'a, Named<J, Open>>;
 
 impl Gate for Open {
-    fn counts(&self) -> bool {
+    fn counts(&self) -> bool
+        ensures { result ≡ false }
+    {
         false
     }
 
@@ -175,6 +177,7 @@ fn serve_connection<J: Naming, H: Wait, L>(
 // What is kept of a session: nothing where journals are cut, since nothing is settled at the end.
 fn kept_of<G: Naming>(epoch: u32, left: Option<SessionLeft<G>>) -> Option<SessionLeft<G>>
     ensures all { epoch ≡ 0 → result ≡ left }
+    ensures none { 0 < epoch → result ≡ None }
     ensures given { IfSome left (λ its. IsGivenIn its.1 its.0)
         → IfSome result (λ its. IsGivenIn its.1 its.0) }
 {

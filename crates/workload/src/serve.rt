@@ -6,7 +6,7 @@ ghost use Rattle.history.specs.Legal.{IsLegal};
 ghost use Rattle.hub.specs.Hubs.{config_view};
 ghost use Rattle.workload.specs.Serving.{DoneOrRefused, IsClosed, IsFaultBefore, ServesAndTells, TellsOfPort, TellsPortFirst, TellsPortFor, greater_fault, listening_line};
 ghost use Rattle.server_sessions.specs.Histories.{IsOfHistory};
-ghost use Rattle.server_sessions.specs.Ports.{listener_of, options_of, port_of, transcripts_of};
+ghost use Rattle.server_sessions.specs.Ports.{IsServerOf, listener_of, most_of, options_of, port_of, stays_of, transcripts_of};
 
 use command_line::{ServerOptions, VERSION};
 use hub::{Closed, Config, Front, Hub, HubFault, Named, Naming, NewStore, Sink};
@@ -119,6 +119,8 @@ fn server_of<G: Naming>(
     options: ServerOptions,
 ) -> Result<Server<Listener, G>, AllocError>
     ensures listener { IfOk result (λ server. listener_of server ≡ listener) }
+    ensures connections { IfOk result (λ server. (most_of server ≡ options.sessions)
+        × (stays_of server ≡ options.stay)) }
     ensures strict { IfOk result (λ server. (options_of server).strict ≡ options.strict) }
     ensures newest { IfOk result (λ server. (options_of server).newest ≡ options.newest) }
 {
@@ -134,7 +136,7 @@ fn plain_server_of<G: Naming>(
     listener: Listener,
     options: ServerOptions,
 ) -> Result<Server<Listener, G>, AllocError>
-    ensures { IfOk result (λ server. listener_of server ≡ listener) }
+    ensures { IfOk result (IsServerOf listener options.sessions options.stay) }
 {
     if options.stay {
         Server::staying(alloc, listener, options.sessions)

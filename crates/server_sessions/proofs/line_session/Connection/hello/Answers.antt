@@ -5,10 +5,10 @@ use Rattle.server_sessions.proofs.Greeting.{greeted, greeting_seated, greeting_t
 use Rattle.server_sessions.proofs.line_session.Connection.hello.Goals as goal
 
 pub returns-in_default-clause-told : goal.returns-in_default-clause-told
-returns-in_default-clause-told g c = rw (c.requires, c.tell_refusal.ensures) (Tells-refused c.args.self.now.terms.options.newest c.args.hub.now.epoch NoTenant)
+returns-in_default-clause-told g c = rw (c.requires, c.refuse.ensures) (Tells-refused c.args.self.now.terms.options.newest c.args.hub.now.epoch NoTenant)
 
 pub returns-in_default-clause-greeted : goal.returns-in_default-clause-greeted
-returns-in_default-clause-greeted g c = rw c.requires (NoTenant, c.tell_refusal.ensures, inl (c.in_default.ensures.none, refl))
+returns-in_default-clause-greeted g c = rw c.requires (NoTenant, c.refuse.ensures, inl (c.in_default.ensures.none, refl))
 
 pub returns-clause-tenant : goal.returns-clause-tenant
 returns-clause-tenant g c =
