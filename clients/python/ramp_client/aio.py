@@ -12,7 +12,7 @@ from .async_wire import AsyncWire
 from .client import Batch
 from .errors import Closed, InUse, Invalid, WrongUse
 from .lines import Call, Item
-from .policy import CLIENT, Retry, read_url
+from .policy import CLIENT, TIMEOUT, Retry, read_url
 from .session import Connect, Exchange, Pause, Session, Steps
 
 T = TypeVar("T")
@@ -124,7 +124,7 @@ class AsyncClient(AsyncCalls):
     Tasks may share one: a call waits, at most `timeout` seconds, until the call of another task has ended. An `AsyncPool` lets them run
     concurrently."""
 
-    def __init__(self, url: str, *, client: Optional[int] = None, timeout: Optional[float] = 5.0, newest: str = CLIENT, retry: Optional[Retry] = None):
+    def __init__(self, url: str, *, client: Optional[int] = None, timeout: Optional[float] = TIMEOUT, newest: str = CLIENT, retry: Optional[Retry] = None):
         self.options = read_url(url, client, timeout, newest, retry)
         self._session = Session(self.options)
         self._wire = AsyncWire()
@@ -205,7 +205,7 @@ class AsyncPool(AsyncCalls):
     """At most `size` sessions, for any number of tasks of one event loop. A call takes a free session, or waits for one, first come first
     served, at most `wait` seconds. See `Pool`."""
 
-    def __init__(self, url: str, *, size: int = 16, wait: Optional[float] = 30.0, timeout: Optional[float] = 5.0, newest: str = CLIENT, retry: Optional[Retry] = None):
+    def __init__(self, url: str, *, size: int = 16, wait: Optional[float] = 30.0, timeout: Optional[float] = TIMEOUT, newest: str = CLIENT, retry: Optional[Retry] = None):
         if not isinstance(size, int) or size < 1:
             raise Invalid(f"a pool has at least 1 client, and not {size!r}", "size")
         self.size, self.wait = size, wait

@@ -11,7 +11,7 @@ from typing import Any, Callable, Generic, Iterator, Mapping, Optional, Sequence
 from . import lines
 from .errors import Closed, InUse, Invalid, WrongUse
 from .lines import Call, Item
-from .policy import CLIENT, Retry, read_url
+from .policy import CLIENT, TIMEOUT, Retry, read_url
 from .session import Connect, Exchange, Pause, Session, Steps
 from .wire import Wire
 
@@ -70,7 +70,7 @@ class Calls(ABC):
         no other client writes these keys, or if this client reads them each time before it writes. Otherwise a blind write may get a lower
         stamp than what others wrote; it is then done, and no read returns it.
 
-        `OutcomeUnknown` if its answer was lost."""
+        `OutcomeUnknown` if its answer was lost, or a partition refused a call of it (10, 25 or 30): then it may be done."""
         return self._one(lines.put(items, tag, tags, not blind))  # type: ignore[no-any-return]
 
     def get(self, *keys: str) -> dict[str, Item]:
@@ -123,7 +123,7 @@ class Client(Calls):
     Threads may share one: a call waits, at most `timeout` seconds, until the call of another thread has ended. A `Pool` lets them run
     concurrently. A forked process connects anew."""
 
-    def __init__(self, url: str, *, client: Optional[int] = None, timeout: Optional[float] = 5.0, newest: str = CLIENT, retry: Optional[Retry] = None):
+    def __init__(self, url: str, *, client: Optional[int] = None, timeout: Optional[float] = TIMEOUT, newest: str = CLIENT, retry: Optional[Retry] = None):
         self.options = read_url(url, client, timeout, newest, retry)
         self._begin()
         self._is_closed = False
@@ -209,7 +209,7 @@ class Pool(Calls):
     Sessions are opened on demand, and each uses one of the tenant's client numbers: the server's `--clients` and `--sessions` have to allow
     as many. Open a pool in each process, after a fork and not before it."""
 
-    def __init__(self, url: str, *, size: int = 16, wait: Optional[float] = 30.0, timeout: Optional[float] = 5.0, newest: str = CLIENT, retry: Optional[Retry] = None):
+    def __init__(self, url: str, *, size: int = 16, wait: Optional[float] = 30.0, timeout: Optional[float] = TIMEOUT, newest: str = CLIENT, retry: Optional[Retry] = None):
         if not isinstance(size, int) or size < 1:
             raise Invalid(f"a pool has at least 1 client, and not {size!r}", "size")
         self.size, self.wait = size, wait
@@ -269,7 +269,7 @@ class Pool(Calls):
         self.close()
 
 
-def connect(url: str, *, client: Optional[int] = None, timeout: Optional[float] = 5.0, newest: str = CLIENT, retry: Optional[Retry] = None) -> Client:
+def connect(url: str, *, client: Optional[int] = None, timeout: Optional[float] = TIMEOUT, newest: str = CLIENT, retry: Optional[Retry] = None) -> Client:
     """A client that is connected: `connect("ramp://127.0.0.1:7000/t")`.
 
     `client` is its number, else one is drawn that no session has. `timeout` is in seconds, for each answer. `newest="server"` says that

@@ -7,7 +7,7 @@
 | `TryAgain` | not now | call again, after a pause |
 | `TrustNothing` | an answer was false | trust no answer of this server |
 | `Lost` | there is no connection, or it broke off; no write was sent on it | start the server, or call again |
-| `OutcomeUnknown` | a write was sent and its answer is missing | read the items, and decide |"""
+| `OutcomeUnknown` | a write was sent, and it is not known whether it was done | read the items, and decide |"""
 from __future__ import annotations
 
 from typing import Optional
@@ -38,9 +38,10 @@ class Lost(RampError):
 
 
 class OutcomeUnknown(RampError):
-    """A write was sent, and its answer is missing: all of it is done, or will be, or none of it. The client never sends it again.
+    """A write was sent, and its answer is missing, or does not say whether it was done. All of it is done, or will be, or none of it. The
+    client never sends it again.
 
-    `why` is what happened: a `ConnectionLost`, a `NoAnswer`, a `FalseAnswer`, or the `Refused` of a server whose partition had a fault.
+    `why` is what happened: a `ConnectionLost`, a `NoAnswer`, a `FalseAnswer`, or the `Refused` of 10, 25 or 30.
     `client` is the number under which it was sent. A read of its items shows whether it was done, if its values are not those before."""
 
     def __init__(self, why: RampError, client: int):
@@ -106,7 +107,8 @@ class NoAnswer(ConnectionLost, TimeoutError):
 class Refused(RampError):
     """The store refused a line, or ended its transaction: `number`, `name`, `cause` and `cure` say why. Its class is that of its group, too.
 
-    A refused line changes nothing. With `has_ended` the transaction began and ended so; a write then is never read."""
+    A refused line changes nothing; a write that may be done nevertheless raises `OutcomeUnknown`. With `has_ended` the transaction began
+    and ended so; a write then is never read."""
 
     def __init__(self, number: int, has_ended: bool = False):
         self.number, self.has_ended = number, has_ended
@@ -158,6 +160,10 @@ REFUSALS: dict[int, tuple[str, str, str, type[Refused]]] = {
     42: ("Cut", "the input ended inside a line", "end the last line; this connection is closed", RefusedUse),
 }
 """Of each number that a session can be refused by: its name, its cause, what to do, and its class."""
+
+
+MAY_BE_DONE = frozenset((10, 25, 30))
+"""Refusals that leave open whether a write was done: a partition can refuse one of its COMMITs so, after others have committed."""
 
 
 def refusal(number: int, has_ended: bool = False) -> Refused:

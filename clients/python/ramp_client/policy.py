@@ -16,6 +16,9 @@ CLIENT = "client"
 SERVER = "server"
 """Of `newest`: the server was started with --newest and does so itself."""
 
+TIMEOUT = 5.0
+"""Seconds that each answer may take, where no timeout is given."""
+
 
 @dataclass(frozen=True)
 class Retry:
@@ -66,7 +69,7 @@ class Options:
     port: int
     tenant: str
     client: Optional[int] = None
-    timeout: Optional[float] = 5.0
+    timeout: Optional[float] = TIMEOUT
     newest: str = CLIENT
     retry: Retry = field(default_factory=Retry)
 
@@ -89,7 +92,7 @@ class Options:
 FORM = "ramp://HOST:PORT/TENANT, and behind it ?client=NUMBER&timeout=SECONDS&newest=server as needed"
 
 
-def read_url(url: str, client: Optional[int] = None, timeout: Optional[float] = 5.0, newest: str = CLIENT, retry: Optional[Retry] = None) -> Options:
+def read_url(url: str, client: Optional[int] = None, timeout: Optional[float] = TIMEOUT, newest: str = CLIENT, retry: Optional[Retry] = None) -> Options:
     """The options that a URL names, and these where it names none."""
     if not isinstance(url, str):
         raise Invalid(f"{url!r} is no URL: {FORM}", "url")

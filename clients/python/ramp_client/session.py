@@ -10,7 +10,7 @@ import threading
 from typing import Generator, Iterator, NamedTuple, Optional, Sequence, TypeVar, Union
 
 from . import lines
-from .errors import CannotConnect, ConnectionLost, FalseAnswer, NoAnswer, OutcomeUnknown, RampError, Refused, Restarted
+from .errors import MAY_BE_DONE, CannotConnect, ConnectionLost, FalseAnswer, NoAnswer, OutcomeUnknown, RampError, Refused, Restarted
 from .lines import Call
 from .policy import CLIENT, Options
 
@@ -300,7 +300,7 @@ class Session:
         number = self.number
         if error.number in (10, 11, 19, 22, 25, 30, 41, 42):
             self.lose()
-        if call.is_write and error.number in (10, 25):
+        if call.is_write and error.number in MAY_BE_DONE:
             call.fail(OutcomeUnknown(error, number))
         elif self.options.retry.covers(error):
             return error

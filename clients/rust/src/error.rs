@@ -13,8 +13,9 @@ pub enum Error {
     ConnectionLost(String),
     /// No answer came before the timeout, and the connection was closed. The call changed nothing.
     NoAnswer(String),
-    /// A write was sent, and its answer is missing. The write is done or will be, as a whole, or it never will be. It is not sent again, since
-    /// a second write would have another stamp. A `get` of its keys shows the outcome: a stamp contains the client number.
+    /// A write was sent, and its answer is missing, or is a refusal that leaves the outcome open (10, 25, 30). The write is done or will be, as
+    /// a whole, or it never will be. It is not sent again, since a second write would have another stamp. A `get` of its keys shows the
+    /// outcome: a stamp contains the client number.
     OutcomeUnknown(String),
     /// The store refused the call, which changed nothing. With `has_ended` the transaction began and failed; a write is then never read.
     Refused { refusal: Refusal, has_ended: bool },

@@ -210,9 +210,9 @@ fn read_refusal(request: &Request, line: &str) -> Option<Result<Answer, Error>> 
     let (first, rest) = line.split_once(' ')?;
     let number = || read_number(rest, 255).and_then(|number| Refusal::of(number as u8));
     match (first, request) {
-        // One partition refused a call of the write. Whether the others committed it is unknown.
-        ("refused", Request::Put { .. }) if matches!(rest, "10" | "25") => {
-            Some(Err(Error::OutcomeUnknown(format!("a partition refused a call of it with {rest}"))))
+        // A partition can refuse a COMMIT of the write so, after others have committed it.
+        ("refused", Request::Put { .. }) if matches!(rest, "10" | "25" | "30") => {
+            Some(Err(Error::OutcomeUnknown(format!("the write was refused with {rest}, which leaves open whether it was done"))))
         }
         ("refused", _) => number().map(|refusal| Err(Error::Refused { refusal, has_ended: false })),
         ("ended", _) => number().filter(|refusal| can_end(request, refusal)).map(|refusal| Err(Error::Refused { refusal, has_ended: true })),

@@ -10,6 +10,7 @@ use std::time::Duration;
 /// |---|---|
 /// | no connection could be made, or it was closed before anything was sent | any call |
 /// | the connection was lost before the answer came | reads; a write is [`Error::OutcomeUnknown`] |
+/// | NoTenant (10), Late (25), OutOfMemory (30) of a write: it may be done | nothing; it is [`Error::OutcomeUnknown`] |
 /// | Busy (12), as the answer to `hello` | any call |
 /// | Stopped (19), Clash (20), Discarded (28): the call was not done | any call; after 19 on a new connection |
 /// | the answer did not come before the timeout; any other refusal; a false answer | nothing |
