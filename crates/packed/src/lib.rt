@@ -12,13 +12,13 @@ mod value_encoding;
 
 pub use buffer::Buffer;
 pub use pack_entry::PackEntry;
-pub use packed_list::PackedList;
+pub use packed_list::{PackedList, are_bytes};
 pub use sizes::{
     MAX_ITEM_BYTES, MAX_KEY_BYTES, MAX_KEYS_BYTES, MAX_NUMBER_BYTES, MAX_RECORD_BYTES, STAMP_BYTES,
 };
 pub use value_decoding::{
-    read_byte, read_count, read_key, read_number, read_record, read_stamp, read_tag, read_value,
-    read_writes,
+    read_byte, read_count, read_key, read_number, read_record, read_record_into, read_stamp,
+    read_tag, read_value, read_writes,
 };
 pub use value_encoding::{
     put_key, put_keys, put_number, put_record, put_stamp, put_tag, put_value,

@@ -277,7 +277,7 @@ fn are_ends(one: &[usize], other: &[usize]) -> bool
 
 /// Whether these are the same bytes. It compares eight at a time.
 #[tactic(auto, using(crate::proofs::Words::rest_decides))]
-fn are_bytes(one: &[u8], other: &[u8]) -> bool
+pub fn are_bytes(one: &[u8], other: &[u8]) -> bool
     ensures { IsTrue result ↔ (one.now ≡ other.now) }
 {
     let mut left = one;

@@ -1,5 +1,5 @@
 //! What was packed, from the front of the bytes, and the bytes behind it.
-ghost use Rattle.std.specs.Prelude.{◌≡◌, ◌<◌, ◌≤◌, length};
+ghost use Rattle.std.specs.Prelude.{◌≡◌, ◌<◌, ◌≤◌, length, IfNone};
 ghost use Rattle.std.specs.Option.{option_map};
 ghost use Rattle.packed.specs.Reading.{byte_at, wide_at, number_at, count_at, text_at, stamp_from, stamp_at, key_from, tag_from, value_from, key_at, tag_at, value_at, writes_of, writes_from, writes_at, record_from, record_at};
 
@@ -199,4 +199,30 @@ pub fn read_record(bytes: &[u8]) -> Option<(Record, &[u8])>
     };
     let record = record_from(key, tag, value, stamp, writes)?;
     Some((record, rest))
+}
+
+/// Writes the record at the front into the caller's buffer, where a record lies, and answers the bytes behind it. Where no record is at
+/// the front, what lies there stays.
+#[tactic(auto, unfolding(crate::specs::Reading::record_at))]
+pub fn read_record_into<'a>(bytes: &'a [u8], place: &mut Record) -> Option<&'a [u8]>
+    ensures read { option_map (λ rest. (place.new, rest.now)) result ≡ record_at bytes.now }
+    ensures unread { IfNone result (place.new ≡ place.old) }
+{
+    let Some((key, rest)) = read_key(bytes) else {
+        return None;
+    };
+    let Some((tag, rest)) = read_tag(rest) else {
+        return None;
+    };
+    let Some((value, rest)) = read_value(rest) else {
+        return None;
+    };
+    let Some((stamp, rest)) = read_stamp(rest) else {
+        return None;
+    };
+    let Some((writes, rest)) = read_writes(rest) else {
+        return None;
+    };
+    *place = record_from(key, tag, value, stamp, writes)?;
+    Some(rest)
 }

@@ -1,6 +1,7 @@
 //! The store's calls and replies, acts and answers as few bytes: a byte for the form, and its parts.
 #![tactic(auto)]
 
+mod call_place;
 mod reading_acts;
 mod reading_answers;
 mod reading_calls;
@@ -11,6 +12,7 @@ mod writing_answers;
 mod writing_calls;
 mod writing_replies;
 
+pub use call_place::CallPlace;
 pub use reading_acts::{read_act, read_client, read_counter, read_item, read_keep};
 pub use reading_answers::{read_answer, read_reading, read_readings, read_refusal, read_rows};
 pub use reading_calls::read_call;

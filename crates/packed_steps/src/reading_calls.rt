@@ -83,7 +83,7 @@ fn discard_at(bytes: &[u8]) -> Option<(Call, &[u8])>
 
 // The parts of this form.
 #[tactic(auto, unfolding(crate::specs::PackedCalls::call_by))]
-fn call_by(form: u8, bytes: &[u8]) -> Option<(Call, &[u8])>
+pub(crate) fn call_by(form: u8, bytes: &[u8]) -> Option<(Call, &[u8])>
     ensures { option_map (λ p. (p.0, p.1.now)) result ≡ call_by form bytes.now }
 {
     match form {

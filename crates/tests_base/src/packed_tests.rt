@@ -1,7 +1,7 @@
 use packed::{Buffer, PackedList};
 use packed_steps::{
-    MAX_ANSWER_BYTES, MAX_CALL_BYTES, MAX_REPLY_BYTES, put_act, put_answer, put_call, put_reply,
-    read_act, read_answer, read_call, read_reply,
+    CallPlace, MAX_ANSWER_BYTES, MAX_CALL_BYTES, MAX_REPLY_BYTES, put_act, put_answer, put_call,
+    put_reply, read_act, read_answer, read_call, read_reply,
 };
 use plain_store::{
     Act, Answer, Call, DiscardReply, Found, Items, Keys, PrepareReply, ReadReply, Reading,
@@ -91,6 +91,7 @@ fn packed_replies(alloc: Global, replies: &[Reply]) -> Option<PackedList> {
 
 /// Whether the list has these calls at their places, and nothing else.
 fn are_calls(list: &PackedList, calls: &[Call]) -> bool {
+    let mut place = CallPlace::new();
     for (at, call) in calls.iter().enumerate() {
         if at >= list.len() {
             return false;
@@ -98,7 +99,11 @@ fn are_calls(list: &PackedList, calls: &[Call]) -> bool {
         let Some((again, rest)) = read_call(list.get(at)) else {
             return false;
         };
-        if again != *call || !rest.is_empty() {
+        let Some(behind) = place.read(list.get(at)) else {
+            return false;
+        };
+        let is_again = again == *call && *place.call() == *call;
+        if !is_again || !rest.is_empty() || !behind.is_empty() {
             return false;
         }
     }
