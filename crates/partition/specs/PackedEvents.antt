@@ -36,6 +36,26 @@ event_at bytes = do
   reply ← reply_at call.1
   event_from seat.0 number.0 call.0 reply.0
 
+-- the seat, the number and the call at the front of the bytes, and the bytes behind them
+unfoldable pub called_at : List ℕ → Option (ℕ × ℕ × Call × List ℕ)
+called_at bytes = do
+  seat ← number_at bytes
+  number ← number_at seat.1
+  call ← call_at number.1
+  Some (seat.0, number.0, call.0, call.1)
+
+abbrev pub reply_or : Reply → Option (Reply × List ℕ) → Reply
+reply_or other None = other
+reply_or other (Some read) = read.0
+
+-- the reply that the bytes are packed of; of other bytes, any
+abbrev pub reply_in : List ℕ → Reply
+reply_in bytes = reply_or (Committed 0) (reply_at bytes)
+
+-- the bytes are those of a reply, and nothing else
+abbrev pub IsPackedReply : List ℕ → Type 0
+IsPackedReply bytes = IsStoreReply (reply_in bytes) × (bytes ≡ packed_reply (reply_in bytes))
+
 -- the seat and the number at the front of the bytes
 abbrev pub caller_at : List ℕ → Option (ℕ × ℕ)
 caller_at bytes = do

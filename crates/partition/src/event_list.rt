@@ -5,12 +5,14 @@ ghost use Rattle.packed.specs.Laying.{PutsValue};
 ghost use Rattle.packed.specs.Reading.{number_at};
 ghost use Rattle.partition.specs.Events.{event, is_reply_to};
 ghost use Rattle.partition.specs.Accounts.{is_of_seat, is_of_collector};
-ghost use Rattle.partition.specs.PackedEvents.{packed_event, event_from, event_at, event_in, caller_at, caller_of, IsStoreEvent, IsPackedEvent};
+ghost use Rattle.partition.specs.PackedEvents.{packed_event, event_from, event_at, event_in, called_at, caller_at, caller_of, IsStoreEvent, IsPackedEvent};
 ghost use Rattle.partition.specs.Sizes.{max_event_bytes};
 
-use crate::Event;
+use crate::{Event, PackedReply};
 use packed::{Buffer, MAX_NUMBER_BYTES, PackEntry, PackedList, put_number, read_number};
-use packed_steps::{MAX_CALL_BYTES, MAX_REPLY_BYTES, put_call, put_reply, read_call, read_reply};
+use packed_steps::{
+    CallPlace, MAX_CALL_BYTES, MAX_REPLY_BYTES, put_call, put_reply, read_call, read_reply,
+};
 use plain_store::{Call, Reply};
 use std::alloc::{AllocError, Global};
 use std::marker::Model;
@@ -101,6 +103,16 @@ impl EventList {
         } else {
             None
         }
+    }
+
+    /// Writes the call of the event at a place, from 0, into the caller's buffer, and answers the rest of the event. The reply is not
+    /// unpacked.
+    pub fn call_into(&self, at: usize, call: &mut CallPlace) -> CalledEvent<'_>
+        requires { at < length self.now.items }
+        ensures { Some (event result.seat result.number call.new result.reply)
+            ≡ slice_get self.now.items at }
+    {
+        called_in(self.list.get(at), call)
     }
 
     /// The seat of the event at a place, from 0, of which nothing else is read.
@@ -210,6 +222,17 @@ impl EventList {
     }
 }
 
+/// What an event has beside its call.
+#[derive(Drop)]
+pub struct CalledEvent<'a> {
+    /// The seat that sent the call; 0 is the collector.
+    pub seat: u64,
+    /// Which of the seat's calls it was, from 1.
+    pub number: u64,
+    /// The reply, as it lies packed.
+    pub reply: PackedReply<'a>,
+}
+
 /// The parts of an event.
 #[derive(Drop)]
 struct EventParts<'a> {
@@ -276,6 +299,29 @@ fn unpacked(bytes: &[u8]) -> Event
     ensures { result ≡ event_in bytes.now }
 {
     event_at(bytes).unwrap()
+}
+
+#[tactic(auto, unfolding(crate::specs::PackedEvents::called_at))]
+fn called_at<'a>(bytes: &'a [u8], call: &mut CallPlace) -> Option<(u64, u64, &'a [u8])>
+    ensures { option_map (λ p. (p.0, p.1, call.new, p.2.now)) result ≡ called_at bytes.now }
+{
+    let (seat, rest) = read_number(bytes)?;
+    let (number, rest) = read_number(rest)?;
+    let rest = call.read(rest)?;
+    Some((seat, number, rest))
+}
+
+/// The event of these bytes, with its call in the caller's buffer.
+fn called_in<'a>(bytes: &'a [u8], call: &mut CallPlace) -> CalledEvent<'a>
+    requires { IsPackedEvent bytes.now }
+    ensures { event result.seat result.number call.new result.reply ≡ event_in bytes.now }
+{
+    let (seat, number, reply) = called_at(bytes, call).unwrap();
+    CalledEvent {
+        seat,
+        number,
+        reply: PackedReply { bytes: reply },
+    }
 }
 
 fn first_number(bytes: &[u8]) -> Option<u64>
