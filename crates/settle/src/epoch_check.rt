@@ -2,18 +2,23 @@
 ghost use Rattle.std.specs.Prelude.{◌≡◌, ◌≤◌, ◌↔◌, ◌++◌, ◌∷◌, [], List, IsSome, IfSome, IsSomeAnd, IfOk, IsTrue, nat_eq, reverse};
 ghost use Rattle.indexmap.specs.IndexMap.{get};
 ghost use Rattle.prepare_commit.specs.Bases.{Frozen, HasLog};
-ghost use Rattle.partition.specs.Events.{Event as Happened};
+ghost use Rattle.partition.specs.Events.{Event as Happened, event as happened};
 ghost use Rattle.partition.specs.Journals.{FollowsFrom, IsSoundFrom, IsEnd};
 ghost use Rattle.settle.specs.OneEpoch.{HasPlayed};
 
 use indexmap::IndexMap;
-use partition::{Epoch, Event};
-use plain_store::{OutOfMemory, Reply};
+use packed_steps::CallPlace;
+use partition::{CalledEvent, Epoch, ReplyRoom};
+use plain_store::{Call, OutOfMemory, Reply};
 use prepare_commit::{Base, Replica};
 use std::alloc::Global;
+use std::thread;
 
 /// The number of each seat's last event in an epoch.
 type CheckedNumbers = IndexMap<u64, u64>;
+
+/// After how many events other threads may run. These take a tenth of a millisecond, and what serves calls waits for no more.
+const STRETCH: usize = 256;
 
 /// The base at the end of an epoch, by a replay of its calls on a replica that is opened at its base: Some exactly where the
 /// epoch is sound. `epoch` is only read.
@@ -45,7 +50,7 @@ fn end_of(alloc: Global, replica: &mut Replica, epoch: &Epoch) -> Result<Option<
 /// Whether an epoch is sound that begins at the content of this replica. Where it is, the replica holds then what the epoch
 /// leads to. Where it is not, or an allocation failed, it holds what some of the calls left.
 ///
-/// It takes time for each event. Nothing is opened, compared or copied.
+/// It takes time for each event, and lets other threads run now and then. Nothing is opened, compared or copied.
 pub fn play_epoch(alloc: Global, replica: &mut Replica, epoch: &Epoch) -> Result<bool, OutOfMemory>
     requires { epoch.now.base ≡ replica.old }
     ensures exact { IfOk result (λ yes. IsTrue yes
@@ -55,40 +60,62 @@ pub fn play_epoch(alloc: Global, replica: &mut Replica, epoch: &Epoch) -> Result
 {
     let _log = epoch.base.slots();
     let mut lasts: CheckedNumbers = IndexMap::new(alloc);
+    let mut room = ReplyRoom::open(alloc)?;
+    let mut call = CallPlace::new();
     let mut reply = None;
     for at in 0..epoch.events.len() {
-        if !play_one(replica, &mut lasts, &epoch.events.event(at), &mut reply)? {
+        let_others_run(at);
+        let event = epoch.events.call_into(at, &mut call);
+        if !play_one(
+            replica,
+            &mut lasts,
+            &event,
+            call.call(),
+            &mut reply,
+            &mut room,
+        )? {
             return Ok(false);
         }
     }
     Ok(true)
 }
 
-/// Whether the replica gives an event's reply to its call, and the event's number is above the seat's last one.
+/// Lets other threads run behind each stretch of events.
+fn let_others_run(at: usize) {
+    if at % STRETCH == STRETCH - 1 {
+        thread::yield_now();
+    }
+}
+
+/// Whether the replica gives an event's reply to its call, and the event's number is above the seat's last one. The replica's reply
+/// is packed in the room, since the event's lies packed.
 fn play_one(
     replica: &mut Replica,
     lasts: &mut CheckedNumbers,
-    event: &Event,
+    event: &CalledEvent<'_>,
+    call: &Call,
     reply: &mut Option<Reply>,
+    room: &mut ReplyRoom,
 ) -> Result<bool, OutOfMemory>
     ensures yes { (base : Frozen) → (before : List Happened)
         → HasPlayed base before replica.old lasts.old
         → IfOk result (λ yes. IsTrue yes
-        → HasPlayed base (before ++ event.now ∷ []) replica.new lasts.new) }
+        → HasPlayed base (before ++ happened event.now.seat event.now.number call.now event.now.reply ∷ []) replica.new lasts.new) }
     ensures no { (base : Frozen) → (before : List Happened) → HasLog base
         → HasPlayed base before replica.old lasts.old
-        → IfOk result (λ yes. FollowsFrom base (reverse before) event.now → IsTrue yes) }
+        → IfOk result (λ yes. FollowsFrom base (reverse before)
+        (happened event.now.seat event.now.number call.now event.now.reply) → IsTrue yes) }
 {
-    if is_late(lasts, event.seat(), event.number()) {
+    if is_late(lasts, event.seat, event.number) {
         return Ok(false);
     }
     lasts.reserve(1)?;
-    replica.serve(&event.call(), reply);
+    replica.serve(call, reply);
     let told = reply.as_ref().unwrap();
-    if !event.has_reply(told) {
+    if !event.reply.is(told, room) {
         return Ok(false);
     }
-    let _ = lasts.insert(event.seat(), event.number());
+    let _ = lasts.insert(event.seat, event.number);
     Ok(true)
 }
 
