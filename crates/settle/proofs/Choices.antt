@@ -4,7 +4,6 @@ use Rattle.std.proofs.lemmas.Option.{slice_get_within}
 use Rattle.settle.specs.declared.next_step.Next.{Next}
 use Rattle.std.proofs.Common.{length, inl, inr, arith, ◌+◌, ◌≤◌, Bool, true, false, cond, nat_lt, ◌≡◌, ℕ, List, [], ◌∷◌, drop, slice_get, Some, None, Option, refl, sym, ap, ◌∙◌, subst}
 use Rattle.settle.specs.declared.next_step.Source.{Source}
-use Rattle.settle.specs.declared.next_step.Source.TheVariants.{Transcript as FromTranscript}
 use Rattle.closed_store.specs.declared.transcript.Transcript.{Transcript}
 use Rattle.entry_list.specs.declared.kinds.Entry.{Entry}
 use Rattle.entry_list.specs.declared.kinds.Entry.TheVariants.{Began, Took, Answered}
@@ -12,10 +11,10 @@ use Rattle.settle.specs.declared.progress.TranscriptState.{TranscriptState}
 use Rattle.settle.specs.declared.progress.TranscriptState.TheVariants.{Waiting, Open, Over}
 use Rattle.settle.specs.Words.{Act, Ready}
 use Rattle.settle.specs.Input.{Input, transcripts_in, events_of_partition, events_of_journal, journal_of_closed}
-use Rattle.settle.specs.Program.{Greets, Begins, Takes, Leaves, TranscriptItem, reply_taken, noted, items_of, program_of, at_place}
+use Rattle.settle.specs.Program.{Greets, Begins, Takes, Leaves, TranscriptItem, noted, items_of, program_of, at_place}
 use Rattle.settle.specs.Trace.{Origin, OfTranscript, OfJournal, Trace, times, replies_sent}
 use Rattle.settle.specs.Fronts.{IsTranscriptAt, IsNextItem, Gives, IsEventOf, MayTake, NoneIsFree}
-use Rattle.settle.specs.Standing.{origin_of, IsFound, rest_of, IsAt, Chooses, GivesNow, RepliesNow, NoneOfFirst, NoneBetween, IsChoice, IsChoiceOf, IsChoiceBetween}
+use Rattle.settle.specs.Standing.{origin_of, rest_of, IsAt, Chooses, GivesNow, RepliesNow, NoneOfFirst, NoneBetween, IsChoice, IsChoiceOf, IsChoiceBetween}
 use Rattle.settle.proofs.Words.{some_is}
 use Rattle.settle.proofs.Transcripts.{next-rest}
 
@@ -41,18 +40,11 @@ module _ (input : Input) (trace : Trace) (place : ℕ) (transcript : Transcript)
       let same_item : may.1 ≡ item = some_is may.1 item (sym may.3 ∙ ap (λ t. slice_get (program_of t) (times (OfTranscript place) trace)) same ∙ left_next item left) in
       subst (λ t. Gives input trace place t item.doing act) same (subst (λ (i : TranscriptItem). Gives input trace place may.0 i.doing act) same_item may.4)
 
-  -- it takes the reply that was found
-  found_here : (item : TranscriptItem) → slice_get (rest_of transcript stage) 0 ≡ Some item → IsFound input trace (FromTranscript place (reply_taken item.doing))
-  found_here item left other other_item also_its also_next =
-      let same : transcript ≡ other = some_is transcript other (sym its.0 ∙ also_its.0) in
-      let same_item : item ≡ other_item = some_is item other_item (sym (left_next item left) ∙ ap (λ t. slice_get (program_of t) (times (OfTranscript place) trace)) same ∙ also_next) in
-      ap (λ (i : TranscriptItem). reply_taken i.doing) same_item
-
   pub chooses_by : (item : TranscriptItem) → slice_get (rest_of transcript stage) 0 ≡ Some item → (o : Option Next) → GivesNow input trace place transcript item.doing o → Chooses input trace (OfTranscript place) o
   chooses_by item left None none = λ act may. none act (gives_same item left act may)
   chooses_by item left (Some next) gives =
-      let P : Source → Type 0 = λ s. MayTake input trace (origin_of s) next.act × IsFound input trace s in
-      subst P (sym gives.0) ((transcript, item, its, left_next item left, gives.1), found_here item left)
+      let P : Source → Type 0 = λ s. MayTake input trace (origin_of s) next.act in
+      subst P (sym gives.0) (transcript, item, its, left_next item left, gives.1)
 
   pub chooses_greeting : stage ≡ Waiting → (o : Option Next) → GivesNow input trace place transcript Greets o → Chooses input trace (OfTranscript place) o
   chooses_greeting is o gives =

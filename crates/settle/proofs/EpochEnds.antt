@@ -1,15 +1,14 @@
 -- What a replay shows of an epoch.
 use Rattle.std.proofs.Common.{◌≡◌, ℕ, ◌+◌, ◌<◌, ◌≤◌, List, [], ◌∷◌, ◌++◌, length, take, drop, get_or, cond, map, nat_eq, Option, Some, None, refl, sym, ap, ◌∙◌, subst, arith}
-use Rattle.std.specs.Prelude.{slice_get, reverse, IsSomeAnd, IfSome, IsTrue, Bool, true, false, Result, Ok, Err, IsOk, OnOk}
+use Rattle.std.specs.Prelude.{reverse, IsSomeAnd, IfSome, IsTrue, Bool, true, false, Result, Ok, Err, IsOk, OnOk}
 use Rattle.std.proofs.lemmas.List.{reverse-append, take-append-drop, take_all, take_more}
 use Rattle.plain_store.specs.Log.{Log}
 use Rattle.plain_store.specs.Replies.{reply_after}
 use Rattle.plain_store.specs.Words.{Room}
 use Rattle.indexmap.specs.IndexMap.{IndexMap, IsUnique, get}
-use Rattle.plain_store.specs.declared.calls.Call.{Call}
 use Rattle.plain_store.specs.declared.calls.Reply.{Reply}
 use Rattle.prepare_commit.specs.Bases.{Frozen, HasLog, Leaves}
-use Rattle.partition.specs.Events.{Event, event}
+use Rattle.partition.specs.Events.{Event}
 use Rattle.partition.specs.Journals.{FollowsFrom, EachFollowsFrom, IsSoundFrom, IsEnd, event_exchange, log_after, last_from, last_number}
 use Rattle.settle.specs.OneEpoch.{HasPlayed}
 

@@ -25,6 +25,10 @@ called_there (Some event) seat number is =
     let same : (seat, number) ≡ caller_of event = some_is (seat, number) (caller_of event) is in
     (event, refl, ap (λ (p : ℕ × ℕ). p.0) (sym same), ap (λ (p : ℕ × ℕ). p.1) (sym same))
 
+-- where nobody called, no event stands
+pub none_calls : (o : Option Event) (event : Event) → None ≡ option_map caller_of o → o ≡ Some event → ⊥
+none_calls o event none is = let bad : None ≡ Some (caller_of event) = none ∙ ap (option_map caller_of) is in cc
+
 -- where no event stands, none is that of a call
 pub no_caller : (events : List Event) (seat number place : ℕ) → None ≡ option_map caller_of (at_place events place) → IsEventOf events seat number place → ⊥
 no_caller events seat number place none is = let bad : None ≡ Some (caller_of is.event) = none ∙ ap (option_map caller_of) is.there in cc

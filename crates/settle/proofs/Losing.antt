@@ -5,14 +5,14 @@ use Rattle.std.specs.Option.{option_copied}
 use Rattle.std.specs.List.{list_any, filter_map}
 use Rattle.std.proofs.lemmas.List.Folds.{list_any-append}
 use Rattle.std.proofs.lemmas.Bool.{cases_Bool, eqb-true}
-use Rattle.stamps.specs.Limits.{max_keys, max_parts, max_rows}
+use Rattle.stamps.specs.Limits.{max_parts, max_rows}
 use Rattle.stamps.specs.Stamp.{stamp}
 use Rattle.plain_store.specs.Words.{Setup}
 use Rattle.settle.specs.Words.{Act, Hello, Put, GetAll, Find, Deliver, Lose, Retry, Stop, CollectAt, SetKeep, Collect, Message, Reply}
 use Rattle.settle.specs.Words.{Busy, ClientsFull, BadItems, StampsUsed, NoSession, IsStopped, RowsUsed, NoMessage}
-use Rattle.settle.specs.Words.{Refusal, Sent, Answer, Refused, Ready, PutBegun, GetBegun, FindBegun, Replied, Ignored, Wait, Decided, Ask, BeginsRead, Ended, Lost, Stopped, Freed, Rows}
+use Rattle.settle.specs.Words.{Refusal, Sent, Answer, Refused, Ready, PutBegun, GetBegun, FindBegun, Replied, Ignored, Decided, Ask, BeginsRead, Ended, Lost, Stopped, Freed, Rows}
 use Rattle.plain_store.specs.Replies.{reply_after}
-use Rattle.plain_store.specs.History.{Moment, moment, History, messages, row_lost, lost_rows, message_at, exchange_of, keep_after, keep_in, collection, log_at, session_after, session, is_new, is_open, is_closed, client_gained, clients_known, Intent, Writes, Gets, Finds, Transaction, begun_by, one_if_by, tickets, transaction_of, is_move, is_last, took, taken, is_of, taken_in, is_by, ends, running_after, running, counter_taken, counter_gained, counter, stamp_decided, decided}
+use Rattle.plain_store.specs.History.{Moment, moment, History, messages, row_lost, lost_rows, message_at, exchange_of, keep_after, collection, session_after, is_new, is_open, is_closed, client_gained, Intent, Writes, Gets, Finds, Transaction, begun_by, one_if_by, tickets, transaction_of, is_move, is_last, took, taken, taken_in, is_by, ends, running_after, running, counter_taken, counter_gained, counter, stamp_decided}
 use Rattle.plain_store.specs.Writing.{Outgoing, keys_written}
 use Rattle.plain_store.specs.Moves.{Move, Waits, Decides, Finishes, Asks, Begins, Reads, Lists, Restarts, Fails, move_of, calls_of, is_answered}
 use Rattle.plain_store.specs.Run.{◌⇒◌, counter_limit, are_bad, begin_tests, tests, after_tests, next_rows, call_message, sends, moves, takes, with_reply, delivers, delivers_row, is_decided, unanswered, resends, retries, count_freed, effect, moment_of, answer_to}

@@ -1,5 +1,5 @@
 -- What the store that takes the steps anew answers.
-use Rattle.std.proofs.Common.{◌≡◌, ◌+◌, suc, arith, ℕ, List, [], ◌∷◌, ◌++◌, Option, Some, None, refl, ap, ◌∙◌, map}
+use Rattle.std.proofs.Common.{◌≡◌, suc, arith, ℕ, List, [], ◌∷◌, ◌++◌, Option, Some, None, refl, ap, ◌∙◌, map}
 use Rattle.std.specs.Prelude.{All}
 use Rattle.plain_store.specs.Words.{Setup, IsAct}
 use Rattle.plain_store.specs.History.{History}

@@ -1,15 +1,20 @@
 -- What a transcript still gives, one item further.
-use Rattle.std.proofs.Common.{◌≡◌, ◌<◌, ◌+◌, ℕ, zero, suc, List, [], ◌∷◌, drop, get_or, length, slice_get, Some, None, refl, sym, ap, ◌∙◌, subst}
+use Rattle.std.proofs.Common.{◌≡◌, ◌⊎◌, inl, inr, ◌<◌, ◌+◌, ℕ, zero, suc, List, [], ◌∷◌, drop, get_or, length, slice_get, Option, Some, None, refl, sym, ap, ◌∙◌, subst}
 use Rattle.std.proofs.lemmas.List.{drop_more}
 use Rattle.entry_list.specs.declared.kinds.Entry.{Entry}
 use Rattle.entry_list.specs.declared.kinds.Entry.TheVariants.{Began, Took, Answered}
 use Rattle.closed_store.specs.declared.transcript.Transcript.{Transcript}
 use Rattle.settle.specs.declared.progress.TranscriptState.{TranscriptState}
-use Rattle.settle.specs.declared.progress.TranscriptState.TheVariants.{Waiting, Open}
+use Rattle.settle.specs.declared.progress.TranscriptState.TheVariants.{Waiting, Open, Over}
 use Rattle.settle.specs.Words.{Answer, Lose, Ready}
-use Rattle.settle.specs.Program.{TranscriptItem, Greets, Begins, Takes, doing_of, noted, items_of}
+use Rattle.settle.specs.Program.{TranscriptItem, Greets, Begins, Takes, Leaves, reply_taken, doing_of, noted, items_of}
 use Rattle.settle.specs.Standing.{AreAll, IsNoted, Advances, IsCompared, rest_of}
+use Rattle.std.specs.Prelude.{option_and_then}
+use Rattle.std.specs.Option.{option_map}
+use Rattle.entry_list.specs.declared.kinds.Taken.{Taken}
+use Rattle.entry_list.specs.PackedEntries.{taken_of}
 use Rattle.settle.proofs.Words.{some_is}
+use Rattle.settle.proofs.Transcripts.{next-rest}
 use Rattle.settle.proofs.Entries.{all_rest}
 
 -- the item that an entry begins, with what follows
@@ -21,6 +26,18 @@ follows : (entry : Entry) (rest : List Entry) (item : TranscriptItem) → noted 
 follows (Began act) rest item none at = record { noted = ap (λ (i : TranscriptItem). i.noted) (sym (some_is (record { doing = Begins act; noted = noted rest }) item at)); after = refl }
 follows (Took number partition place reply) rest item none at = record { noted = ap (λ (i : TranscriptItem). i.noted) (sym (some_is (record { doing = Takes number partition place reply; noted = noted rest }) item at)); after = refl }
 follows (Answered answer) rest item none at = absurd (let bad : answer ∷ noted rest ≡ [] = none in cc)
+
+-- the reply that was taken at a place is that of the item there
+pub reply_there : (entries : List Entry) (read : ℕ) (item : TranscriptItem) (found : Option Taken) → found ≡ option_and_then taken_of (slice_get entries read) → noted (drop read entries) ≡ [] → slice_get (items_of (drop read entries)) 0 ≡ Some item
+    → option_map (λ (t : Taken). t.reply) found ≡ reply_taken item.doing
+reply_there entries read item found is none at =
+    ap (λ o. option_map (λ (t : Taken). t.reply) o) (is ∙ ap (option_and_then taken_of) (next-rest entries read)) ∙ go (drop read entries) none at
+  where
+    go : (rest : List Entry) → noted rest ≡ [] → slice_get (items_of rest) 0 ≡ Some item → option_map (λ (t : Taken). t.reply) (option_and_then taken_of (slice_get rest 0)) ≡ reply_taken item.doing
+    go [] empty first = ap (λ (i : TranscriptItem). reply_taken i.doing) (some_is (record { doing = Leaves; noted = [] }) item first)
+    go (Began act ∷ later) empty first = ap (λ (i : TranscriptItem). reply_taken i.doing) (some_is (record { doing = Begins act; noted = noted later }) item first)
+    go (Took number partition place reply ∷ later) empty first = ap (λ (i : TranscriptItem). reply_taken i.doing) (some_is (record { doing = Takes number partition place reply; noted = noted later }) item first)
+    go (Answered answer ∷ later) empty first = absurd (let bad : answer ∷ noted later ≡ [] = empty in cc)
 
 -- ---- one item further
 
@@ -71,3 +88,9 @@ pub does : (entries : List Entry) (read : ℕ) (entry : Entry) (item : Transcrip
 does [] read entry item at none next = absurd (let bad : None ≡ Some entry = at in cc)
 does (first ∷ entries) zero entry item at none next = ap doing_of (sym (some_is first entry at)) ∙ first_does first entries item none next
 does (first ∷ entries) (suc read) entry item at none next = does entries read entry item at none next
+
+-- a transcript of which nothing was taken greets, and one of which all was taken gives nothing
+pub no_reply_first : (transcript : Transcript) (stage : TranscriptState) (item : TranscriptItem) → (stage ≡ Waiting) ⊎ (stage ≡ Over) → slice_get (rest_of transcript stage) 0 ≡ Some item → None ≡ reply_taken item.doing
+no_reply_first transcript stage item (inl is) at =
+    ap (λ (i : TranscriptItem). reply_taken i.doing) (some_is (record { doing = Greets; noted = Ready transcript.counter ∷ noted transcript.entries.items }) item (ap (λ s. slice_get (rest_of transcript s) 0) (sym is) ∙ at))
+no_reply_first transcript stage item (inr is) at = absurd (let bad : None ≡ Some item = ap (λ s. slice_get (rest_of transcript s) 0) (sym is) ∙ at in cc)

@@ -16,7 +16,7 @@ use Rattle.settle.specs.Program.{TranscriptItem, reply_taken, program_of}
 use Rattle.settle.specs.Trace.{OfTranscript, TracedStep, Trace, told_next, after, is_origin, times, is_seat, is_seats_step, rows_sent, call_rows, replies_sent}
 use Rattle.settle.specs.Fronts.{IsTranscriptAt, IsNextItem, MayTake, AgreesAt, AgreesWithItem, reply_delivered, Delivers}
 use Rattle.settle.specs.Replaying.{Replays}
-use Rattle.settle.specs.Standing.{rest_of, IsAt, Advances, AreAll, NoneOfSeat, IsSlot, IsPushed, IsNotedOf}
+use Rattle.settle.specs.Standing.{rest_of, IsCompared, IsNextReply, IsAt, Advances, AreAll, NoneOfSeat, IsSlot, IsPushed, IsNotedOf}
 use Rattle.settle.proofs.Words.{some_is, none_some}
 
 -- what is next is the first of what is left
@@ -42,6 +42,17 @@ delivers_none history act reply taken took delivers =
       λ no. let bad : false ≡ true = no in cc,
       λ is. absurd (none_some (reply_delivered history act) (sym delivers) taken is),
     )
+
+-- the reply that the session's stage gives next is the one that it takes next
+pub next_reply : (input : Input) (trace : Trace) (place : ℕ) (session : Transcript) (stage : TranscriptState) (reply : Option Reply) → slice_get (transcripts_in input) place ≡ Some session
+    → ((transcript : Transcript) → IsTranscriptAt input place transcript → IsAt trace place transcript stage)
+    → ((item : TranscriptItem) → IsCompared session stage → slice_get (rest_of session stage) 0 ≡ Some item → reply ≡ reply_taken item.doing) → IsNextReply input trace place reply
+next_reply input trace place session stage reply at stands tells transcript item its next =
+    let same : session ≡ transcript = some_is session transcript (sym at ∙ its.0) in
+    let is_at : IsAt trace place session stage = subst (λ t. IsAt trace place t stage) (sym same) (stands transcript its) in
+    tells item is_at.compared
+    (ap (λ xs. slice_get xs 0) (sym is_at.rest) ∙ sym (next-rest (program_of session) (times (OfTranscript place) trace))
+    ∙ ap (λ t. slice_get (program_of t) (times (OfTranscript place) trace)) same ∙ next)
 
 -- two places of the same seat's first transcript are one
 pub one_slot : (transcripts : List Transcript) (tenant seat a b : ℕ) → IsSlot transcripts tenant seat a → IsSlot transcripts tenant seat b → a ≡ b

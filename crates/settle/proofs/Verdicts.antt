@@ -10,13 +10,13 @@ use Rattle.settle.specs.declared.progress.Progress.{Progress}
 use Rattle.settle.specs.Input.{Input, input_of}
 use Rattle.settle.specs.Trace.{Origin, Trace}
 use Rattle.settle.specs.Fronts.{NoneIsFree, TakesAll, IsFront, MayTake, IsUnsentAt}
-use Rattle.settle.specs.Standing.{HasTakenSteps, FaultsAt, IsChoice, origin_of, IsFound, IsNextStep}
+use Rattle.settle.specs.Standing.{HasTakenSteps, FaultsAt, IsChoice, origin_of, IsNextStep}
 use Rattle.std.specs.Prelude.{All}
 use Rattle.settle.specs.Trace.{acts_of}
 use Rattle.settle.specs.Replaying.{steps_of}
 use Rattle.settle.proofs.Logged.{IsValid, renumbered, logs_are_journals}
 use Rattle.settle.proofs.Placed.{is_program_of, journal_of}
-use Rattle.settle.specs.Verdict.{Settles, HasJournals, IsStuck, IsUnsent, IsFaulty, ended_by, ComesTo}
+use Rattle.settle.specs.Verdict.{Settles, HasJournals, IsStuck, IsUnsent, ended_by, ComesTo}
 
 pub settled : (input : Input) (trace : Trace) (progress : Progress) → HasJournals input.closed input.tenant input.limits → HasTakenSteps input trace progress → TakesAll input trace → Settles input progress.steps.items
 settled input trace progress journals stands whole =
@@ -48,13 +48,13 @@ come_to closed tenant limits trace origin act loses OutOfMemory front may faults
 
 pub comes_to : (closed : Closed) (tenant : ℕ) (limits own : Limits) (trace : Trace) (progress : Progress) (loses : Bool) (chosen : Option Next) (next : Next) (fault : StepFault) → own ≡ limits → progress.replay.loses ≡ loses
     → HasTakenSteps (input_of closed tenant own) trace progress → IsChoice (input_of closed tenant own) trace chosen → chosen ≡ Some next
-    → (MayTake (input_of closed tenant own) trace (origin_of next.source) next.act → IsFound (input_of closed tenant own) trace next.source → FaultsAt (input_of closed tenant own) trace (origin_of next.source) next.act progress.replay.loses fault)
+    → (MayTake (input_of closed tenant own) trace (origin_of next.source) next.act → FaultsAt (input_of closed tenant own) trace (origin_of next.source) next.act progress.replay.loses fault)
     → ComesTo closed tenant limits loses (ended_by fault)
 comes_to closed tenant limits own trace progress loses chosen next fault same mode stands choice is faults =
     let next_step : IsNextStep (input_of closed tenant own) trace next = subst (IsChoice (input_of closed tenant own) trace) is choice in
     subst (λ b. ComesTo closed tenant limits b (ended_by fault)) mode
     (subst (λ l. ComesTo closed tenant l progress.replay.loses (ended_by fault)) same
-    (come_to closed tenant own trace (origin_of next.source) next.act progress.replay.loses fault stands.front next_step.0 (faults next_step.0 next_step.1)))
+    (come_to closed tenant own trace (origin_of next.source) next.act progress.replay.loses fault stands.front next_step (faults next_step)))
 
 pub unsent : (input : Input) (trace : Trace) (progress : Progress) (partition : ℕ) → HasTakenSteps input trace progress → NoneIsFree input trace → IsUnsentAt input trace partition → IsUnsent input
 unsent input trace progress partition stands none at = record { trace = trace; front = stands.front; none = none; partition = partition; unsent = at }

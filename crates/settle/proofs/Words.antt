@@ -2,7 +2,9 @@
 use Rattle.std.proofs.Common.{subst, MatchResult}
 use Rattle.settle.specs.declared.step_fault.StepFault.{StepFault}
 use Rattle.settle.specs.declared.step_fault.StepFault.TheVariants.{OutOfMemory}
-use Rattle.settle.specs.Words.{Act}
+use Rattle.plain_store.specs.declared.out_of_memory.OutOfMemory.{OutOfMemory as NoMemory}
+use Rattle.world.specs.Standing.{answered_in_place}
+use Rattle.settle.specs.Words.{Act, Answer}
 use Rattle.settle.specs.Input.{Input}
 use Rattle.settle.specs.Trace.{Origin, Trace}
 use Rattle.settle.specs.Standing.{FaultsAt}
@@ -30,6 +32,15 @@ on_ok_both (Err e) f g h = tt
 pub on_ok_always : {A E : Type 0} (r : Result A E) {P : Type 0} → P → OnOk r P
 on_ok_always (Ok x) h = h
 on_ok_always (Err e) h = tt
+
+-- what an answer in place is
+pub in_place : (r : Result (Unit {0}) NoMemory) (a : Answer) (P : Answer → Type 0) → IfOk (answered_in_place r a) P → OnOk r (P a)
+in_place (Ok x) a P h = h
+in_place (Err e) a P h = tt
+
+pub on_in_place : (r : Result (Unit {0}) NoMemory) (a : Answer) (P : Type 0) → OnOk (answered_in_place r a) P → OnOk r P
+on_in_place (Ok x) a P h = h
+on_in_place (Err e) a P h = tt
 
 pub some_is : {X : Type 0} (x y : X) → Some x ≡ Some y → x ≡ y
 some_is x y e = cc

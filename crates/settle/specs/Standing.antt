@@ -21,7 +21,7 @@ use Rattle.settle.specs.Input.{Input, input_of, transcripts_in, events_of_partit
 use Rattle.settle.specs.Program.{TranscriptItem, Doing, reply_taken, noted, items_of, program_of}
 use Rattle.settle.specs.Trace.{Origin, OfTranscript, OfJournal, at_seat, Trace, after, ready, acts_of, acts_before}
 use Rattle.settle.specs.Trace.{times, call_rows, replies_sent}
-use Rattle.settle.specs.Fronts.{IsTranscriptAt, IsNextItem, IsNextEvent, IsReplyRow, IsOver, Gives, NoneIsFree}
+use Rattle.settle.specs.Fronts.{IsTranscriptAt, IsNextItem, IsReplyRow, IsOver, Gives, NoneIsFree}
 use Rattle.settle.specs.Fronts.{MayTake, AgreesAt}
 use Rattle.settle.specs.Fronts.{IsFront, AllAgree}
 use Rattle.settle.specs.Replaying.{step_of, Plays}
@@ -177,19 +177,18 @@ reply_told answer = None
 
 -- where a step is found
 abbrev pub origin_of : Source → Origin
-origin_of (FromTranscript place reply) = OfTranscript place
-origin_of (FromJournal partition event) = OfJournal partition
+origin_of (FromTranscript place) = OfTranscript place
+origin_of (FromJournal partition seat) = OfJournal partition
 
--- what was found is what the transcript or the journal gives next: the reply that is taken, if one is, or the event
-abbrev pub IsFound : Input → Trace → Source → Type 0
-IsFound input trace (FromTranscript place reply) =
+-- the reply is the one that the transcript takes next, if it takes one
+abbrev pub IsNextReply : Input → Trace → ℕ → Option Reply → Type 0
+IsNextReply input trace place reply =
     (transcript : Transcript) (item : TranscriptItem) → IsTranscriptAt input place transcript
     → IsNextItem trace place transcript item → reply ≡ reply_taken item.doing
-IsFound input trace (FromJournal partition event) = IsNextEvent input trace partition event
 
--- the step may be taken next, and was found where it is
+-- the step may be taken next
 abbrev pub IsNextStep : Input → Trace → Next → Type 0
-IsNextStep input trace next = MayTake input trace (origin_of next.source) next.act × IsFound input trace next.source
+IsNextStep input trace next = MayTake input trace (origin_of next.source) next.act
 
 -- the step may be taken next; none where nothing of this origin may
 abbrev pub Chooses : Input → Trace → Origin → Option Next → Type 0
@@ -200,7 +199,7 @@ Chooses input trace origin (Some next) = IsNextStep input trace next
 abbrev pub GivesNow : Input → Trace → ℕ → Transcript → Doing → Option Next → Type 0
 GivesNow input trace place transcript doing None = (act : Act) → Gives input trace place transcript doing act → ⊥
 GivesNow input trace place transcript doing (Some next) =
-    (next.source ≡ FromTranscript place (reply_taken doing)) × Gives input trace place transcript doing next.act
+    (next.source ≡ FromTranscript place) × Gives input trace place transcript doing next.act
 
 -- the row is that of the reply to a seat's call of a number; none where it has not come
 abbrev pub RepliesNow : Input → Trace → (seat number partition place : ℕ) → Option ℕ → Type 0
@@ -275,29 +274,30 @@ FaultsAt input trace origin act loses Mismatch = AgreesAt input trace origin act
 FaultsAt input trace origin act loses Lost = loses ≡ true
 FaultsAt input trace origin act loses OutOfMemory = Unit {0}
 
--- Whatever steps progress noted, the Keep step before this one among them, it notes one that may be taken next and was
--- found there, or says why it can't.
-abbrev pub NotesOne : Input → Source → Act → Progress → Progress → Result (Unit {0}) StepFault → Type 0
-NotesOne input source act old new result =
-    (trace : Trace) → IsNotedReady input trace (origin_of source) old → MayTake input trace (origin_of source) act
-    → IsFound input trace source
+-- Whatever steps progress noted, the Keep step before this one among them, it notes one that may be taken next, with
+-- what is next of its origin, or says why it can't.
+abbrev pub NotesOne : Input → Origin → Act → (Trace → Type 0) → Progress → Progress → Result (Unit {0}) StepFault → Type 0
+NotesOne input origin act IsNext old new result =
+    (trace : Trace) → IsNotedReady input trace origin old → MayTake input trace origin act → IsNext trace
     → MatchResult result
-    (λ _. IsNotedOf input (record { origin = origin_of source; act = act } ∷ trace) new
-    × AgreesAt input trace (origin_of source) act)
-    (FaultsAt input trace (origin_of source) act old.replay.loses)
+    (λ _. IsNotedOf input (record { origin = origin; act = act } ∷ trace) new × AgreesAt input trace origin act)
+    (FaultsAt input trace origin act old.replay.loses)
 
--- whatever steps progress stands for, it takes one that may be taken next and was found there, or says why it can't
-abbrev pub TakesOne : Input → Source → Act → Progress → Progress → Result (Unit {0}) StepFault → Type 0
-TakesOne input source act old new result =
-    (trace : Trace) → HasTakenSteps input trace old → MayTake input trace (origin_of source) act
-    → IsFound input trace source
-    → MatchResult result (λ _. HasTakenSteps input (record { origin = origin_of source; act = act } ∷ trace) new)
-    (FaultsAt input trace (origin_of source) act old.replay.loses)
+-- if progress stands for these steps, it takes one that may be taken next, or says why it can't
+abbrev pub TakesOneAfter : Input → Trace → Origin → Act → Progress → Progress → Result (Unit {0}) StepFault → Type 0
+TakesOneAfter input trace origin act old new result =
+    HasTakenSteps input trace old → MayTake input trace origin act
+    → MatchResult result (λ _. HasTakenSteps input (record { origin = origin; act = act } ∷ trace) new)
+    (FaultsAt input trace origin act old.replay.loses)
+
+-- whatever steps progress stands for, it does so
+abbrev pub TakesOne : Input → Origin → Act → Progress → Progress → Result (Unit {0}) StepFault → Type 0
+TakesOne input origin act old new result = (trace : Trace) → TakesOneAfter input trace origin act old new result
 
 -- it takes such a step, the lists are as many as before, the limits are the same, and messages are lost or kept as before
 pub record TakesStep (closed : Closed) (tenant : ℕ) (source : Source) (act : Act) (old new : Progress)
     (result : Result (Unit {0}) StepFault) : Type 0 where
-  pub takes : TakesOne (input_of closed tenant old.replay.limits) source act old new result
+  pub takes : TakesOne (input_of closed tenant old.replay.limits) (origin_of source) act old new result
   pub sized : IsSized closed new
   pub limits : new.replay.limits ≡ old.replay.limits
   pub loses : new.replay.loses ≡ old.replay.loses

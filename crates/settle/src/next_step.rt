@@ -3,10 +3,10 @@ ghost use Rattle.std.specs.Prelude.{false, ◌≡◌, ◌↔◌, ◌<◌, ◌≤
 ghost use Rattle.settle.specs.Input.{Input, input_of, transcripts_in};
 ghost use Rattle.settle.specs.Program.{Doing, TranscriptItem, Greets, Begins, Takes, at_place, doing_of};
 ghost use Rattle.settle.specs.Trace.{OfTranscript, OfJournal, Trace, call_rows};
-ghost use Rattle.settle.specs.Fronts.{ComesBefore, IsTranscriptAt, MayTake};
-ghost use Rattle.settle.specs.Words.{Act as Acted};
+ghost use Rattle.settle.specs.Fronts.{ComesBefore, IsTranscriptAt};
+ghost use Rattle.settle.specs.Words.{Reply as Replied};
 ghost use Rattle.settle.specs.Sessions.{IsSessionOrder, IsSessionOver, BelongTo};
-ghost use Rattle.settle.specs.Standing.{AfterItsSteps, AfterNoted, IsSized, IsNotedOf, HasTakenSteps, Chooses, GivesNow, RepliesNow, IsChosen, IsChoice, IsChoiceOf, IsChoiceBetween, MayBeNext, IsWithinNext, IsCompared, rest_of};
+ghost use Rattle.settle.specs.Standing.{AfterNoted, IsSized, IsNotedOf, HasTakenSteps, Chooses, GivesNow, RepliesNow, IsChosen, IsChoice, IsChoiceOf, IsChoiceBetween, MayBeNext, IsWithinNext, IsCompared, rest_of};
 ghost use Rattle.settle.specs.declared.progress.TranscriptState.TheVariants.{Open, Over as IsOverStage};
 ghost use Rattle.closed_store.specs.declared.closed.Closed.{Closed as Left};
 ghost use Rattle.closed_store.specs.declared.transcript.Transcript.{Transcript as Noted};
@@ -16,17 +16,16 @@ use crate::progress::{Progress, TranscriptState};
 use crate::search_order::SearchOrder;
 use crate::session_order::SessionOrder;
 use closed_store::{Closed, Entry, Transcript};
-use partition::Event;
-use plain_store::{Act, OutOfMemory, Reply};
+use plain_store::{Act, OutOfMemory};
 use std::alloc::Global;
 
-/// Where a step was found, and what the store must agree with there.
+/// Where a step was found.
 #[derive(Clone, Copy)]
 pub enum Source {
-    /// The transcript at this place, and the reply that it takes, if it takes one.
-    Transcript(usize, Option<Reply>),
-    /// The journal of this partition, and its event.
-    Journal(usize, Event),
+    /// The transcript at this place.
+    Transcript(usize),
+    /// The journal of this partition, and the seat of its event.
+    Journal(usize, u64),
 }
 
 /// A step that may come next.
@@ -187,7 +186,7 @@ impl Progress {
             return None;
         }
         Some(Next {
-            source: Source::Transcript(place, None),
+            source: Source::Transcript(place),
             act: Act::Hello(transcript.client, transcript.base),
         })
     }
@@ -226,7 +225,7 @@ impl Progress {
     {
         if read >= transcript.entries.len() {
             return Ok(Some(Next {
-                source: Source::Transcript(place, None),
+                source: Source::Transcript(place),
                 act: Act::Stop(transcript.client),
             }));
         }
@@ -257,7 +256,7 @@ impl Progress {
                 number,
                 partition,
                 place: event_place,
-                reply,
+                reply: _,
             } => {
                 let row = self.reply_row(
                     closed,
@@ -267,7 +266,7 @@ impl Progress {
                     partition,
                     event_place,
                 );
-                delivery(place, row, reply)
+                delivery(place, row)
             }
             Entry::Answered(_) => None,
         }
@@ -296,7 +295,7 @@ impl Progress {
         at_place(self.replies[partition as usize].as_slice(), place)
     }
 
-    /// The step that a journal gives next, if it may come now.
+    /// The step that a journal gives next, if it may come now, as the event's seat and number tell alone.
     fn next_of_journal(
         &self,
         closed: &Closed,
@@ -309,41 +308,19 @@ impl Progress {
         ensures { IsChosen closed.now tenant self.now
             (λ input trace next. Chooses input trace (OfJournal partition) next) result }
     {
-        if self.is_early(closed, tenant, places, partition) {
-            return None;
-        }
-        let Some(event) = self.next_event(closed, tenant, partition as usize) else {
+        let Some((seat, number)) = self.next_caller(closed, tenant, partition as usize) else {
             return None;
         };
-        let source = Source::Journal(partition as usize, event);
-        if event.seat() == 0 {
+        let source = Source::Journal(partition as usize, seat);
+        if seat == 0 {
             let act = Act::Collect(partition);
             return Some(Next { source, act });
         }
-        let Some(row) = self.row_sent(places, event.seat(), event.number()) else {
+        let Some(row) = self.row_sent(places, seat, number) else {
             return None;
         };
         let act = Act::Deliver(row);
         Some(Next { source, act })
-    }
-
-    /// Whether the call of a journal's next event was not sent yet, as the event's seat and number tell alone.
-    fn is_early(&self, closed: &Closed, tenant: u32, places: &SessionOrder, partition: u32) -> bool
-        requires given { BelongTo closed.now tenant self.now places.now }
-        requires partition { partition < closed.now.config.parts }
-        ensures { AfterItsSteps closed.now tenant self.now (λ input trace. IsTrue result
-            → (act : Acted) → MayTake input trace (OfJournal partition) act → ⊥) }
-    {
-        let Some((seat, number)) = self.next_caller(closed, tenant, partition as usize) else {
-            return false;
-        };
-        if seat == 0 {
-            return false;
-        }
-        match self.row_sent(places, seat, number) {
-            Some(_row) => false,
-            None => true,
-        }
     }
 
     /// The row of the call that a seat sent under a number.
@@ -373,14 +350,14 @@ fn request(place: usize, transcript: &Transcript, act: Act) -> Option<Next>
     if !is_request(transcript.client, &act) {
         return None;
     }
-    let source = Source::Transcript(place, None);
+    let source = Source::Transcript(place);
     Some(Next { source, act })
 }
 
-/// The delivery of the row with the reply that the transcript at a place took; none where it has not come.
-fn delivery(place: usize, row: Option<u64>, reply: Reply) -> Option<Next>
+/// The delivery of the row of a reply that the transcript at a place took; none where it has not come.
+fn delivery(place: usize, row: Option<u64>) -> Option<Next>
     ensures gives { (input : Input) (trace : Trace) (transcript : Noted) (number : ℕ)
-        (partition : ℕ) (event_place : ℕ)
+        (partition : ℕ) (event_place : ℕ) (reply : Replied)
         → RepliesNow input trace transcript.seat number partition event_place row
         → GivesNow input trace place transcript (Takes number partition event_place reply) result }
     ensures within { (closed : Left) → place < length closed.transcripts.items
@@ -388,7 +365,7 @@ fn delivery(place: usize, row: Option<u64>, reply: Reply) -> Option<Next>
 {
     let row = row?;
     Some(Next {
-        source: Source::Transcript(place, Some(reply)),
+        source: Source::Transcript(place),
         act: Act::Deliver(row),
     })
 }

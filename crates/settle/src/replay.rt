@@ -26,6 +26,8 @@ pub struct Replay {
     /// Whether a message is lost as soon as it was delivered. Then memory goes by the messages that are in flight.
     pub loses: bool,
     pub world: World,
+    // Where the store answers that it lost a message, which nobody reads.
+    lost: Answer,
 }
 
 impl Replay {
@@ -46,18 +48,19 @@ impl Replay {
             limits: *limits,
             loses,
             world: World::open(alloc, parts, &[*limits])?,
+            lost: Answer::Ignored,
         })
     }
 
     /// Takes a step of its tenant, which has the number 0, and loses the message that was delivered, unless it keeps all. The
-    /// plain store's answer is that of one that lost nothing.
-    pub fn step(&mut self, step: &Step) -> Result<Answer, OutOfMemory>
+    /// answer, which is written into the caller's buffer, is that of a plain store that lost nothing. Where an allocation
+    /// failed, what is left there reports nothing.
+    pub fn step_into(&mut self, step: &Step, answer: &mut Answer) -> Result<(), OutOfMemory>
         requires { step.now.tenant ≡ 0 }
-        ensures answer { IfOk result
-            (λ answer. (input : Input) (acts : List Acted) (history : History)
+        ensures answer { OnOk result ((input : Input) (acts : List Acted) (history : History)
             (plays : Plays input acts history self.old)
             → StillHas plays.own history step.now.act
-            → answer ≡ answer_to (setup_for input) history step.now.act) }
+            → answer.new ≡ answer_to (setup_for input) history step.now.act) }
         ensures stands { OnOk result ((input : Input) (acts : List Acted) (history : History)
             (plays : Plays input acts history self.old)
             → StillHas plays.own history step.now.act
@@ -67,19 +70,17 @@ impl Replay {
         ensures loses { self.new.loses ≡ self.old.loses }
     {
         let _named = no_reply();
-        let answer = self.take(step)?;
-        self.lose_delivered(&step.act)?;
-        Ok(answer)
+        self.take_into(step, answer)?;
+        self.lose_delivered(&step.act)
     }
 
     /// Takes a step of its tenant.
-    fn take(&mut self, step: &Step) -> Result<Answer, OutOfMemory>
+    fn take_into(&mut self, step: &Step, answer: &mut Answer) -> Result<(), OutOfMemory>
         requires { step.now.tenant ≡ 0 }
-        ensures answer { IfOk result
-            (λ answer. (input : Input) (acts : List Acted) (history : History)
+        ensures answer { OnOk result ((input : Input) (acts : List Acted) (history : History)
             (plays : Plays input acts history self.old)
             → StillHas plays.own history step.now.act
-            → answer ≡ answer_to (setup_for input) history step.now.act) }
+            → answer.new ≡ answer_to (setup_for input) history step.now.act) }
         ensures stands { OnOk result ((input : Input) (acts : List Acted) (history : History)
             (plays : Plays input acts history self.old)
             → StillHas plays.own history step.now.act
@@ -88,7 +89,7 @@ impl Replay {
         ensures limits { self.new.limits ≡ self.old.limits }
         ensures loses { self.new.loses ≡ self.old.loses }
     {
-        self.world.step(step)
+        self.world.step_into(step, answer)
     }
 
     /// Loses the message that an act delivered which was taken last, unless all are kept. What was taken stays the same.
@@ -119,11 +120,11 @@ impl Replay {
         ensures loses { self.new.loses ≡ self.old.loses }
     {
         let _named = no_reply();
-        let _answer = self.world.step(&Step {
+        let step = Step {
             tenant: 0,
             act: Act::Lose(row),
-        })?;
-        Ok(())
+        };
+        self.world.step_into(&step, &mut self.lost)
     }
 
     /// Whether the message of which an act is may have been lost. Such a step is not one to take here.

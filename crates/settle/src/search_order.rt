@@ -22,12 +22,12 @@ impl SearchOrder {
     /// The search for the step after one of this origin, which was taken.
     pub fn after(self, progress: &Progress, places: &SessionOrder, source: &Source) -> SearchOrder {
         match source {
-            Source::Transcript(place, _) => SearchOrder {
+            Source::Transcript(place) => SearchOrder {
                 first: progress.goes_on(places, *place),
                 fresh: self.fresh_after(*place),
             },
-            Source::Journal(_, event) => SearchOrder {
-                first: places.slot_of(event.seat()).unwrap_or(self.first),
+            Source::Journal(_, seat) => SearchOrder {
+                first: places.slot_of(*seat).unwrap_or(self.first),
                 fresh: self.fresh,
             },
         }

@@ -3,15 +3,15 @@ ghost use Rattle.std.specs.Prelude.{IsTrue, ◌≡◌, ◌≢◌, ◌↔◌, ◌
 ghost use Rattle.plain_store.specs.History.{History};
 ghost use Rattle.settle.specs.Input.{Input, setup_for, input_of};
 ghost use Rattle.settle.specs.Words.{Act as Acted, SetKeep};
-ghost use Rattle.settle.specs.Program.{TranscriptItem, noted};
+ghost use Rattle.settle.specs.Program.{TranscriptItem, noted, items_of, reply_taken};
 ghost use Rattle.settle.specs.Trace.{at_seat, Trace, after, with_act, keep_before, keep_told, rows_sent, row_replied, numbers};
 ghost use Rattle.settle.specs.Fronts.{IsNextEvent, Delivers};
-ghost use Rattle.settle.specs.Standing.{rest_of, IsCompared, AreAll, IsNoted, Advances, reply_told, origin_of, IsNotedOf, IsReady, HasTakenSteps, NotesOne, TakesOne, TakesStep, KeepsSize, DoneOrNoMemory, IsWithin, IsPushed};
+ghost use Rattle.settle.specs.Standing.{rest_of, IsCompared, AreAll, IsNoted, Advances, reply_told, origin_of, IsNotedOf, IsReady, HasTakenSteps, IsNextReply, IsSized, NotesOne, TakesOneAfter, TakesOne, TakesStep, KeepsSize, DoneOrNoMemory, IsWithin, IsPushed};
 ghost use Rattle.settle.specs.Sessions.{BelongTo};
 ghost use Rattle.settle.specs.Losing.{StillHas};
 ghost use Rattle.settle.specs.Replaying.{Plays, Replays, step_of};
-ghost use Rattle.settle.specs.declared.next_step.Source.TheVariants.{Transcript as FromTranscript, Journal as FromJournal};
-ghost use Rattle.settle.specs.Trace.{OfJournal};
+ghost use Rattle.settle.specs.declared.next_step.Source.TheVariants.{Transcript as FromTranscript};
+ghost use Rattle.settle.specs.Trace.{OfTranscript, OfJournal};
 
 use crate::next_step::{Next, Source};
 use crate::progress::{Progress, TranscriptState};
@@ -38,40 +38,61 @@ impl Progress {
     {
         let Next { source, act } = next;
         match source {
-            Source::Transcript(place, reply) => self.take_of_transcript(
-                closed, tenant, places, place, &reply, act,
+            Source::Transcript(place) => self.take_of_transcript(
+                closed, tenant, places, place, act,
             ),
-            Source::Journal(partition, event) => self.take_of_journal(
-                tenant, partition, &event, act,
+            Source::Journal(partition, _seat) => self.take_of_journal(
+                closed, tenant, partition, act,
             ),
         }
     }
 
-    /// Takes a step that the transcript at a place gives, with the reply that it takes there.
+    /// Takes a step that the transcript at a place gives.
     fn take_of_transcript(
         &mut self,
         closed: &Closed,
         tenant: u32,
         places: &SessionOrder,
         place: usize,
-        reply: &Option<Reply>,
         act: Act,
     ) -> Result<(), StepFault>
         requires given { BelongTo closed.now tenant self.old places.now }
         requires place { place < length closed.now.transcripts.items }
-        ensures { TakesStep closed.now tenant (FromTranscript place reply.now) act
+        ensures { TakesStep closed.now tenant (FromTranscript place) act
             self.old self.new result }
     {
+        let reply = reply_next(&closed.transcripts[place], self.stages[place]);
         let step = Step { tenant: 0, act };
-        match self.note_item(closed, tenant, places, place, reply, &step) {
+        match self.note_item(closed, tenant, places, place, &reply, &step) {
             Ok(()) => push_step(&mut self.steps, tenant, step.act),
             Err(fault) => Err(fault),
         }
     }
 
-    /// Takes a step that the event of a partition's journal gives, right after the Keep step that stands before it, if there is
-    /// one.
+    /// Takes a step that the next event of a partition's journal gives, right after the Keep step that stands before it, if there
+    /// is one.
     fn take_of_journal(
+        &mut self,
+        closed: &Closed,
+        tenant: u32,
+        partition: usize,
+        act: Act,
+    ) -> Result<(), StepFault>
+        requires sized { IsSized closed.now self.old }
+        requires partition { partition < closed.now.config.parts }
+        ensures takes { TakesOne (input_of closed.now tenant self.old.replay.limits)
+            (OfJournal partition) act self.old self.new result }
+        ensures keeps { KeepsSize self.old self.new }
+    {
+        let Some(event) = self.next_event(closed, tenant, partition) else {
+            // A step that may come next has an event.
+            return Err(StepFault::Mismatch);
+        };
+        self.take_of_event(tenant, partition, &event, act)
+    }
+
+    /// Takes a step that an event of a partition's journal gives, right after the Keep step that stands before it, if there is one.
+    fn take_of_event(
         &mut self,
         tenant: u32,
         partition: usize,
@@ -79,8 +100,9 @@ impl Progress {
         act: Act,
     ) -> Result<(), StepFault>
         requires { partition < length self.old.replies.items }
-        ensures takes { (input : Input) → input.tenant ≡ tenant
-            → TakesOne input (FromJournal partition event.now) act self.old self.new result }
+        ensures takes { (input : Input) (trace : Trace) → input.tenant ≡ tenant
+            → IsNextEvent input trace partition event.now
+            → TakesOneAfter input trace (OfJournal partition) act self.old self.new result }
         ensures keeps { KeepsSize self.old self.new }
     {
         if let Err(fault) = self.make_ready(tenant, event) {
@@ -137,10 +159,12 @@ impl Progress {
         ensures loses { self.new.replay.loses ≡ self.old.replay.loses }
     {
         let _named = no_reply();
-        let _answer = self.replay.step(&Step {
+        let mut answer = Answer::Ignored;
+        let step = Step {
             tenant: 0,
             act: Act::Keep(keep),
-        })?;
+        };
+        self.replay.step_into(&step, &mut answer)?;
         push_step(&mut self.steps, tenant, Act::Keep(keep))
     }
 
@@ -158,8 +182,9 @@ impl Progress {
         requires given { BelongTo closed.now tenant self.old places.now }
         requires place { place < length closed.now.transcripts.items }
         requires step { step.now.tenant ≡ 0 }
-        ensures notes { NotesOne (input_of closed.now tenant self.old.replay.limits)
-            (FromTranscript place reply.now) step.now.act self.old self.new result }
+        ensures notes { let input = input_of closed.now tenant self.old.replay.limits in
+            NotesOne input (OfTranscript place) step.now.act
+            (λ trace. IsNextReply input trace place reply.now) self.old self.new result }
         ensures keeps { KeepsSize self.old self.new }
         ensures steps { self.new.steps ≡ self.old.steps }
     {
@@ -176,7 +201,8 @@ impl Progress {
             // A seat whose transcript is here has a place.
             return Err(StepFault::Mismatch);
         };
-        let answer = self.replay.step(step)?;
+        let mut answer = Answer::Ignored;
+        self.replay.step_into(step, &mut answer)?;
         let Some(next) = next_stage(transcript, stage, &answer) else {
             return Err(StepFault::Mismatch);
         };
@@ -203,8 +229,8 @@ impl Progress {
     fn note_event(&mut self, partition: usize, event: &Event, step: &Step) -> Result<(), StepFault>
         requires partition { partition < length self.old.replies.items }
         requires step { step.now.tenant ≡ 0 }
-        ensures notes { (input : Input) → NotesOne input (FromJournal partition event.now)
-            step.now.act self.old self.new result }
+        ensures notes { (input : Input) → NotesOne input (OfJournal partition) step.now.act
+            (λ trace. IsNextEvent input trace partition event.now) self.old self.new result }
         ensures keeps { KeepsSize self.old self.new }
         ensures steps { self.new.steps ≡ self.old.steps }
     {
@@ -215,11 +241,36 @@ impl Progress {
         if !self.replay.brings(partition, event, &step.act) {
             return Err(StepFault::Mismatch);
         }
-        let answer = self.replay.step(step)?;
+        let mut answer = Answer::Ignored;
+        self.replay.step_into(step, &mut answer)?;
         let Some(row) = row_replied(&answer, event) else {
             return Err(StepFault::Mismatch);
         };
         push_at(&mut self.replies, partition, row)
+    }
+}
+
+/// The reply that a transcript takes next, if it takes one.
+fn reply_next(transcript: &Transcript, stage: TranscriptState) -> Option<Reply>
+    ensures { (item : TranscriptItem) → IsCompared transcript.now stage
+        → slice_get (rest_of transcript.now stage) 0 ≡ Some item
+        → result ≡ reply_taken item.doing }
+{
+    match stage {
+        TranscriptState::Open(read) => reply_at(&transcript.entries, read),
+        TranscriptState::Waiting | TranscriptState::Over => None,
+    }
+}
+
+/// The reply that was taken at a place of the entries, if one was.
+fn reply_at(entries: &EntryList, read: usize) -> Option<Reply>
+    ensures { (item : TranscriptItem) → noted (drop read entries.now.items) ≡ []
+        → slice_get (items_of (drop read entries.now.items)) 0 ≡ Some item
+        → result ≡ reply_taken item.doing }
+{
+    match entries.taken(read) {
+        Some(taken) => Some(taken.reply),
+        None => None,
     }
 }
 

@@ -1,4 +1,4 @@
-use Rattle.std.proofs.Common.{◌<◌, ◌+◌, length, drop, arith}
+use Rattle.std.proofs.Common.{◌<◌, length, arith}
 use Rattle.settle.proofs.Stages.{opened, open_differs, waiting_differs}
 use Rattle.settle.proofs.steps_taken.next_stage.Goals as goal
 

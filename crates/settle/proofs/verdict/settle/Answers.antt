@@ -1,4 +1,4 @@
-use Rattle.std.proofs.Common.{rules, List, slice_get, ◌≡◌, ◌∙◌, sym, ap, Some, Option, Result, Ok, Err, MatchResult, ℕ}
+use Rattle.std.proofs.Common.{rules, List, slice_get, ◌≡◌, ◌∙◌, sym, ap, Some, Result, Ok, Err, MatchResult, ℕ}
 use Rattle.std.specs.Option.{option_copied}
 use Rattle.std.specs.Global.{Vec}
 use Rattle.plain_store.specs.declared.step.Step.{Step}

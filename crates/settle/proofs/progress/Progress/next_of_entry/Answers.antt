@@ -15,4 +15,4 @@ returns-in-Took-clause-gives c trace doing noted does =
     let input = input_of c.args.closed.now c.args.tenant c.args.self.now.replay.limits in
     let taken = Takes c.in-Took.number c.in-Took.partition c.in-Took.event_place c.in-Took.reply in
     subst (λ d. GivesNow input trace c.args.place c.args.transcript.now d c.delivery.result) (some_is taken doing (sym (ap doing_of c.in-Took.is) ∙ does))
-    (c.delivery.ensures.gives input trace c.args.transcript.now c.in-Took.number c.in-Took.partition c.in-Took.event_place (c.reply_row-row.ensures trace noted))
+    (c.delivery.ensures.gives input trace c.args.transcript.now c.in-Took.number c.in-Took.partition c.in-Took.event_place c.in-Took.reply (c.reply_row-row.ensures trace noted))

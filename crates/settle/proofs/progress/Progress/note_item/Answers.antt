@@ -40,7 +40,7 @@ returns-in_default-next_stage-clause-notes c trace noted may found agrees =
     let is_at = noted.stages c.args.place transcript stage next.1 staged in
     let first = first_left input trace c.args.place c.args.step.now.act transcript next.1 stage next.0 is_at next.2 in
     let both = transcript_agreed input trace c.args.place c.args.step.now.act transcript next.1 next.0 next.2 agrees in
-    c.in_default-next_stage.ensures next.0 is_at.compared first (subst (λ a. AreAll a next.0.noted) (sym (c.in_ok-answer.ensures.answer input (acts_of input trace) (after input trace) noted.replays has)) both.0)
+    c.in_default-next_stage.ensures next.0 is_at.compared first (subst (λ a. AreAll a next.0.noted) (sym (c.in_ok-step_into.ensures.answer input (acts_of input trace) (after input trace) noted.replays has)) both.0)
 
 pub push_rows_at-requires : goal.push_rows_at-requires
 push_rows_at-requires c =
@@ -58,14 +58,14 @@ returns-clause-notes c trace noted may found =
     let next = indexed input trace c.args.place c.args.step.now.act transcript at may in
     let is_at = noted.stages c.args.place transcript stage next.1 staged in
     let first = first_left input trace c.args.place c.args.step.now.act transcript next.1 stage next.0 is_at next.2 in
-    let is = c.in_ok-answer.ensures.answer input (acts_of input trace) (after input trace) noted.replays has in
+    let is = c.in_ok-step_into.ensures.answer input (acts_of input trace) (after input trace) noted.replays has in
     let on = subst (λ a. Advances transcript stage next.0 a c.in-Some-next_stage.next) is (c.in-Some-next_stage.ensures next.0 is_at.compared first) in
     let takes = subst (Delivers (after input trace) c.args.step.now.act) (found transcript next.0 next.1 next.2) ((c.delivers.ensures input trace noted.replays has).0 c.if-not-delivers.false) in
     let slotted = c.in-Some.ensures c.args.closed.now.transcripts.items c.args.tenant c.requires.given.places in
     match_pushed input trace (OfTranscript c.args.place) c.args.step.now.act c.args.self.now.replay.loses c.push_rows_at.result _ _ c.push_rows_at.ensures.pushed.ok c.push_rows_at.ensures.pushed.err
     (λ pushed. (
-      transcript_noted input trace c.args.place c.args.step.now.act transcript next.1 c.args.self.now c.step.new.self _ c.push_rows_at.new.lists stage c.in-Some-next_stage.next next.0 c.in-Some.slot
-          noted (c.in_ok-answer.ensures.stands input (acts_of input trace) (after input trace) noted.replays has).plays staged next.2 on refl slotted
+      transcript_noted input trace c.args.place c.args.step.now.act transcript next.1 c.args.self.now c.step_into.new.self _ c.push_rows_at.new.lists stage c.in-Some-next_stage.next next.0 c.in-Some.slot
+          noted (c.in_ok-step_into.ensures.stands input (acts_of input trace) (after input trace) noted.replays has).plays staged next.2 on refl slotted
           (subst (λ a. IsPushed c.args.self.now.sent.items c.push_rows_at.new.lists.items c.in-Some.slot (rows_sent a)) is pushed),
       transcript_agrees input trace c.args.place c.args.step.now.act transcript next.1 next.0 next.2 on.all takes,
     ))

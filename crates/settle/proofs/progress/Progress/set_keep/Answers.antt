@@ -3,6 +3,6 @@ use Rattle.settle.proofs.progress.Progress.set_keep.Goals as goal
 
 pub returns-clause-played : goal.returns-clause-played
 returns-clause-played c = record {
-  ok = on_ok_always c.push_step.result (λ input acts history plays. (c.in_ok-_answer.ensures.stands input acts history plays tt).plays);
+  ok = on_ok_always c.push_step.result (λ input acts history plays. (c.in_ok-step_into.ensures.stands input acts history plays tt).plays);
   err = c.push_step.ensures.err;
 }
