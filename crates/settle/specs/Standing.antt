@@ -24,7 +24,7 @@ use Rattle.settle.specs.Trace.{times, call_rows, replies_sent}
 use Rattle.settle.specs.Fronts.{IsTranscriptAt, IsNextItem, IsReplyRow, IsOver, Gives, NoneIsFree}
 use Rattle.settle.specs.Fronts.{MayTake, AgreesAt}
 use Rattle.settle.specs.Fronts.{IsFront, AllAgree}
-use Rattle.settle.specs.Replaying.{step_of, Plays}
+use Rattle.settle.specs.Replaying.{step_of, KeepsSettings, Plays}
 
 -- ---- transcripts
 
@@ -261,11 +261,21 @@ pub record DoneOrNoMemory (result : Result (Unit {0}) StepFault) (P : Type 0) : 
   pub ok : OnOk result P
   pub err : IfErr result (λ fault. fault ≡ OutOfMemory)
 
+-- the list at a place has this more, or there was no memory; there are as many lists as before
+pub record PushesAt (place : ℕ) (more : List ℕ) (old new : List (Vec ℕ)) (result : Result (Unit {0}) StepFault)
+    : Type 0 where
+  pub pushed : DoneOrNoMemory result (IsPushed old new place more)
+  pub len : length new ≡ length old
+
 -- the lists are as many as before, the limits are the same, and messages are lost or kept as before
 pub record KeepsSize (old new : Progress) : Type 0 where
   pub sized : (closed : Closed) → IsSized closed old → IsSized closed new
-  pub limits : new.replay.limits ≡ old.replay.limits
-  pub loses : new.replay.loses ≡ old.replay.loses
+  pub settings : KeepsSettings old.replay new.replay
+
+-- and the steps are the same
+pub record KeepsSteps (old new : Progress) : Type 0 where
+  pub size : KeepsSize old new
+  pub steps : new.steps ≡ old.steps
 
 -- the run differs at the step, a store that loses messages may have lost the one that the step delivers, or there was no
 -- memory
@@ -295,9 +305,8 @@ abbrev pub TakesOne : Input → Origin → Act → Progress → Progress → Res
 TakesOne input origin act old new result = (trace : Trace) → TakesOneAfter input trace origin act old new result
 
 -- it takes such a step, the lists are as many as before, the limits are the same, and messages are lost or kept as before
-pub record TakesStep (closed : Closed) (tenant : ℕ) (source : Source) (act : Act) (old new : Progress)
+pub record TakesStep (closed : Closed) (tenant : ℕ) (origin : Origin) (act : Act) (old new : Progress)
     (result : Result (Unit {0}) StepFault) : Type 0 where
-  pub takes : TakesOne (input_of closed tenant old.replay.limits) (origin_of source) act old new result
+  pub takes : TakesOne (input_of closed tenant old.replay.limits) origin act old new result
   pub sized : IsSized closed new
-  pub limits : new.replay.limits ≡ old.replay.limits
-  pub loses : new.replay.loses ≡ old.replay.loses
+  pub settings : KeepsSettings old.replay new.replay

@@ -2,9 +2,9 @@
 ghost use Rattle.std.specs.Prelude.{◌≡◌, ◌≤◌, ◌↔◌, ◌++◌, ◌∷◌, [], List, IsSome, IfSome, IsSomeAnd, IfOk, IsTrue, nat_eq, reverse};
 ghost use Rattle.indexmap.specs.IndexMap.{get};
 ghost use Rattle.prepare_commit.specs.Bases.{Frozen, HasLog};
-ghost use Rattle.partition.specs.Events.{Event as Happened, event as happened};
+ghost use Rattle.partition.specs.Events.{Event as Happened};
 ghost use Rattle.partition.specs.Journals.{FollowsFrom, IsSoundFrom, IsEnd};
-ghost use Rattle.settle.specs.OneEpoch.{HasPlayed};
+ghost use Rattle.settle.specs.OneEpoch.{HasPlayed, event_of};
 
 use indexmap::IndexMap;
 use packed_steps::CallPlace;
@@ -29,19 +29,7 @@ pub fn check_epoch(alloc: Global, epoch: &Epoch) -> Result<Option<Base>, OutOfMe
         (λ o. IfSome o (λ base. IsEnd epoch.now.base epoch.now.events.items base)) }
 {
     let mut replica = Replica::at(alloc, &epoch.base)?;
-    end_of(alloc, &mut replica, epoch)
-}
-
-/// The base at the end of an epoch, which is played on a replica of the content at which it begins: Some exactly where the
-/// epoch is sound.
-fn end_of(alloc: Global, replica: &mut Replica, epoch: &Epoch) -> Result<Option<Base>, OutOfMemory>
-    requires { epoch.now.base ≡ replica.old }
-    ensures exact { IfOk result (λ o. IsSome o
-        ↔ IsSoundFrom epoch.now.base epoch.now.events.items) }
-    ensures end { IfOk result
-        (λ o. IfSome o (λ base. IsEnd epoch.now.base epoch.now.events.items base)) }
-{
-    if !play_epoch(alloc, replica, epoch)? {
+    if !play_epoch(alloc, &mut replica, epoch)? {
         return Ok(None);
     }
     Ok(Some(replica.base()?))
@@ -100,11 +88,11 @@ fn play_one(
     ensures yes { (base : Frozen) → (before : List Happened)
         → HasPlayed base before replica.old lasts.old
         → IfOk result (λ yes. IsTrue yes
-        → HasPlayed base (before ++ happened event.now.seat event.now.number call.now event.now.reply ∷ []) replica.new lasts.new) }
+        → HasPlayed base (before ++ event_of call.now event.now ∷ []) replica.new lasts.new) }
     ensures no { (base : Frozen) → (before : List Happened) → HasLog base
         → HasPlayed base before replica.old lasts.old
-        → IfOk result (λ yes. FollowsFrom base (reverse before)
-        (happened event.now.seat event.now.number call.now event.now.reply) → IsTrue yes) }
+        → IfOk result (λ yes. FollowsFrom base (reverse before) (event_of call.now event.now)
+        → IsTrue yes) }
 {
     if is_late(lasts, event.seat, event.number) {
         return Ok(false);

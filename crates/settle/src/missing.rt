@@ -1,5 +1,5 @@
 //! What must be there before a step is taken, and what is left when none can be.
-ghost use Rattle.std.specs.Prelude.{ℕ, false, ◌≡◌, ◌<◌, IsTrue, length, IfErr, OnOk};
+ghost use Rattle.std.specs.Prelude.{ℕ, false, ◌≡◌, ◌<◌, IsTrue, length, IfErr, MatchResult};
 ghost use Rattle.stamps.specs.declared.bounds.Limits.{Limits as Limited};
 ghost use Rattle.settle.specs.Input.{input_of, events_of_partition};
 ghost use Rattle.settle.specs.Fronts.{TakesAll, IsEventOf, NoneIsFree, IsSeatOverAt, IsUnsentAt};
@@ -23,8 +23,8 @@ pub fn check_all(
     limits: &Limits,
 ) -> Result<(), SettleFault>
     requires places { IsSessionOrder closed.now.transcripts.items tenant places.now }
-    ensures fault { IfErr result (IsFaulty closed.now tenant limits.now) }
-    ensures journals { OnOk result (HasJournals closed.now tenant limits.now) }
+    ensures { MatchResult result (λ _. HasJournals closed.now tenant limits.now)
+        (IsFaulty closed.now tenant limits.now) }
 {
     if let Err(fault) = check_journals(closed, tenant, limits) {
         return Err(fault);
@@ -37,8 +37,8 @@ pub fn check_all(
 
 /// Each journal is there from its first event on, under the limits of the config.
 fn check_journals(closed: &Closed, tenant: u32, limits: &Limits) -> Result<(), SettleFault>
-    ensures fault { IfErr result (IsFaulty closed.now tenant limits.now) }
-    ensures journals { OnOk result (HasJournals closed.now tenant limits.now) }
+    ensures { MatchResult result (λ _. HasJournals closed.now tenant limits.now)
+        (IsFaulty closed.now tenant limits.now) }
 {
     for partition in 0..closed.config.parts {
         if let Err(fault) = check_journal(closed, tenant, limits, partition) {
@@ -56,8 +56,8 @@ fn check_journal(
     partition: u32,
 ) -> Result<(), SettleFault>
     requires { partition < closed.now.config.parts }
-    ensures fault { IfErr result (IsFaulty closed.now tenant limits.now) }
-    ensures journal { OnOk result (HasJournal closed.now tenant limits.now partition) }
+    ensures { MatchResult result (λ _. HasJournal closed.now tenant limits.now partition)
+        (IsFaulty closed.now tenant limits.now) }
 {
     let Some(journal) = journal_at(closed, tenant, partition as usize) else {
         return Err(SettleFault::Missing);

@@ -8,6 +8,7 @@ ghost use Rattle.settle.specs.Trace.{OfJournal, Trace, times};
 ghost use Rattle.partition.specs.PackedEvents.{caller_of};
 ghost use Rattle.std.specs.Option.{option_map};
 ghost use Rattle.settle.specs.Fronts.{IsNextEvent};
+ghost use Rattle.settle.specs.Replaying.{HasSettings};
 ghost use Rattle.settle.specs.Standing.{IsSized, AreReplies, HasTakenSteps};
 
 use crate::lookups::{caller_after, event_after};
@@ -52,8 +53,8 @@ impl Progress {
         limits: &Limits,
         loses: bool,
     ) -> Result<Progress, OutOfMemory>
-        ensures limits { IfOk result (λ progress. progress.replay.limits ≡ limits.now) }
-        ensures loses { IfOk result (λ progress. progress.replay.loses ≡ loses) }
+        ensures settings { IfOk result
+            (λ progress. HasSettings limits.now loses progress.replay) }
         ensures sized { IfOk result (λ progress. IsSized closed.now progress) }
         ensures stands { IfOk result (λ progress. (tenant : ℕ)
             → HasTakenSteps (input_of closed.now tenant limits.now) [] progress) }

@@ -8,7 +8,7 @@ ghost use Rattle.settle.specs.Words.{Act as Acted};
 ghost use Rattle.settle.specs.Input.{Input, setup_for};
 ghost use Rattle.settle.specs.Trace.{with_act};
 ghost use Rattle.settle.specs.Losing.{StillHas, is_delivered};
-ghost use Rattle.settle.specs.Replaying.{Plays, PlaysOn};
+ghost use Rattle.settle.specs.Replaying.{HasSettings, KeepsSettings, Plays, PlaysOn};
 ghost use Rattle.settle.specs.Fronts.{reply_in, reply_delivered};
 ghost use Rattle.settle.specs.Standing.{call_in, call_coming};
 
@@ -39,8 +39,7 @@ impl Replay {
         loses: bool,
     ) -> Result<Replay, OutOfMemory>
         requires { IsParts parts }
-        ensures limits { IfOk result (λ replay. replay.limits ≡ limits.now) }
-        ensures loses { IfOk result (λ replay. replay.loses ≡ loses) }
+        ensures settings { IfOk result (HasSettings limits.now loses) }
         ensures stands { IfOk result (λ replay. (input : Input) → input.limits ≡ limits.now
             → input.closed.config.parts ≡ parts → Plays input [] [] replay) }
     {
@@ -66,8 +65,7 @@ impl Replay {
             → StillHas plays.own history step.now.act
             → PlaysOn input acts
             step.now.act (with_act (setup_for input) step.now.act history) self.new) }
-        ensures limits { self.new.limits ≡ self.old.limits }
-        ensures loses { self.new.loses ≡ self.old.loses }
+        ensures settings { KeepsSettings self.old self.new }
     {
         let _named = no_reply();
         self.take_into(step, answer)?;
@@ -86,8 +84,7 @@ impl Replay {
             → StillHas plays.own history step.now.act
             → Plays input (acts
             ++ step.now.act ∷ []) (with_act (setup_for input) step.now.act history) self.new) }
-        ensures limits { self.new.limits ≡ self.old.limits }
-        ensures loses { self.new.loses ≡ self.old.loses }
+        ensures settings { KeepsSettings self.old self.new }
     {
         self.world.step_into(step, answer)
     }
@@ -97,8 +94,7 @@ impl Replay {
         ensures stands { OnOk result ((input : Input) (acts : List Acted) (history : History)
             → Plays input (acts ++ act.now ∷ []) history self.old
             → PlaysOn input acts act.now history self.new) }
-        ensures limits { self.new.limits ≡ self.old.limits }
-        ensures loses { self.new.loses ≡ self.old.loses }
+        ensures settings { KeepsSettings self.old self.new }
     {
         if !self.loses {
             return Ok(());
@@ -116,8 +112,7 @@ impl Replay {
             → Plays input acts history self.old → is_delivered acts row ≡ true
             → (plays : Plays input acts history self.new)
             × (message_at plays.own row ≡ None)) }
-        ensures limits { self.new.limits ≡ self.old.limits }
-        ensures loses { self.new.loses ≡ self.old.loses }
+        ensures settings { KeepsSettings self.old self.new }
     {
         let _named = no_reply();
         let step = Step {

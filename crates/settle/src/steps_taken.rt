@@ -6,11 +6,10 @@ ghost use Rattle.settle.specs.Words.{Act as Acted, SetKeep};
 ghost use Rattle.settle.specs.Program.{TranscriptItem, noted, items_of, reply_taken};
 ghost use Rattle.settle.specs.Trace.{at_seat, Trace, after, with_act, keep_before, keep_told, rows_sent, row_replied, numbers};
 ghost use Rattle.settle.specs.Fronts.{IsNextEvent, Delivers};
-ghost use Rattle.settle.specs.Standing.{rest_of, IsCompared, AreAll, IsNoted, Advances, reply_told, origin_of, IsNotedOf, IsReady, HasTakenSteps, IsNextReply, IsSized, NotesOne, TakesOneAfter, TakesOne, TakesStep, KeepsSize, DoneOrNoMemory, IsWithin, IsPushed};
+ghost use Rattle.settle.specs.Standing.{rest_of, IsCompared, AreAll, IsNoted, Advances, reply_told, origin_of, IsNotedOf, IsReady, HasTakenSteps, IsNextReply, IsSized, NotesOne, TakesOneAfter, TakesStep, KeepsSize, KeepsSteps, DoneOrNoMemory, IsWithin, PushesAt};
 ghost use Rattle.settle.specs.Sessions.{BelongTo};
 ghost use Rattle.settle.specs.Losing.{StillHas};
-ghost use Rattle.settle.specs.Replaying.{Plays, Replays, step_of};
-ghost use Rattle.settle.specs.declared.next_step.Source.TheVariants.{Transcript as FromTranscript};
+ghost use Rattle.settle.specs.Replaying.{KeepsSettings, Plays, Replays, step_of};
 ghost use Rattle.settle.specs.Trace.{OfTranscript, OfJournal};
 
 use crate::next_step::{Next, Source};
@@ -34,7 +33,8 @@ impl Progress {
     ) -> Result<(), StepFault>
         requires given { BelongTo closed.now tenant self.old places.now }
         requires within { IsWithin closed.now (origin_of next.source) }
-        ensures { TakesStep closed.now tenant next.source next.act self.old self.new result }
+        ensures { TakesStep closed.now tenant (origin_of next.source) next.act
+            self.old self.new result }
     {
         let Next { source, act } = next;
         match source {
@@ -58,7 +58,7 @@ impl Progress {
     ) -> Result<(), StepFault>
         requires given { BelongTo closed.now tenant self.old places.now }
         requires place { place < length closed.now.transcripts.items }
-        ensures { TakesStep closed.now tenant (FromTranscript place) act
+        ensures { TakesStep closed.now tenant (OfTranscript place) act
             self.old self.new result }
     {
         let reply = reply_next(&closed.transcripts[place], self.stages[place]);
@@ -80,9 +80,8 @@ impl Progress {
     ) -> Result<(), StepFault>
         requires sized { IsSized closed.now self.old }
         requires partition { partition < closed.now.config.parts }
-        ensures takes { TakesOne (input_of closed.now tenant self.old.replay.limits)
-            (OfJournal partition) act self.old self.new result }
-        ensures keeps { KeepsSize self.old self.new }
+        ensures { TakesStep closed.now tenant (OfJournal partition) act
+            self.old self.new result }
     {
         let Some(event) = self.next_event(closed, tenant, partition) else {
             // A step that may come next has an event.
@@ -155,8 +154,7 @@ impl Progress {
             ≡ self.old.steps.items ++ step_of tenant (SetKeep keep) ∷ []) }
         ensures rest { self.new
             ≡ record self.old { replay = self.new.replay; steps = self.new.steps } }
-        ensures limits { self.new.replay.limits ≡ self.old.replay.limits }
-        ensures loses { self.new.replay.loses ≡ self.old.replay.loses }
+        ensures settings { KeepsSettings self.old.replay self.new.replay }
     {
         let _named = no_reply();
         let mut answer = Answer::Ignored;
@@ -185,8 +183,7 @@ impl Progress {
         ensures notes { let input = input_of closed.now tenant self.old.replay.limits in
             NotesOne input (OfTranscript place) step.now.act
             (λ trace. IsNextReply input trace place reply.now) self.old self.new result }
-        ensures keeps { KeepsSize self.old self.new }
-        ensures steps { self.new.steps ≡ self.old.steps }
+        ensures keeps { KeepsSteps self.old self.new }
     {
         let _named = no_reply();
         let transcript = &closed.transcripts[place];
@@ -231,8 +228,7 @@ impl Progress {
         requires step { step.now.tenant ≡ 0 }
         ensures notes { (input : Input) → NotesOne input (OfJournal partition) step.now.act
             (λ trace. IsNextEvent input trace partition event.now) self.old self.new result }
-        ensures keeps { KeepsSize self.old self.new }
-        ensures steps { self.new.steps ≡ self.old.steps }
+        ensures keeps { KeepsSteps self.old self.new }
     {
         let _named = no_reply();
         if self.replay.may_have_lost(&step.act) {
@@ -394,9 +390,7 @@ fn push_step(steps: &mut Vec<Step>, tenant: u32, act: Act) -> Result<(), StepFau
 /// Adds a row to the list at a place.
 fn push_at(lists: &mut Vec<Vec<u64>>, place: usize, row: u64) -> Result<(), StepFault>
     requires { place < length lists.old.items }
-    ensures pushed { DoneOrNoMemory result
-        (IsPushed lists.old.items lists.new.items place (row ∷ [])) }
-    ensures len { length lists.new.items ≡ length lists.old.items }
+    ensures { PushesAt place (row ∷ []) lists.old.items lists.new.items result }
 {
     let list = &mut lists[place];
     list.reserve(1)?;
@@ -407,9 +401,7 @@ fn push_at(lists: &mut Vec<Vec<u64>>, place: usize, row: u64) -> Result<(), Step
 /// Adds the rows of the calls that a step sent to the list at a place.
 fn push_rows_at(lists: &mut Vec<Vec<u64>>, place: usize, answer: &Answer) -> Result<(), StepFault>
     requires { place < length lists.old.items }
-    ensures pushed { DoneOrNoMemory result
-        (IsPushed lists.old.items lists.new.items place (rows_sent answer.now)) }
-    ensures len { length lists.new.items ≡ length lists.old.items }
+    ensures { PushesAt place (rows_sent answer.now) lists.old.items lists.new.items result }
 {
     push_rows(&mut lists[place], answer)
 }

@@ -7,7 +7,7 @@ use Rattle.settle.proofs.Verdicts.{comes_to}
 use Rattle.settle.proofs.verdict.play.Goals as goal
 
 pub loop-step-init : goal.loop-step-init
-loop-step-init c = record { sized = c.in_ok-progress.ensures.sized; limits = c.in_ok-progress.ensures.limits; loses = c.in_ok-progress.ensures.loses; stands = ([], c.in_ok-progress.ensures.stands c.args.tenant) }
+loop-step-init c = record { sized = c.in_ok-progress.ensures.sized; limits = c.in_ok-progress.ensures.settings.limits; loses = c.in_ok-progress.ensures.settings.loses; stands = ([], c.in_ok-progress.ensures.stands c.args.tenant) }
 
 pub loop-step-preserved : goal.loop-step-preserved
 loop-step-preserved c =
@@ -19,8 +19,8 @@ loop-step-preserved c =
     let taken : TracedStep = record { origin = origin_of c.in-Some.next.source; act = c.in-Some.next.act } in
     record {
       sized = c.take.ensures.sized;
-      limits = c.take.ensures.limits ∙ c.loop-step.invariant.limits;
-      loses = c.take.ensures.loses ∙ c.loop-step.invariant.loses;
+      limits = c.take.ensures.settings.limits ∙ c.loop-step.invariant.limits;
+      loses = c.take.ensures.settings.loses ∙ c.loop-step.invariant.loses;
       stands = (taken ∷ trace, subst (λ l. HasTakenSteps (input_of closed c.args.tenant l) (taken ∷ trace) c.take.new.self) c.loop-step.invariant.limits (c.in_default.ensures.takes trace stands may));
     }
 

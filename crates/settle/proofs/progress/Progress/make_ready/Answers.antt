@@ -37,6 +37,5 @@ returns-in-Some-clause-keeps c =
         sent = ap (λ (p : Progress). length p.sent.items) rest ∙ is.sent;
         replies = ap (λ (p : Progress). length p.replies.items) rest ∙ is.replies;
       };
-      limits = c.set_keep.ensures.limits;
-      loses = c.set_keep.ensures.loses;
+      settings = c.set_keep.ensures.settings;
     }

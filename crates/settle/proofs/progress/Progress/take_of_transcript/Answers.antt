@@ -22,12 +22,11 @@ returns-in-Ok c = record {
       let found = next_reply input trace c.args.place session stage c.reply_next-reply.result at (λ transcript its. stands.noted.stages c.args.place transcript stage its staged) c.reply_next-reply.ensures in
       match_pushed input trace origin c.args.act old.replay.loses c.push_step.result _ _ c.push_step.ensures.ok c.push_step.ensures.err
       (λ pushed. written input trace origin c.args.act old c.note_item.new.self _ ready may (c.in-Ok.ensures.notes trace ready.noted may found) refl refl refl refl
-      (pushed ∙ ap (λ steps. steps.items ++ step_of c.args.tenant c.args.act ∷ []) c.note_item.ensures.steps));
+      (pushed ∙ ap (λ steps. steps.items ++ step_of c.args.tenant c.args.act ∷ []) c.note_item.ensures.keeps.steps));
   sized =
-      let sized = c.note_item.ensures.keeps.sized c.args.closed.now c.requires.given.sized in
+      let sized = c.note_item.ensures.keeps.size.sized c.args.closed.now c.requires.given.sized in
       record { stages = sized.stages; sent = sized.sent; replies = sized.replies };
-  limits = c.note_item.ensures.keeps.limits;
-  loses = c.note_item.ensures.keeps.loses;
+  settings = c.note_item.ensures.keeps.size.settings;
 }
 
 pub returns-in-Err : goal.returns-in-Err
@@ -42,7 +41,6 @@ returns-in-Err c = record {
       let staged = slice_get_read old.stages.items _ c.args.place stage (sym c.requires.given.sized.stages) c.requires.place c.index-2.ensures in
       c.in-Err.ensures.notes trace ready.noted may
       (next_reply input trace c.args.place session stage c.reply_next-reply.result at (λ transcript its. stands.noted.stages c.args.place transcript stage its staged) c.reply_next-reply.ensures);
-  sized = c.note_item.ensures.keeps.sized c.args.closed.now c.requires.given.sized;
-  limits = c.note_item.ensures.keeps.limits;
-  loses = c.note_item.ensures.keeps.loses;
+  sized = c.note_item.ensures.keeps.size.sized c.args.closed.now c.requires.given.sized;
+  settings = c.note_item.ensures.keeps.size.settings;
 }

@@ -1,7 +1,7 @@
 use Rattle.std.proofs.Common.{refl, sym, subst}
 use Rattle.prepare_commit.specs.Bases.{Frozen}
 use Rattle.partition.specs.Journals.{IsEnd}
-use Rattle.settle.proofs.epoch_check.end_of.Goals as goal
+use Rattle.settle.proofs.epoch_check.check_epoch.Goals as goal
 
 pub returns-clause-exact : goal.returns-clause-exact
 returns-clause-exact c = (λ _. c.in_ok-play_epoch.ensures.exact.0 c.if-not-branch.false, λ _. refl)
