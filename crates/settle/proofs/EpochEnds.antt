@@ -1,6 +1,6 @@
 -- What a replay shows of an epoch.
 use Rattle.std.proofs.Common.{◌≡◌, ℕ, ◌+◌, ◌<◌, ◌≤◌, List, [], ◌∷◌, ◌++◌, length, take, drop, get_or, cond, map, nat_eq, Option, Some, None, refl, sym, ap, ◌∙◌, subst, arith}
-use Rattle.std.specs.Prelude.{reverse, IsSomeAnd, IfSome, IsTrue, Bool, true, false, Result, Ok, Err, IsOk, OnOk}
+use Rattle.std.specs.Prelude.{reverse, IsSomeAnd, IfSome, IsTrue, Bool, true, false}
 use Rattle.std.proofs.lemmas.List.{reverse-append, take-append-drop, take_all, take_more}
 use Rattle.plain_store.specs.Log.{Log}
 use Rattle.plain_store.specs.Replies.{reply_after}
@@ -103,10 +103,6 @@ all_played base end events k lasts past played =
 -- what is reported of an optional reply is reported of the one that is there
 pub said : {X : Type 0} (P : X → Type 0) (place : Option X) (x : X) → place ≡ Some x → IsSomeAnd place P → P x
 said P place x is told = subst (λ o. IsSomeAnd o P) is told
-
-pub went_well : {A E P : Type 0} (r : Result A E) → IsOk r → OnOk r P → P
-went_well (Ok x) ok h = h
-went_well (Err e) ok h = absurd (cc)
 
 pub untrue : (b : Bool) → b ≡ false → IsTrue b → ⊥
 untrue true is t = cc

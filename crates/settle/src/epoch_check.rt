@@ -1,6 +1,5 @@
 //! An epoch, replayed.
-ghost use Rattle.std.specs.Prelude.{◌≡◌, ◌≤◌, ◌↔◌, ◌++◌, ◌∷◌, [], List, IsSome, IfSome, IsSomeAnd, IfOk, IsTrue, nat_eq, reverse};
-ghost use Rattle.indexmap.specs.IndexMap.{get};
+ghost use Rattle.std.specs.Prelude.{◌≡◌, ◌≤◌, ◌↔◌, ◌++◌, ◌∷◌, [], List, IsSome, IfSome, IsSomeAnd, IfOk, IsTrue, reverse};
 ghost use Rattle.prepare_commit.specs.Bases.{Frozen, HasLog};
 ghost use Rattle.partition.specs.Events.{Event as Happened};
 ghost use Rattle.partition.specs.Journals.{FollowsFrom, IsSoundFrom, IsEnd};
@@ -94,25 +93,24 @@ fn play_one(
         → IfOk result (λ yes. FollowsFrom base (reverse before) (event_of call.now event.now)
         → IsTrue yes) }
 {
-    if is_late(lasts, event.seat, event.number) {
+    lasts.reserve(1)?;
+    let Ok(last) = lasts.insert(event.seat, event.number) else {
+        return Err(OutOfMemory);
+    };
+    if is_late(last, event.number) {
         return Ok(false);
     }
-    lasts.reserve(1)?;
     replica.serve(call, reply);
     let told = reply.as_ref().unwrap();
-    if !event.reply.is(told, room) {
-        return Ok(false);
-    }
-    let _ = lasts.insert(event.seat, event.number);
-    Ok(true)
+    Ok(event.reply.is(told, room))
 }
 
-/// Whether the number is not above the seat's last one.
-fn is_late(lasts: &CheckedNumbers, seat: u64, number: u64) -> bool
-    ensures { IsTrue result ↔ IsSomeAnd (get nat_eq lasts.now seat) (λ last. number ≤ last) }
+/// Whether the number is not above a seat's last one, if it has one.
+fn is_late(last: Option<u64>, number: u64) -> bool
+    ensures { IsTrue result ↔ IsSomeAnd last (λ last. number ≤ last) }
 {
-    match lasts.get(&seat) {
-        Some(last) => number <= *last,
+    match last {
+        Some(last) => number <= last,
         None => false,
     }
 }
