@@ -467,11 +467,7 @@ impl<'a, G: Gate + Naming> Dispatcher<'a, G> {
         let Some(shard) = self.shards.get(partition as usize) else {
             return 0;
         };
-        let arrival = if self.gate.counts() {
-            shard.next_arrival()
-        } else {
-            1
-        };
+        let arrival = if G::COUNTS { shard.next_arrival() } else { 1 };
         self.gate.pass(partition, arrival);
         arrival
     }

@@ -30,11 +30,7 @@ pub type OpenHub<J> = Hub<Named<J, Open>>;
 pub type OpenSeat<'a, J> = Seat<'a, Named<J, Open>>;
 
 impl Gate for Open {
-    fn counts(&self) -> bool
-        ensures { result ≡ false }
-    {
-        false
-    }
+    const COUNTS: bool = false;
 
     fn pass(&self, _partition: u32, _nth: u64) {}
 

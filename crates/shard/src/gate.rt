@@ -4,7 +4,7 @@ ghost use Rattle.std.specs.Prelude.{ℕ};
 /// Each call of a seat passes the gate once: `pass` before the lock of its partition is asked for, and `inside` just before it
 /// is served, with that lock held. A seat calls `pass` for all calls of a round before it has the first of them served, and
 /// whoever serves a call, the seat or the partition's worker, calls `inside`. `nth` counts the calls that came to the
-/// partition from 1, and stays at 2^62: it is the same in both. Where `counts` is false it is 1 for each call.
+/// partition from 1, and stays at 2^62: it is the same in both. Where `COUNTS` is false it is 1 for each call.
 ///
 /// `has_passed` and `is_inside` stand for what a call of the gate leaves. An implementation need not say what they are. Code for
 /// any gate learns them from these calls alone, so a contract that names them says that the gate was called.
@@ -14,10 +14,8 @@ pub trait Gate {
     ghost is_inside: { Self → ℕ → ℕ → Type 0 } = { λ _ _ _. Unit {0} };
 
     /// Whether the calls that come to a partition are counted. All who come there write that count, so a gate that reads no `nth`
-    /// should answer false: no thread waits for the count then. It answers the same each time.
-    fn counts(&self) -> bool {
-        true
-    }
+    /// should say false: no thread waits for the count then.
+    const COUNTS: bool = true;
 
     /// Before call `nth` of this partition, with no lock held.
     fn pass(&self, partition: u32, nth: u64)
@@ -30,9 +28,7 @@ pub trait Gate {
 
 /// Watches and holds nobody.
 impl Gate for () {
-    fn counts(&self) -> bool {
-        false
-    }
+    const COUNTS: bool = false;
 
     fn pass(&self, _partition: u32, _nth: u64) {}
 

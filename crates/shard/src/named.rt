@@ -33,9 +33,7 @@ impl<J: Naming, W: Gate> Gate for Named<J, W> {
 
     ghost is_inside = { λ named partition nth. W.is_inside named.gate partition nth };
 
-    fn counts(&self) -> bool {
-        self.gate.counts()
-    }
+    const COUNTS: bool = W::COUNTS;
 
     fn pass(&self, partition: u32, nth: u64) {
         self.gate.pass(partition, nth)
