@@ -1,6 +1,6 @@
 -- For `ChangedChains`. Which chains are noted, beside the list of their numbers.
 use mathlib.Core.Bool.{or-false}
-use Rattle.std.proofs.Common.{◌≡◌, ℕ, zero, suc, inl, inr, ◌+◌, ◌<◌, ◌≤◌, ◌==◌, Bool, true, false, cond, List, [], ◌∷◌, ◌++◌, length, get_or, set, count_by, All, ◌||◌, Option, Some, None, refl, sym, ◌∙◌, ap, arith}
+use Rattle.std.proofs.Common.{◌≡◌, ℕ, zero, suc, inl, inr, ◌+◌, ◌<◌, ◌≤◌, ◌==◌, Bool, true, false, cond, List, [], ◌∷◌, ◌++◌, length, get_or, set, count_by, All, ◌||◌, refl, sym, ◌∙◌, ap, arith}
 use Rattle.std.proofs.Math.ListN.{get_or-eq_default}
 use Rattle.std.proofs.lemmas.Bool.{both_ways, eqb-true, eqb-false, eq-eqb, ne_eqb, cases_lt}
 use Rattle.std.proofs.lemmas.Bool.Decides.{nat_tests}
@@ -8,7 +8,6 @@ use Rattle.std.proofs.lemmas.Grind.{elements}
 use Rattle.std.proofs.lemmas.List.{length-set, length_push}
 use Rattle.std.proofs.lemmas.List.Sums.{sum_by-set, count_by-le-length}
 use Rattle.std.specs.List.{list_any}
-use Rattle.std.specs.Option.{option_eq}
 use Rattle.plain_store.proofs.Counting.{counted as one_counted, any_is, count_by-cons, count_by-push}
 use Rattle.prepare_commit.specs.Remembered.{AreNoted}
 
@@ -91,8 +90,3 @@ not_among flags numbers chain noted none = by (get_or flags chain false) refl
         let one = ap {B = ℕ} (λ b. cond b 1 0) e in
         let there = one_counted (λ n. n == chain) numbers (omega (arith, noted.once chain, one)) in
         absurd (both_ways (list_any (λ n. n == chain) numbers) none (any_is (λ n. n == chain) numbers there.0 there.1 there.2))
-
--- the last collection kept as many
-pub same_last : (eq : ℕ → ℕ → Bool) → ((x y : ℕ) → eq x y ≡ true → x ≡ y) → (last : Option ℕ) (keep : ℕ) → option_eq eq (Some keep) last ≡ true → last ≡ Some keep
-same_last eq decides None keep h = absurd cc
-same_last eq decides (Some x) keep h = ap Some (sym (decides keep x h))

@@ -1,12 +1,13 @@
 -- For `Cell`, the calls that change it. Which items another collection may still change.
-use Rattle.std.proofs.Common.{◌≡◌, ℕ, max, ◌<◌, ◌≤◌, ◌==◌, Bool, true, false, cond, not, ◌&&◌, nat_le, List, [], ◌∷◌, ◌++◌, map, set, filter, length, get_or, count_by, All, inl, inr, refl, sym, ap, subst, ◌∙◌, arith}
-use Rattle.std.specs.Prelude.{insert}
-use Rattle.std.proofs.lemmas.Bool.{le-leb, leb-true, and_parts, cases_eq}
+use Rattle.std.proofs.Common.{◌≡◌, ℕ, max, ◌<◌, ◌≤◌, ◌==◌, Bool, true, false, cond, not, ◌&&◌, nat_le, Option, Some, None, List, [], ◌∷◌, ◌++◌, map, set, filter, length, get_or, count_by, All, inl, inr, refl, sym, ap, subst, ◌∙◌, arith}
+use Rattle.std.specs.Prelude.{insert, IsSomeAnd}
+use Rattle.std.proofs.lemmas.Bool.{le-leb, leb-true, and_parts, cases_eq, cases_lt}
+use Rattle.std.proofs.lemmas.Bool.Decides.{nat_tests}
 use Rattle.std.proofs.lemmas.List.{get_or-set_same, get_or-set_other, get_or-map, get_or_default, length-map, map-append}
 use Rattle.std.proofs.lemmas.List.Elements.{All-nil, All-weaker, All-filter, filter-append, filter_passes}
 use Rattle.plain_store.specs.Stamps.{kth_greatest}
 use Rattle.plain_store.proofs.Counting.{count_by-map, count_by-filter, count_by-in}
-use Rattle.plain_store.proofs.Greatest.{kth_above}
+use Rattle.plain_store.proofs.Greatest.{kth_above, kth_by_count}
 use Rattle.stamps.specs.Record.{Record}
 use Rattle.version_chain.specs.declared.chains.Insert.{Insert}
 use Rattle.version_chain.specs.declared.chains.Insert.TheVariants.{Added, Same, Other, Full}
@@ -14,7 +15,7 @@ use Rattle.version_chain.specs.declared.version.Version.{Version}
 use Rattle.version_chain.specs.Chain.{IsInserted, is_open_at, without_open}
 use Rattle.prepare_commit.specs.declared.items.ChainedItem.{ChainedItem}
 use Rattle.prepare_commit.specs.Layout.{Chained, chain_at, item_chains, committed_of, raised_item, kept_chain, InsertGives, IsLaid}
-use Rattle.prepare_commit.specs.Remembered.{IsSettled, is_changed, AreSettled, AreNotedWhere}
+use Rattle.prepare_commit.specs.Remembered.{IsSettled, is_changed, AreSettled, AreNotedWhere, Remembers}
 use Rattle.prepare_commit.proofs.ListsOfLists.{at_each, filter_all, filter_alike, filter-filter, All-insert}
 use Rattle.prepare_commit.proofs.OwnChains.{all_inserted}
 
@@ -26,6 +27,27 @@ settled_pair keep chains i settled =
     let all = filter_all (λ (v : Version). nat_le i.entry.floor v.prepared.stamp) (chain_at chains i.chain) (λ k d w. le-leb _ _ (settled.above k d w)) in
     (λ j. (record { entry = record { key = i.entry.key; floor = same j }; chain = i.chain }, filter (λ (v : Version). nat_le (same j) v.prepared.stamp) (chain_at chains i.chain)))
     ∙ (λ j. (i, all j))
+
+-- a collection that keeps more raises no floor further
+fewer_lower : (fewer more : ℕ) (stamps : List ℕ) → fewer ≤ more → kth_greatest more stamps ≤ kth_greatest fewer stamps
+fewer_lower fewer more stamps le =
+    elim (cases_lt 0 (kth_greatest more stamps)) [
+      | inl some ↦
+          let a = kth_by_count more (kth_greatest more stamps) stamps some in
+          let b = kth_by_count fewer (kth_greatest more stamps) stamps some in
+          grind (arith, nat_tests)
+      | inr none ↦ omega arith
+    ]
+
+-- what one collection left, one that keeps as many or more leaves as well
+pub remembered : (last : Option ℕ) (keep : ℕ) (changed : List Bool) (items : List ChainedItem) (chains : List (List Version)) → IsSomeAnd last (λ number. number ≤ keep)
+    → Remembers last changed items chains → AreSettled keep changed items chains
+remembered None keep changed items chains le remembers = absurd le
+remembered (Some number) keep changed items chains le remembers = λ k d within free.
+    let i = get_or items k d in
+    let settled = remembers number refl k d within free in
+    let lower = fewer_lower number keep (committed_of (chain_at chains i.chain)) le in
+    record { raised = omega (arith, lower, settled.raised); above = settled.above }
 
 -- its versions alone count
 settled_by : (keep : ℕ) (new : List (List Version)) (i : ChainedItem) (vs : List Version) → chain_at new i.chain ≡ vs → kth_greatest keep (committed_of vs) ≤ i.entry.floor → All (λ (v : Version). i.entry.floor ≤ v.prepared.stamp) vs → IsSettled keep new i

@@ -1,6 +1,6 @@
 -- For `Cell`, the calls that change it, and for its bases. Which items are still what they were when a base was made.
-use Rattle.std.proofs.Common.{◌≡◌, ◌≢◌, ℕ, ◌<◌, ◌==◌, Bool, true, false, not, ◌&&◌, cond, List, [], ◌∷◌, map, set, length, get_or, count_by, All, Option, Some, inl, inr, refl, sym, ap, subst, ◌∙◌, arith}
-use Rattle.std.specs.Prelude.{insert}
+use Rattle.std.proofs.Common.{◌≡◌, ◌≢◌, ℕ, ◌<◌, ◌≤◌, ◌==◌, Bool, true, false, not, ◌&&◌, cond, List, [], ◌∷◌, map, set, length, get_or, count_by, All, Option, Some, inl, inr, refl, sym, ap, subst, ◌∙◌, arith}
+use Rattle.std.specs.Prelude.{insert, IsSomeAnd}
 use Rattle.std.proofs.lemmas.Bool.{false_from_ne_true, both_ways}
 use Rattle.std.proofs.lemmas.List.{get_or-set_same, get_or-set_other, get_or-map, length-map}
 use Rattle.plain_store.proofs.Counting.{count_by-cons}
@@ -21,7 +21,7 @@ use Rattle.prepare_commit.proofs.Chaining.{at, within}
 use Rattle.prepare_commit.proofs.Holding.{holdings_at, holdings_long}
 use Rattle.prepare_commit.proofs.ListsOfLists.{at_each, All-insert}
 use Rattle.prepare_commit.proofs.Places.{lies_there}
-use Rattle.prepare_commit.proofs.Remembering.{settled_pair}
+use Rattle.prepare_commit.proofs.Remembering.{settled_pair, remembered}
 use Rattle.prepare_commit.proofs.StandsAfter.{unmarked}
 
 -- there are no items
@@ -85,7 +85,7 @@ noted_gone stamp old new chains after noted gone n free =
 -- ---- a collection
 
 pub kept_collected : (begun : BegunBase) (keep : ℕ) (last : Option ℕ) (changed old since : List Bool) (items : List ChainedItem) (chains new : List (List Version)) → Remembers last changed items chains
-    → ((chain : ℕ) → chain < length old → get_or since chain false ≡ false → (last ≡ Some keep) × (get_or old chain false ≡ false) × (get_or changed chain false ≡ false))
+    → ((chain : ℕ) → chain < length old → get_or since chain false ≡ false → IsSomeAnd last (λ number. number ≤ keep) × (get_or old chain false ≡ false) × (get_or changed chain false ≡ false))
     → All (λ (i : ChainedItem). i.chain < length old) items
     → item_chains (map (raised_item keep chains) items) new ≡ map (kept_chain keep chains) items
     → IsKeptSince begun old items chains → IsKeptSince begun since (map (raised_item keep chains) items) new
@@ -94,7 +94,7 @@ kept_collected begun keep last changed old since items chains new remembers note
     let i = get_or items k d in
     let is = get_or-map (raised_item keep chains) items k d d less in
     let all = noted i.chain (known k d less) (sym (ap (λ (j : ChainedItem). get_or since j.chain false) is) ∙ free) in
-    let settled = remembers keep all.0 k d less all.2 in
+    let settled = remembered last keep changed items chains all.0 remembers k d less all.2 in
     let same = is ∙ ap (λ (p : ChainedItem × List Version). p.0) (settled_pair keep chains i settled) in
     let its =
     sym (get_or-map (λ (x : ChainedItem). chain_at new x.chain) (map (raised_item keep chains) items) k d [] within ∙ ap (λ (x : ChainedItem). chain_at new x.chain) is)

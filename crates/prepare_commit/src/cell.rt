@@ -464,7 +464,7 @@ impl Cell {
     /// were. Entries stay, and each item stands under the same tag as before. This rule is the store's own.
     ///
     /// It visits the items of which a version was committed since the last collection, each by a binary search, or all in their
-    /// order where that kept another number of versions; and it walks down the chain of each. Where it gave up any version, it
+    /// order where that kept more versions; and it walks down the chain of each. Where it gave up any version, it
     /// goes over the list of the kept versions once.
     pub fn collect(&mut self, block: &mut Block, keep: Keep) -> u32
         requires { LiesIn block.old self.old }

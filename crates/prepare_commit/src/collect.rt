@@ -1,5 +1,5 @@
 //! What a collection does to the items.
-ghost use Rattle.std.specs.Prelude.{◌≡◌, ◌<◌, ◌^◌, ℕ, false, Some, length, slice_set, slice_index_or};
+ghost use Rattle.std.specs.Prelude.{◌≡◌, ◌<◌, ◌≤◌, ◌^◌, ◌↔◌, ℕ, false, IsSomeAnd, IsTrue, length, slice_set, slice_index_or};
 ghost use Rattle.version_chain.specs.Changes.{HasChain};
 ghost use Rattle.prepare_commit.specs.declared.items.ChainedItem.{ChainedItem};
 ghost use Rattle.prepare_commit.specs.Calls.{lists_of, GivesUpOf, HoldItems, IsCollected, IsCollectedAt};
@@ -14,7 +14,7 @@ use stamps::Keep;
 use version_chain::Block;
 
 /// Raises each item's floor to the stamp of its last committed version that a collection keeps, gives up the versions
-/// below the floors, and answers how many they were. Where the last collection kept as many, it visits the items alone whose
+/// below the floors, and answers how many they were. Where the last collection kept as many or fewer, it visits the items alone whose
 /// chains are noted as changed, else all; and it sweeps the list of the kept versions once where it gave up any. After it no
 /// chain is noted.
 pub(crate) fn collect(
@@ -57,11 +57,22 @@ fn cut(
         block.old versions.old items.old block.new versions.new items.new }
     ensures long { length changed.new ≡ length changed.old }
 {
-    if last == Some(keep) {
+    if kept_no_more(last, keep) {
         return cut_noted(block, items, versions, changed, keep);
     }
     changed.clear();
     cut_items(block, items, versions, keep)
+}
+
+/// Whether the last collection kept as many versions as this one will, or fewer. Then it left nothing to this one in an item that did
+/// not change since.
+fn kept_no_more(last: Option<Keep>, keep: Keep) -> bool
+    ensures { IsTrue result ↔ IsSomeAnd last (λ number. number ≤ keep) }
+{
+    match last {
+        Some(last) => last <= keep,
+        None => false,
+    }
 }
 
 /// What such a collection does to all items, in their order.
@@ -174,7 +185,7 @@ fn raised_item(block: &Block, item: ChainedItem, versions: &Versions, keep: Keep
 }
 
 /// Notes the chains that a collection may change, of which there are so many in all: those that are noted as changed where the last collection kept as many
-/// versions, else all.
+/// versions or fewer, else all.
 pub(crate) fn note_collected(
     since: &mut ChangedChains,
     changed: &ChangedChains,
@@ -187,10 +198,11 @@ pub(crate) fn note_collected(
     ensures long { length since.new ≡ length since.old }
     ensures noted { (chain : ℕ) → chain < length since.old
         → slice_index_or since.new chain false ≡ false
-        → (last ≡ Some keep) × (slice_index_or since.old chain false ≡ false)
+        → IsSomeAnd last (λ number. number ≤ keep)
+        × (slice_index_or since.old chain false ≡ false)
         × (slice_index_or changed.now chain false ≡ false) }
 {
-    if Some(keep) == last {
+    if kept_no_more(last, keep) {
         since.note_those(changed);
     } else {
         since.note_all(chains);
