@@ -1,4 +1,4 @@
--- How many calls a reader and a finder may still ask for, before a reply and after it.
+-- How many calls a reader and a search may still ask for, before a reply and after it.
 use Rattle.std.proofs.Common.{◌≡◌, ℕ, ◌+◌, ◌*◌, ◌≤◌, List, [], ◌∷◌, Bool, true, false, ◌&&◌, ◌||◌, ◌==◌, not, map, filter, length, cond, refl, ap, sym, ◌∙◌, subst, Option, arith}
 use Rattle.std.specs.Prelude.{is_some, bytes_eq}
 use Rattle.std.specs.List.{list_any, list_all}
@@ -10,9 +10,9 @@ use Rattle.plain_store.specs.declared.reading.Reading.{Reading}
 use Rattle.plain_store.proofs.ListTests.{all-map}
 use Rattle.stamps.specs.Limits.{max_keys}
 use Rattle.get_all.specs.AskedPartition.{awaits}
-use Rattle.get_all.specs.Finder.{calls_left as find_left}
+use Rattle.get_all.specs.TagSearch.{calls_left as find_left}
 use Rattle.get_all.specs.declared.told.AskedPartition.{AskedPartition}
-use Rattle.get_all.specs.declared.finder.Finder.{Finder}
+use Rattle.get_all.specs.declared.tag_search.TagSearch.{TagSearch}
 use Rattle.get_all.specs.ReadProgress.{has_first, awaits_first, is_late_by, late_of, late_by, with_first, with_second}
 use Rattle.get_all.specs.Reader.{calls_left, calls_asked}
 use Rattle.get_all.specs.declared.read_progress.KeyProgress.{KeyProgress}
@@ -125,22 +125,22 @@ abbrev to_read : Bool → Reader → ℕ
 to_read reads reader = cond reads (calls_left reader) 0
 
 -- a partition told what it found, that was awaited
-module _ (finder : Finder) (partition : ℕ) (goes_on : finder.has_ended ≡ false) (awaited : list_any (awaits partition) finder.asked ≡ true) where
-  before : find_left finder ≡ 2 * max_keys + to_read finder.reads finder.reader
+module _ (search : TagSearch) (reader : Reader) (partition : ℕ) (goes_on : search.has_ended ≡ false) (awaited : list_any (awaits partition) search.asked ≡ true) where
+  before : find_left search reader ≡ 2 * max_keys + to_read search.reads reader
   before =
-      ap (λ b. cond b 0 (cond (have_told finder.asked) 0 (2 * max_keys) + to_read finder.reads finder.reader)) goes_on
-      ∙ ap (λ b. cond b 0 (2 * max_keys) + to_read finder.reads finder.reader) (not_told partition finder.asked awaited)
+      ap (λ b. cond b 0 (cond (have_told search.asked) 0 (2 * max_keys) + to_read search.reads reader)) goes_on
+      ∙ ap (λ b. cond b 0 (2 * max_keys) + to_read search.reads reader) (not_told partition search.asked awaited)
 
-  pub found_waits : (after : Finder) → after.reads ≡ finder.reads → after.reader ≡ finder.reader → 0 + find_left after ≤ find_left finder
-  found_waits after reads reader = go after.has_ended (have_told after.asked)
+  pub found_waits : (after : TagSearch) → after.reads ≡ search.reads → 0 + find_left after reader ≤ find_left search reader
+  found_waits after reads = go after.has_ended (have_told after.asked)
     where
-      same : to_read after.reads after.reader ≡ to_read finder.reads finder.reader
-      same = ap (λ b. to_read b after.reader) reads ∙ ap (to_read finder.reads) reader
+      same : to_read after.reads reader ≡ to_read search.reads reader
+      same = ap (λ b. to_read b reader) reads
 
-      go : (b d : Bool) → 0 + cond b 0 (cond d 0 (2 * max_keys) + to_read after.reads after.reader) ≤ find_left finder
+      go : (b d : Bool) → 0 + cond b 0 (cond d 0 (2 * max_keys) + to_read after.reads reader) ≤ find_left search reader
       go true d = omega arith
       go false true = omega (arith, before, same)
       go false false = omega (arith, before, same)
 
-  pub found_begins : (n : ℕ) → n ≤ 2 * max_keys → n ≤ find_left finder
+  pub found_begins : (n : ℕ) → n ≤ 2 * max_keys → n ≤ find_left search reader
   found_begins n few = omega (arith, before)

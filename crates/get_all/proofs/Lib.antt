@@ -8,5 +8,5 @@ pub mod Law
 pub mod SearchedKeys
 pub mod SearchTurns
 pub mod SearchReads
-pub mod NewFinder
+pub mod NewSearch
 pub mod NeededStamps

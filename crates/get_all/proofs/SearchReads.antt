@@ -1,4 +1,4 @@
--- For `Finder::take`. What a finder makes of a reply of the read that it began, and of one that comes before.
+-- For `TagSearch::take`. What a search makes of a reply of the read that it began, and of one that comes before.
 use Rattle.std.proofs.Common.{◌≡◌, ℕ, List, [], ◌∷◌, ◌++◌, Bool, true, false, ◌&&◌, ◌||◌, not, map, ap, sym, ◌∙◌, refl, cond, subst, arith, Option, Some, None}
 use Rattle.std.specs.Prelude.{nat_lt}
 use Rattle.std.proofs.lemmas.Bool.{both_ways}
@@ -18,12 +18,12 @@ use Rattle.plain_store.proofs.ListTests.{any_same, all_alike, map_alike}
 use Rattle.get_all.specs.Reading.{has_ended as has_read, is_of_read, is_wanted as is_wanted_read, taken_with as taken_with_read}
 use Rattle.get_all.specs.Reader.{StandsFor as StandsForRead, TakesRead, told as told_read, is_last as is_last_read}
 use Rattle.get_all.specs.Finding.{is_stray, any_stray, has_ended, is_of_search, is_wanted}
-use Rattle.get_all.specs.Finder.{told, listed, is_last, keys_told, has_told, asked_after, IsReadingFound, StandsFor, TakesFind}
+use Rattle.get_all.specs.TagSearch.{told, listed, is_last, keys_told, has_told, asked_after, IsReadingFound, StandsFor, TakesFind}
 use Rattle.get_all.specs.declared.reader.Reader.{Reader}
 use Rattle.get_all.specs.declared.reader.ReadMove.{ReadMove}
 use Rattle.get_all.specs.declared.reader.ReadMove.TheVariants.{Wait as WaitRead, Ask as AskRead, Read, Restart as RestartRead, Torn as TornRead, Ignored as IgnoredRead}
-use Rattle.get_all.specs.declared.finder.Finder.{Finder}
-use Rattle.get_all.specs.declared.finder.FindMove.{FindMove}
+use Rattle.get_all.specs.declared.tag_search.TagSearch.{TagSearch}
+use Rattle.get_all.specs.declared.tag_search.FindMove.{FindMove}
 
 module _ (setup : Setup) (tag : Tag) (taken : List Message) (message : Message) where
   abbrev more : List Message
@@ -53,7 +53,7 @@ module _ (setup : Setup) (tag : Tag) (taken : List Message) (message : Message) 
     all_same : all_found setup more ≡ all_found setup taken
     all_same = all_alike (has_told more) (has_told taken) told_same (below setup.partitions)
 
-    module _ (f : Finder) (s : StandsFor setup tag f taken) where
+    module _ (f : TagSearch) (reader : Reader) (s : StandsFor setup tag f reader taken) where
       module _ (going : f.has_ended ≡ false) where
         open_get : has_ended setup taken ≡ false
         open_get = sym s.ended ∙ going
@@ -71,10 +71,10 @@ module _ (setup : Setup) (tag : Tag) (taken : List Message) (message : Message) 
               go true e = e
               go false e = absurd (both_ways f.reads ((s.holds open_get).asking e).unread reads_now)
 
-          reading : IsReadingFound f taken
+          reading : IsReadingFound f reader taken
           reading = (s.holds open_get).reading all_in_get
 
-          pub stands_read : StandsForRead (all_keys_found taken) f.reader taken
+          pub stands_read : StandsForRead (all_keys_found taken) reader taken
           stands_read = reading.stands
 
           open_read : has_read (all_keys_found taken) taken ≡ false
@@ -115,13 +115,13 @@ module _ (setup : Setup) (tag : Tag) (taken : List Message) (message : Message) 
           last_listed TornRead = refl
           last_listed IgnoredRead = refl
 
-          pub reads : (a : ReadMove) (next : Reader) → TakesRead (all_keys_found taken) taken message a next → (after : Finder) → after.tag ≡ f.tag → after.parts ≡ f.parts → after.asked ≡ f.asked
-              → after.reads ≡ true → after.reader ≡ next → after.has_ended ≡ (f.has_ended || is_last_read a) → (answer : FindMove) → answer ≡ listed f.tag a → TakesFind setup tag taken message answer after
-          reads a next took after tagged parts asks still_reads holds_next over answer is_listed =
+          pub reads : (a : ReadMove) (next : Reader) → TakesRead (all_keys_found taken) taken message a next → (after : TagSearch) → after.tag ≡ f.tag → after.parts ≡ f.parts → after.asked ≡ f.asked
+              → after.reads ≡ true → after.has_ended ≡ (f.has_ended || is_last_read a) → (answer : FindMove) → answer ≡ listed f.tag a → TakesFind setup tag taken message answer after next
+          reads a next took after tagged parts asks still_reads over answer is_listed =
               let of_tag : answer ≡ listed tag a = is_listed ∙ ap (λ g. listed g a) s.tagged in
               let closed : has_read (all_keys_found taken) (taken_with_read (all_keys_found taken) taken message) ≡ is_last_read a = took.last ∙ ap (λ b. b || is_last_read a) open_read in
               let at = stands_with (is_wanted_read (all_keys_found taken) taken message) took.stands closed in
-              let P : Bool → Type 0 = λ b. StandsFor setup tag after (cond b more taken) in
+              let P : Bool → Type 0 = λ b. StandsFor setup tag after next (cond b more taken) in
               record {
                 answered =
                     ap (told setup) of_tag ∙ told_listed a ∙ took.answered setup tells
@@ -135,14 +135,13 @@ module _ (setup : Setup) (tag : Tag) (taken : List Message) (message : Message) 
             where
               at_list : (T : List Message) → map (asked_after taken) (below setup.partitions) ≡ map (asked_after T) (below setup.partitions) → any_stray setup T ≡ false → all_found setup T ≡ true → nat_lt 16 (total_found T) ≡ false
                   → all_keys_found T ≡ all_keys_found taken → StandsForRead (all_keys_found taken) next T → has_read (all_keys_found taken) T ≡ is_last_read a
-                  → StandsFor setup tag after T × (has_ended setup T ≡ is_last_read a)
+                  → StandsFor setup tag after next T × (has_ended setup T ≡ is_last_read a)
               at_list T same home_all all few keys stands closes =
                   let ended : has_ended setup T ≡ is_last_read a =
                   ap (λ b. b || (all_found setup T && (nat_lt 16 (total_found T) || has_read (all_keys_found T) T))) home_all
                   ∙ ap (λ b. b && (nat_lt 16 (total_found T) || has_read (all_keys_found T) T)) all
                   ∙ ap (λ b. b || has_read (all_keys_found T) T) few ∙ ap (λ ks. has_read ks T) keys ∙ closes in
-                  let P : List Key → Type 0 = λ ks. StandsForRead ks next T in
-                  let Q : Reader → Type 0 = λ r. StandsForRead (all_keys_found T) r T in (
+                  let P : List Key → Type 0 = λ ks. StandsForRead ks next T in (
                     record {
                       tagged = tagged ∙ s.tagged;
                       parts = parts ∙ s.parts;
@@ -151,14 +150,14 @@ module _ (setup : Setup) (tag : Tag) (taken : List Message) (message : Message) 
                         asked = asks ∙ (s.holds open_get).asked ∙ same;
                         at_home = home_all;
                         asking = λ unasked. contrary (all_found setup T) all unasked;
-                        reading = λ all_t. record { reads = still_reads; few = few; stands = subst Q (sym holds_next) (subst P (sym keys) stands) };
+                        reading = λ all_t. record { reads = still_reads; few = few; stands = subst P (sym keys) stands };
                       };
                     },
                     ended,
                   )
 
               stands_with : (b : Bool) → StandsForRead (all_keys_found taken) next (cond b more taken) → has_read (all_keys_found taken) (cond b more taken) ≡ is_last_read a
-                  → StandsFor setup tag after (cond b more taken) × (has_ended setup (cond b more taken) ≡ is_last_read a)
+                  → StandsFor setup tag after next (cond b more taken) × (has_ended setup (cond b more taken) ≡ is_last_read a)
               stands_with true stands closes =
                   at_list more asked_same (stray_same ∙ (s.holds open_get).at_home) (all_same ∙ all_in_get) (ap (nat_lt 16) total_same ∙ reading.few) keys_same stands closes
               stands_with false stands closes = at_list taken refl (s.holds open_get).at_home all_in_get reading.few refl stands closes

@@ -1,4 +1,4 @@
--- For `Finder::take_found`. What each answer of a finder is to the replies of its search.
+-- For `TagSearch::take_found`. What each answer of a search is to the replies that it took.
 use Rattle.std.proofs.Common.{◌≡◌, ℕ, zero, suc, ◌+◌, ◌<◌, ◌≤◌, min, List, [], ◌∷◌, ◌++◌, Bool, true, false, ◌&&◌, ◌||◌, ◌==◌, not, map, ap, sym, ◌∙◌, refl, cond, subst, arith, length, Some, None, ◌⊎◌, inl, inr, length-append}
 use Rattle.std.specs.Prelude.{nat_lt, bytes_eq}
 use Rattle.std.specs.List.{list_any, list_all}
@@ -27,11 +27,12 @@ use Rattle.get_all.specs.AskedPartition.{with_told, awaits}
 use Rattle.get_all.specs.Reading.{any_last, has_ended as has_read}
 use Rattle.get_all.specs.Reader.{is_no_read, StandsFor as StandsForRead}
 use Rattle.get_all.specs.Finding.{is_stray, any_stray, has_ended, is_of_search, is_wanted, IsTold}
-use Rattle.get_all.specs.Finder.{told, is_last, keys_told, has_told, asked_after, IsAsking, StandsFor, TakesFind}
+use Rattle.get_all.specs.TagSearch.{told, is_last, keys_told, has_told, asked_after, IsAsking, StandsFor, TakesFind}
 use Rattle.get_all.specs.declared.told.AskedPartition.{AskedPartition}
-use Rattle.get_all.specs.declared.finder.Finder.{Finder}
-use Rattle.get_all.specs.declared.finder.FindMove.{FindMove}
-use Rattle.get_all.specs.declared.finder.FindMove.TheVariants.{Wait, Begin, List as Listing, TooMany, Torn, Ignored}
+use Rattle.get_all.specs.declared.reader.Reader.{Reader}
+use Rattle.get_all.specs.declared.tag_search.TagSearch.{TagSearch}
+use Rattle.get_all.specs.declared.tag_search.FindMove.{FindMove}
+use Rattle.get_all.specs.declared.tag_search.FindMove.TheVariants.{Wait, Begin, List as Listing, TooMany, Torn, Ignored}
 use Rattle.get_all.proofs.New.{not_ended}
 use Rattle.get_all.proofs.SearchedKeys.{all_told, awaiting, contains-append, none_awaited, once_append, sorted_none, sorted_some}
 
@@ -39,20 +40,20 @@ module _ (setup : Setup) (tag : Tag) (taken : List Message) (message : Message) 
   abbrev more : List Message
   more = taken ++ message ∷ []
 
-  pub ignores : (f : Finder) → StandsFor setup tag f taken → is_wanted setup taken message ≡ false → TakesFind setup tag taken message Ignored f
-  ignores f s unwanted =
-      let P : Bool → Type 0 = λ b. StandsFor setup tag f (cond b more taken) in
+  pub ignores : (f : TagSearch) (r : Reader) → StandsFor setup tag f r taken → is_wanted setup taken message ≡ false → TakesFind setup tag taken message Ignored f r
+  ignores f r s unwanted =
+      let P : Bool → Type 0 = λ b. StandsFor setup tag f r (cond b more taken) in
       record {
         answered = sym (ap (λ b. cond b (Some (find_move setup tag more message.partition message.call message.reply)) None) unwanted);
         stands = subst P (sym unwanted) s;
         last = ap (λ b. has_ended setup (cond b more taken)) unwanted ∙ sym (or-false (has_ended setup taken));
       }
 
-  takes : (answer : FindMove) (after : Finder) → is_wanted setup taken message ≡ true
+  takes : (answer : FindMove) (after : TagSearch) (reader : Reader) → is_wanted setup taken message ≡ true
       → told setup answer ≡ Some (find_move setup tag more message.partition message.call message.reply)
-      → StandsFor setup tag after more → has_ended setup more ≡ is_last answer → TakesFind setup tag taken message answer after
-  takes answer after wanted moves s over =
-      let P : Bool → Type 0 = λ b. StandsFor setup tag after (cond b more taken) in
+      → StandsFor setup tag after reader more → has_ended setup more ≡ is_last answer → TakesFind setup tag taken message answer after reader
+  takes answer after reader wanted moves s over =
+      let P : Bool → Type 0 = λ b. StandsFor setup tag after reader (cond b more taken) in
       record {
         answered = moves ∙ sym (ap (λ b. cond b (Some (find_move setup tag more message.partition message.call message.reply)) None) wanted);
         stands = subst P (sym wanted) s;
@@ -100,7 +101,7 @@ module _ (setup : Setup) (tag : Tag) (taken : List Message) (message : Message) 
         ∙ ap (find_move setup tag more message.partition (Found is.tag)) is.replied
         ∙ ap (λ n. cond (list_any (λ key. not (home setup key == n)) found.keys) (Fails IsTorn []) (cond (all_found setup more) (search_move setup (total_found more) (all_keys_found more)) Waits)) is.at
 
-    module _ (f : Finder) (s : StandsFor setup tag f taken) where
+    module _ (f : TagSearch) (r : Reader) (s : StandsFor setup tag f r taken) where
       pub wanted_over : f.has_ended ≡ true → is_wanted setup taken message ≡ false
       wanted_over over =
           ap (λ b. not b && (is_of_search setup taken message.partition message.call message.reply && not (is_answered taken message.partition message.call))) (sym s.ended ∙ over)
@@ -131,19 +132,19 @@ module _ (setup : Setup) (tag : Tag) (taken : List Message) (message : Message) 
             go false e = e
             go true e = contrary (list_any (awaits p) f.asked) awaited (ap (list_any (awaits p)) (s.holds unended).asked ∙ none_awaited setup taken p e)
 
-        pub tears : (after : Finder) → list_any (awaits p) f.asked ≡ true → strays ≡ true → after.tag ≡ f.tag → after.parts ≡ f.parts → after.has_ended ≡ true
-            → (answer : FindMove) → answer ≡ Torn → TakesFind setup tag taken message answer after
+        pub tears : (after : TagSearch) → list_any (awaits p) f.asked ≡ true → strays ≡ true → after.tag ≡ f.tag → after.parts ≡ f.parts → after.has_ended ≡ true
+            → (answer : FindMove) → answer ≡ Torn → TakesFind setup tag taken message answer after r
         tears after awaited stray tagged parts over answer torn =
             let ended : has_ended setup more ≡ true =
             ap (λ b. b || (all_found setup more && (nat_lt 16 (total_found more) || has_read (all_keys_found more) more)))
             (stray_more ∙ ap (λ b. any_stray setup taken || b) stray ∙ or_right (any_stray setup taken) true refl) in
-            takes answer after (wanted_told ∙ awaited)
+            takes answer after r (wanted_told ∙ awaited)
             (ap (told setup) torn ∙ ap Some (sym (move_is ∙ ap (λ b. cond b (Fails IsTorn []) (cond (all_found setup more) (search_move setup (total_found more) (all_keys_found more)) Waits)) stray)))
             (record { tagged = tagged ∙ s.tagged; parts = parts ∙ s.parts; ended = over ∙ sym ended; holds = λ open_yet. contrary (has_ended setup more) ended open_yet })
             (ended ∙ sym (ap is_last torn))
 
         -- what is added to what was reported
-        module _ (awaited : list_any (awaits p) f.asked ≡ true) (fits : IsFound found) (honest : strays ≡ false) (added : Finder)
+        module _ (awaited : list_any (awaits p) f.asked ≡ true) (fits : IsFound found) (honest : strays ≡ false) (added : TagSearch)
             (asked : added.asked ≡ map (with_told p) f.asked) (total : added.total ≡ min (f.total + found.count) 17)
             (keys : added.total ≤ 16 → added.keys ≡ f.keys ++ found.keys) (unread : added.reads ≡ f.reads) where
           before : IsAsking setup f taken
@@ -216,12 +217,12 @@ module _ (setup : Setup) (tag : Tag) (taken : List Message) (message : Message) 
           ended_now : has_ended setup more ≡ (all_found setup more && (nat_lt 16 (total_found more) || has_read (all_keys_found more) more))
           ended_now = ap (λ b. b || (all_found setup more && (nat_lt 16 (total_found more) || has_read (all_keys_found more) more))) at_home_now
 
-          pub waits_on : added.tag ≡ f.tag → added.parts ≡ f.parts → added.has_ended ≡ f.has_ended → list_all (λ (a : AskedPartition). a.has_told) added.asked ≡ false → TakesFind setup tag taken message Wait added
+          pub waits_on : added.tag ≡ f.tag → added.parts ≡ f.parts → added.has_ended ≡ f.has_ended → list_all (λ (a : AskedPartition). a.has_told) added.asked ≡ false → TakesFind setup tag taken message Wait added r
           waits_on tagged parts same unfinished =
               let not_all : all_found setup more ≡ false = sym all_now ∙ unfinished in
               let open_now : has_ended setup more ≡ false =
               ended_now ∙ ap (λ b. b && (nat_lt 16 (total_found more) || has_read (all_keys_found more) more)) not_all in
-              takes Wait added (wanted_told ∙ awaited)
+              takes Wait added r (wanted_told ∙ awaited)
               (ap Some (sym (move_now ∙ ap (λ b. cond b (search_move setup (total_found more) (all_keys_found more)) Waits) not_all)))
               (record {
                 tagged = tagged ∙ s.tagged;
@@ -240,17 +241,17 @@ module _ (setup : Setup) (tag : Tag) (taken : List Message) (message : Message) 
             ended_all : has_ended setup more ≡ (nat_lt 16 (total_found more) || has_read (all_keys_found more) more)
             ended_all = ended_now ∙ ap (λ b. b && (nat_lt 16 (total_found more) || has_read (all_keys_found more) more)) all_in
 
-            ended_with : (answer : FindMove) (after : Finder) → after.tag ≡ f.tag → after.parts ≡ f.parts → after.has_ended ≡ true → has_ended setup more ≡ true → is_last answer ≡ true
-                → told setup answer ≡ Some (search_move setup (total_found more) (all_keys_found more)) → TakesFind setup tag taken message answer after
-            ended_with answer after tagged parts over ended closes moves =
-                takes answer after (wanted_told ∙ awaited) (moves ∙ ap Some (sym search_now))
+            ended_with : (answer : FindMove) (after : TagSearch) (next : Reader) → after.tag ≡ f.tag → after.parts ≡ f.parts → after.has_ended ≡ true → has_ended setup more ≡ true → is_last answer ≡ true
+                → told setup answer ≡ Some (search_move setup (total_found more) (all_keys_found more)) → TakesFind setup tag taken message answer after next
+            ended_with answer after next tagged parts over ended closes moves =
+                takes answer after next (wanted_told ∙ awaited) (moves ∙ ap Some (sym search_now))
                 (record { tagged = tagged ∙ s.tagged; parts = parts ∙ s.parts; ended = over ∙ sym ended; holds = λ open_yet. contrary (has_ended setup more) ended open_yet })
                 (ended ∙ sym closes)
 
-            pub too_many : 16 < added.total → (after : Finder) → after.tag ≡ f.tag → after.parts ≡ f.parts → after.has_ended ≡ true → (answer : FindMove) → answer ≡ TooMany → TakesFind setup tag taken message answer after
-            too_many many after tagged parts over answer is_many =
+            pub too_many : 16 < added.total → (after : TagSearch) (next : Reader) → after.tag ≡ f.tag → after.parts ≡ f.parts → after.has_ended ≡ true → (answer : FindMove) → answer ≡ TooMany → TakesFind setup tag taken message answer after next
+            too_many many after next tagged parts over answer is_many =
                 let above : nat_lt 16 (total_found more) ≡ true = lt-ltb 16 (total_found more) (omega (arith, many, total_now)) in
-                ended_with answer after tagged parts over (ended_all ∙ ap (λ b. b || has_read (all_keys_found more) more) above) (ap is_last is_many)
+                ended_with answer after next tagged parts over (ended_all ∙ ap (λ b. b || has_read (all_keys_found more) more) above) (ap is_last is_many)
                 (ap (told setup) is_many ∙ ap (λ b. Some (cond b (Fails AreTooMany []) (cond (total_found more == 0) (Lists []) (Begins (first_calls setup (all_keys_found more)))))) (sym above))
 
             module _ (few : added.total ≤ 16) where
@@ -273,11 +274,11 @@ module _ (setup : Setup) (tag : Tag) (taken : List Message) (message : Message) 
                   ∙ ap (λ b. b || one_twice (keys_told more)) (le-ltb 16 (length (keys_told more)) (omega (arith, count_now, within))) ∙ asking_now.distinct in
                   subst IsTransactionKeys (sym keys_now) (transaction_keys (keys_told more) good)
 
-              pub nothing : (IsTransactionKeys added.keys → ⊥) → (after : Finder) → after.tag ≡ f.tag → after.parts ≡ f.parts → after.has_ended ≡ true → (answer : FindMove) → answer ≡ Listing [] → TakesFind setup tag taken message answer after
-              nothing bad after tagged parts over answer is_none =
+              pub nothing : (IsTransactionKeys added.keys → ⊥) → (after : TagSearch) (next : Reader) → after.tag ≡ f.tag → after.parts ≡ f.parts → after.has_ended ≡ true → (answer : FindMove) → answer ≡ Listing [] → TakesFind setup tag taken message answer after next
+              nothing bad after next tagged parts over answer is_none =
                   let zero_now : total_found more ≡ 0 = go (total_found more) refl in
                   let none_at_all : all_keys_found more ≡ [] = sorted_none (keys_told more) (count_now ∙ zero_now) in
-                  ended_with answer after tagged parts over
+                  ended_with answer after next tagged parts over
                   (ended_all ∙ ap (λ b. b || has_read (all_keys_found more) more) not_above ∙ ap (λ ks. has_read ks more) none_at_all ∙ or_right (any_last more more) true refl)
                   (ap is_last is_none)
                   (ap (told setup) is_none
@@ -288,15 +289,15 @@ module _ (setup : Setup) (tag : Tag) (taken : List Message) (message : Message) 
                   go zero e = e
                   go (suc n) e = absurd (bad (good_now (omega (arith, e))))
 
-              pub begins : (good : IsTransactionKeys added.keys) (after : Finder) → after.tag ≡ f.tag → after.parts ≡ f.parts → after.has_ended ≡ f.has_ended → after.asked ≡ added.asked
-                  → after.reads ≡ true → ((replies : List Message) → list_all is_no_read replies ≡ true → StandsForRead (sorted_keys added.keys) after.reader replies)
-                  → (answer : FindMove) → answer ≡ Begin (sorted_keys added.keys) → TakesFind setup tag taken message answer after
-              begins good after tagged parts same asks reads stands answer is_begin =
+              pub begins : (good : IsTransactionKeys added.keys) (after : TagSearch) (next : Reader) → after.tag ≡ f.tag → after.parts ≡ f.parts → after.has_ended ≡ f.has_ended → after.asked ≡ added.asked
+                  → after.reads ≡ true → ((replies : List Message) → list_all is_no_read replies ≡ true → StandsForRead (sorted_keys added.keys) next replies)
+                  → (answer : FindMove) → answer ≡ Begin (sorted_keys added.keys) → TakesFind setup tag taken message answer after next
+              begins good after next tagged parts same asks reads stands answer is_begin =
                   let some_now : 0 < total_found more = omega (arith, good.not_empty, ap length keys_now, count_now) in
                   let sorted_now : sorted_keys added.keys ≡ all_keys_found more = ap sorted_keys keys_now in
                   let unread : has_read (all_keys_found more) more ≡ false = not_ended more asking_now.no_reads (all_keys_found more) (sorted_some (keys_told more) (omega (arith, count_now, some_now))) in
                   let open_now : has_ended setup more ≡ false = ended_all ∙ ap (λ b. b || has_read (all_keys_found more) more) not_above ∙ unread in
-                  takes answer after (wanted_told ∙ awaited)
+                  takes answer after next (wanted_told ∙ awaited)
                   (ap (told setup) is_begin ∙ ap (λ ks. Some (Begins (first_calls setup ks))) sorted_now
                   ∙ ap Some (sym (search_now ∙ ap (λ b. cond b (Fails AreTooMany []) (cond (total_found more == 0) (Lists []) (Begins (first_calls setup (all_keys_found more))))) not_above
                   ∙ ap (λ b. cond b (Lists []) (Begins (first_calls setup (all_keys_found more)))) (ne_eqb (total_found more) 0 (λ none. omega (arith, none, some_now))))))
@@ -313,33 +314,33 @@ module _ (setup : Setup) (tag : Tag) (taken : List Message) (message : Message) 
                   })
                   (open_now ∙ sym (ap is_last is_begin))
                 where
-                  read_of : sorted_keys added.keys ≡ all_keys_found more → StandsForRead (all_keys_found more) after.reader more
+                  read_of : sorted_keys added.keys ≡ all_keys_found more → StandsForRead (all_keys_found more) next more
                   read_of sorted =
-                      let P : List Key → Type 0 = λ ks. StandsForRead ks after.reader more in
+                      let P : List Key → Type 0 = λ ks. StandsForRead ks next more in
                       subst P sorted (stands more asking_now.no_reads)
 
-            pub finishes : (after : Finder) (answer : FindMove) → added.tag ≡ f.tag → added.parts ≡ f.parts → added.has_ended ≡ f.has_ended
+            pub finishes : (after : TagSearch) (next : Reader) (answer : FindMove) → added.tag ≡ f.tag → added.parts ≡ f.parts → added.has_ended ≡ f.has_ended
                 → (16 < added.total → (answer ≡ TooMany) × (after ≡ record added { has_ended = true }))
                 → (added.total ≤ 16 → (IsTransactionKeys added.keys → ⊥) → (answer ≡ Listing []) × (after ≡ record added { has_ended = true }))
                 → (added.total ≤ 16 → IsTransactionKeys added.keys → (answer ≡ Begin (sorted_keys added.keys)) × (after.tag ≡ added.tag) × (after.parts ≡ added.parts) × (after.asked ≡ added.asked) × (after.has_ended ≡ added.has_ended)
-                × (after.reads ≡ true) × ((replies : List Message) → list_all is_no_read replies ≡ true → StandsForRead (sorted_keys added.keys) after.reader replies))
-                → TakesFind setup tag taken message answer after
-            finishes after answer tagged parts same many none some = go (cases_lt 16 added.total)
+                × (after.reads ≡ true) × ((replies : List Message) → list_all is_no_read replies ≡ true → StandsForRead (sorted_keys added.keys) next replies))
+                → TakesFind setup tag taken message answer after next
+            finishes after next answer tagged parts same many none some = go (cases_lt 16 added.total)
               where
-                filled : (few : added.total ≤ 16) (n : ℕ) → total_found more ≡ n → TakesFind setup tag taken message answer after
+                filled : (few : added.total ≤ 16) (n : ℕ) → total_found more ≡ n → TakesFind setup tag taken message answer after next
                 filled few zero e =
                     let bad : IsTransactionKeys added.keys → ⊥ = λ good. omega (arith, good.not_empty, ap length (keys_now few), count_now few, e) in
                     let h = none few bad in
-                    nothing few bad after (ap (λ a. a.tag) h.1 ∙ tagged) (ap (λ a. a.parts) h.1 ∙ parts) (ap (λ a. a.has_ended) h.1) answer h.0
+                    nothing few bad after next (ap (λ a. a.tag) h.1 ∙ tagged) (ap (λ a. a.parts) h.1 ∙ parts) (ap (λ a. a.has_ended) h.1) answer h.0
                 filled few (suc n) e =
                     let good : IsTransactionKeys added.keys = good_now few (omega (arith, e)) in
                     let h = some few good in
-                    begins few good after (h.1 ∙ tagged) (h.2 ∙ parts) (h.4 ∙ same) h.3 h.5 h.6 answer h.0
+                    begins few good after next (h.1 ∙ tagged) (h.2 ∙ parts) (h.4 ∙ same) h.3 h.5 h.6 answer h.0
 
-                go : (16 < added.total) ⊎ (added.total ≤ 16) → TakesFind setup tag taken message answer after
+                go : (16 < added.total) ⊎ (added.total ≤ 16) → TakesFind setup tag taken message answer after next
                 go (inl above) =
                     let h = many above in
-                    too_many above after (ap (λ a. a.tag) h.1 ∙ tagged) (ap (λ a. a.parts) h.1 ∙ parts) (ap (λ a. a.has_ended) h.1) answer h.0
+                    too_many above after next (ap (λ a. a.tag) h.1 ∙ tagged) (ap (λ a. a.parts) h.1 ∙ parts) (ap (λ a. a.has_ended) h.1) answer h.0
                 go (inr few) = filled few (total_found more) refl
 
       -- what the test of homes says of stray keys

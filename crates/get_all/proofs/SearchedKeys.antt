@@ -14,7 +14,7 @@ use Rattle.plain_store.specs.Run.{one_twice}
 use Rattle.plain_store.proofs.ListTests.{or_parts, or-false, any_push, any-map, all-map}
 use Rattle.plain_store.proofs.Stamps.{is_key}
 use Rattle.get_all.specs.AskedPartition.{awaits}
-use Rattle.get_all.specs.Finder.{has_told, asked_after}
+use Rattle.get_all.specs.TagSearch.{has_told, asked_after}
 use Rattle.get_all.specs.declared.told.AskedPartition.{AskedPartition}
 
 any_below : (P : ℕ → Bool) (p n : ℕ) → list_any (λ q. (q == p) && P q) (below n) ≡ (nat_lt p n && P p)

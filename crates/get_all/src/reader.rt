@@ -159,7 +159,7 @@ impl Reader {
         self.slots.readings_into(place);
     }
 
-    /// The turn, with what is asked for or read.
+    /// The move, with what is asked for or read.
     fn told(&self, kind: ReadMoveKind) -> ReadMove
         ensures { result ≡ told_by self.now kind }
     {

@@ -247,11 +247,11 @@ under_way_later old new own entries running told later u =
 waits_first : (setup : Setup) (asked : Asked) (machine : Machine) (waiting : List Outgoing) → RunsAs setup asked [] machine waiting → waiting ≡ waiting_calls setup asked []
 waits_first setup (Writes own items) (WriteMachine stamp writer) waiting runs = runs.1.waits
 waits_first setup (Writes own items) (ReadMachine reader) waiting runs = absurd runs
-waits_first setup (Writes own items) (FindMachine finder) waiting runs = absurd runs
+waits_first setup (Writes own items) (FindMachine search reader) waiting runs = absurd runs
 waits_first setup (Gets keys) (ReadMachine reader) waiting runs = runs.waits
 waits_first setup (Gets keys) (WriteMachine stamp writer) waiting runs = absurd runs
-waits_first setup (Gets keys) (FindMachine finder) waiting runs = absurd runs
-waits_first setup (Finds tag) (FindMachine finder) waiting runs = runs.waits
+waits_first setup (Gets keys) (FindMachine search reader) waiting runs = absurd runs
+waits_first setup (Finds tag) (FindMachine search reader) waiting runs = runs.waits
 waits_first setup (Finds tag) (WriteMachine stamp writer) waiting runs = absurd runs
 waits_first setup (Finds tag) (ReadMachine reader) waiting runs = absurd runs
 

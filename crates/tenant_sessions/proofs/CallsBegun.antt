@@ -9,7 +9,7 @@ use Rattle.plain_store.specs.Words.{Setup}
 use Rattle.plain_store.specs.Writing.{Outgoing}
 use Rattle.put_all.specs.Writer.{place_after, calls_left as write_left}
 use Rattle.get_all.specs.Reader.{slot_after, calls_left as read_left}
-use Rattle.get_all.specs.Finder.{calls_left as find_left}
+use Rattle.get_all.specs.TagSearch.{calls_left as find_left}
 use Rattle.tenant_sessions.specs.CallsLeft.{calls_left, calls_waiting, machine_left, most_calls}
 use Rattle.tenant_sessions.specs.Holding.{Machine, Write, Read, Find}
 use Rattle.tenant_sessions.specs.Running.{MayBegin, RunsAs, Starts, waiting_calls}
@@ -39,18 +39,18 @@ begun_few setup request range fits running starts = go request fits running.mach
         let left : write_left writer ≤ length writer.places = some_or_none _ (length writer.places) in
         omega (arith, sent, places, left)
     go (Writes stamp items) good (Read reader) waiting none all = absurd none
-    go (Writes stamp items) good (Find finder) waiting none all = absurd none
+    go (Writes stamp items) good (Find search reader) waiting none all = absurd none
     go (Gets keys) good (Read reader) waiting reading all =
         let sent = ap length (reading.waits ∙ all) ∙ read_calls setup keys good in
         let slots = ap length (reading.stands.holds reading.goes_on).slots ∙ length-map keys (slot_after keys []) in
         let left : read_left reader ≤ length reader.slots = some_or_none _ (length reader.slots) in
         omega (arith, sent, slots, left)
     go (Gets keys) good (Write own writer) waiting none all = absurd none
-    go (Gets keys) good (Find finder) waiting none all = absurd none
-    go (Finds tag) good (Find finder) waiting finding all =
+    go (Gets keys) good (Find search reader) waiting none all = absurd none
+    go (Finds tag) good (Find search reader) waiting finding all =
         let sent = ap length (finding.waits ∙ all) ∙ find_calls setup setup.partitions refl tag range in
         let unread = ((finding.stands.holds finding.goes_on).asking (none_told setup.partitions range.positive)).unread in
-        let left : find_left finder ≤ 2 * max_keys = while_asking finder.has_ended _ finder.reads _ unread in
+        let left : find_left search reader ≤ 2 * max_keys = while_asking search.has_ended _ search.reads _ unread in
         omega (arith, sent, left)
     go (Finds tag) good (Write own writer) waiting none all = absurd none
     go (Finds tag) good (Read reader) waiting none all = absurd none

@@ -22,7 +22,7 @@ use Rattle.plain_store.proofs.Owned.{WriterSends, writer_sends, ReaderSends, rea
 use Rattle.plain_store.proofs.SearchesAsk.{found_more}
 use Rattle.tenant_sessions.specs.Running.{is_past, read_so_far, calls_so_far, is_reply_of, IsReplyTo}
 use Rattle.tenant_sessions.proofs.Offers.{in_later, later_cases, IsFoundOf, IsGetOf, find_asked, is_get_reply}
-use Rattle.get_all.specs.Finder.{keys_told}
+use Rattle.get_all.specs.TagSearch.{keys_told}
 use Rattle.std.proofs.lemmas.Grind.{flat_map-append}
 use Rattle.std.proofs.lemmas.List.{append-nil}
 use Rattle.tenant_sessions.proofs.SeenAlike.{second_same}

@@ -24,12 +24,13 @@ use Rattle.plain_store.proofs.Members.{in_map, all_at}
 use Rattle.std.proofs.lemmas.List.Sorted.{length_permutation}
 use Rattle.stamps.proofs.SortLemmas.{sorted_keys-IsPermutation}
 use Rattle.get_all.specs.declared.late.Late.{Late}
-use Rattle.get_all.specs.declared.finder.Finder.{Finder}
-use Rattle.get_all.specs.declared.finder.FindMove.{FindMove}
-use Rattle.get_all.specs.declared.finder.FindMove.TheVariants.{Wait as WaitFind, Begin as BeginFind, Ask as AskFind, List as ListFind, Restart as RestartFind, Ignored as IgnoredFind}
+use Rattle.get_all.specs.declared.tag_search.TagSearch.{TagSearch}
+use Rattle.get_all.specs.declared.reader.Reader.{Reader}
+use Rattle.get_all.specs.declared.tag_search.FindMove.{FindMove}
+use Rattle.get_all.specs.declared.tag_search.FindMove.TheVariants.{Wait as WaitFind, Begin as BeginFind, Ask as AskFind, List as ListFind, Restart as RestartFind, Ignored as IgnoredFind}
 use Rattle.get_all.specs.Reader.{ask_for, is_no_read, IsOrderly}
 use Rattle.get_all.specs.Reading.{has_ended as has_read, is_of_read}
-use Rattle.get_all.specs.Finder.{StandsFor, TakesFind, is_last as is_last_find, keys_told, told as told_find}
+use Rattle.get_all.specs.TagSearch.{StandsFor, TakesFind, is_last as is_last_find, keys_told, told as told_find}
 use Rattle.get_all.specs.Finding.{any_stray, has_ended, is_of_search}
 use Rattle.get_all.proofs.New.{new_orderly}
 use Rattle.tenant_sessions.specs.Moves.{Wait, Begins as BeginsRead, Ask, Ignored, Ended, Listed, Restart}
@@ -116,7 +117,7 @@ module _ (setup : Setup) (tag : Tag) (taken : List Message) (message : Message) 
       ∙ ap (λ keys. read_move setup keys more lists (Get k.0 k.1) message.reply) (keys_same get)
       ∙ ap (λ c. read_move setup (all_keys_found taken) more lists c message.reply) (sym k.2)
 
-  module _ (finder : Finder) (waiting : List Outgoing) (s : IsFinding setup tag taken finder waiting) (after : Finder) where
+  module _ (search : TagSearch) (lent : Reader) (waiting : List Outgoing) (s : IsFinding setup tag taken search lent waiting) (after : TagSearch) (reader : Reader) where
     abbrev answered : Bool
     answered = is_answered taken message.partition message.call
 
@@ -134,9 +135,9 @@ module _ (setup : Setup) (tag : Tag) (taken : List Message) (message : Message) 
               ∙ of_read setup (all_keys_found taken) taken message k.1 is.of_kind
         ]
 
-    turn : (answer : FindMove) → TakesFind setup tag taken message answer after → Turns taken message move (told_find setup answer) (has_ended setup) (is_last_find answer) (StandsFor setup tag after)
+    turn : (answer : FindMove) → TakesFind setup tag taken message answer after reader → Turns taken message move (told_find setup answer) (has_ended setup) (is_last_find answer) (StandsFor setup tag after reader)
     turn answer t =
-        turns taken message move (told_find setup answer) (has_ended setup) (is_last_find answer) (StandsFor setup tag after) (is_of_search setup taken message.partition message.call message.reply) of_search s.goes_on t.answered t.stands t.last
+        turns taken message move (told_find setup answer) (has_ended setup) (is_last_find answer) (StandsFor setup tag after reader) (is_of_search setup taken message.partition message.call message.reply) of_search s.goes_on t.answered t.stands t.last
 
     kinds_more : list_all (λ (m : Message). is_reply_of m.call m.reply) more ≡ true
     kinds_more =
@@ -157,8 +158,8 @@ module _ (setup : Setup) (tag : Tag) (taken : List Message) (message : Message) 
     abbrev part_with : Bool → List Key → List Message → List Outgoing
     part_with all keys replies = cond all (reading_calls setup keys replies) (found_calls setup tag)
 
-    pub find_waits : (left : List Outgoing) → TakesFind setup tag taken message WaitFind after → left ≡ filter (λ out. not (is_replaced_by message out)) waiting
-        → TakesMessage setup (Finds tag) taken message Wait (λ replies. IsFinding setup tag replies after left)
+    pub find_waits : (left : List Outgoing) → TakesFind setup tag taken message WaitFind after reader → left ≡ filter (λ out. not (is_replaced_by message out)) waiting
+        → TakesMessage setup (Finds tag) taken message Wait (λ replies. IsFinding setup tag replies after reader left)
     find_waits left t left_is =
         let got = turn WaitFind t in
         let stay = stays got.1 got.0 in
@@ -178,8 +179,8 @@ module _ (setup : Setup) (tag : Tag) (taken : List Message) (message : Message) 
                   (λ all. omega (arith, ap length keys, few), (λ i. part_with (found_stays k.0 i) (keys i) more) ∙ same ∙ sym (ap (λ b. part_with b (all_keys_found taken) taken) k.0))
             ]
 
-    pub find_asks : (parts : ℕ) (left : List Outgoing) (late : List Late) → setup.partitions ≡ parts → TakesFind setup tag taken message (AskFind late) after → (length (late_outs parts late) ≤ 64 → left ≡ late_outs parts late)
-        → TakesMessage setup (Finds tag) taken message Ask (λ replies. IsFinding setup tag replies after left)
+    pub find_asks : (parts : ℕ) (left : List Outgoing) (late : List Late) → setup.partitions ≡ parts → TakesFind setup tag taken message (AskFind late) after reader → (length (late_outs parts late) ≤ 64 → left ≡ late_outs parts late)
+        → TakesMessage setup (Finds tag) taken message Ask (λ replies. IsFinding setup tag replies after reader left)
     find_asks parts left late parts_are t new =
         let got = turn (AskFind late) t in
         elim (find_asked setup taken message tag is) [
@@ -193,10 +194,10 @@ module _ (setup : Setup) (tag : Tag) (taken : List Message) (message : Message) 
               (λ _. record { stands = got.2; goes_on = got.3 refl; few = λ _. omega (arith, ap length keys, few); of_kind = kinds_more; waits = all.1 }) all.0 all.2
         ]
 
-    pub find_begins : (parts : ℕ) (left : List Outgoing) (keys own : List Key) (parts_are : setup.partitions ≡ parts) → TakesFind setup tag taken message (BeginFind keys) after
+    pub find_begins : (parts : ℕ) (left : List Outgoing) (keys own : List Key) (parts_are : setup.partitions ≡ parts) → TakesFind setup tag taken message (BeginFind keys) after reader
         → length (keys_found message.reply) ≤ count_found message.reply → (length keys ≤ 16 → own ≡ keys)
         → (length (map (first_at setup parts parts_are) own) ≤ 64 → left ≡ map (first_at setup parts parts_are) own)
-        → TakesMessage setup (Finds tag) taken message BeginsRead (λ replies. IsFinding setup tag replies after left)
+        → TakesMessage setup (Finds tag) taken message BeginsRead (λ replies. IsFinding setup tag replies after reader left)
     find_begins parts left keys own parts_are t counts are new =
         let calls = first_calls setup keys in
         let got = turn (BeginFind keys) t in
@@ -233,25 +234,25 @@ module _ (setup : Setup) (tag : Tag) (taken : List Message) (message : Message) 
               absurd (subst (λ (m : PlainMove). ReadTells setup (all_keys_found taken) more message.call m) (sym (read_is k.1) ∙ got.1) tells)
         ]
 
-    pub find_lists : (items : List Reading) → TakesFind setup tag taken message (ListFind items) after → TakesMessage setup (Finds tag) taken message (Listed items) (λ replies. IsFinding setup tag replies after waiting)
+    pub find_lists : (items : List Reading) → TakesFind setup tag taken message (ListFind items) after reader → TakesMessage setup (Finds tag) taken message (Listed items) (λ replies. IsFinding setup tag replies after reader waiting)
     find_lists items t =
         let got = turn (ListFind items) t in
         moves_on setup (Finds tag) taken message _ (Lists items) got.0 got.1 (λ last. cc) refl (omega arith)
 
-    pub find_restarts : (key : Key) (floor : Stamp) → TakesFind setup tag taken message (RestartFind key floor) after
-        → TakesMessage setup (Finds tag) taken message (Restart key floor) (λ replies. IsFinding setup tag replies after waiting)
+    pub find_restarts : (key : Key) (floor : Stamp) → TakesFind setup tag taken message (RestartFind key floor) after reader
+        → TakesMessage setup (Finds tag) taken message (Restart key floor) (λ replies. IsFinding setup tag replies after reader waiting)
     find_restarts key floor t =
         let got = turn (RestartFind key floor) t in
         moves_on setup (Finds tag) taken message _ (Restarts key floor) got.0 got.1 (λ last. cc) refl (omega arith)
 
     -- an end without calls
-    pub find_fails : (left calls : List Outgoing) (why : Refusal) (answer : FindMove) → TakesFind setup tag taken message answer after → told_find setup answer ≡ Some (Fails why []) → calls ≡ []
-        → TakesMessage setup (Finds tag) taken message (Ended why calls) (λ replies. IsFinding setup tag replies after left)
+    pub find_fails : (left calls : List Outgoing) (why : Refusal) (answer : FindMove) → TakesFind setup tag taken message answer after reader → told_find setup answer ≡ Some (Fails why []) → calls ≡ []
+        → TakesMessage setup (Finds tag) taken message (Ended why calls) (λ replies. IsFinding setup tag replies after reader left)
     find_fails left calls why answer t says none =
-        let got = subst (λ (o : Option PlainMove). Turns taken message move o (has_ended setup) (is_last_find answer) (StandsFor setup tag after)) says (turn answer t) in
+        let got = subst (λ (o : Option PlainMove). Turns taken message move o (has_ended setup) (is_last_find answer) (StandsFor setup tag after reader)) says (turn answer t) in
         ends_so setup (Finds tag) taken message _ why [] calls got.0 got.1 none (omega arith)
 
-    pub find_ignores : TakesFind setup tag taken message IgnoredFind after → TakesMessage setup (Finds tag) taken message Ignored (λ replies. IsFinding setup tag replies after waiting)
+    pub find_ignores : TakesFind setup tag taken message IgnoredFind after reader → TakesMessage setup (Finds tag) taken message Ignored (λ replies. IsFinding setup tag replies after reader waiting)
     find_ignores t =
         let left = turn IgnoredFind t in
         is_ignored setup (Finds tag) taken message _ left.0 (record { stands = left.1; goes_on = s.goes_on; few = s.few; of_kind = s.of_kind; waits = s.waits })

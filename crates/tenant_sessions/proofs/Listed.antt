@@ -17,8 +17,9 @@ use Rattle.plain_store.specs.Rounds.{readings}
 use Rattle.plain_store.specs.Moves.{Move as PlainMove, Lists, find_move, read_move, is_answered}
 use Rattle.get_all.specs.Reading.{has_ended as has_read, is_of_read, IsUnfractured}
 use Rattle.get_all.specs.Finding.{has_ended, is_of_search, is_wanted, find_answer}
-use Rattle.get_all.specs.Finder.{keys_told, HoldsFound, StandsFor}
-use Rattle.get_all.specs.declared.finder.Finder.{Finder}
+use Rattle.get_all.specs.TagSearch.{keys_told, HoldsFound, StandsFor}
+use Rattle.get_all.specs.declared.tag_search.TagSearch.{TagSearch}
+use Rattle.get_all.specs.declared.reader.Reader.{Reader}
 use Rattle.get_all.proofs.Law.{read_told, some_same}
 use Rattle.get_all.proofs.SearchedKeys.{sorted_none}
 use Rattle.plain_store.proofs.SearchesAsk.{total_push}
@@ -28,7 +29,7 @@ use Rattle.tenant_sessions.proofs.FindMoves.{SearchTells, search_tells}
 
 -- ---- the search
 
-module _ (setup : Setup) (tag : Tag) (taken : List Message) (message : Message) (finder : Finder) (told : List Reading) where
+module _ (setup : Setup) (tag : Tag) (taken : List Message) (message : Message) (search : TagSearch) (reader : Reader) (told : List Reading) where
   abbrev after : List Message
   after = taken ++ message ∷ []
 
@@ -40,7 +41,7 @@ module _ (setup : Setup) (tag : Tag) (taken : List Message) (message : Message) 
         unfractured = subst P (sym none) (λ one other version among member got wrote. absurd among);
       }
 
-  by_found : HoldsFound setup finder taken → length (keys_found message.reply) ≤ count_found message.reply → (tag_asked : Tag) (found : Findings) → message.reply ≡ Some (ToFound found)
+  by_found : HoldsFound setup search reader taken → length (keys_found message.reply) ≤ count_found message.reply → (tag_asked : Tag) (found : Findings) → message.reply ≡ Some (ToFound found)
       → is_of_search setup taken message.partition (Found tag_asked) (Some (ToFound found)) ≡ true
       → find_move setup tag after message.partition (Found tag_asked) (Some (ToFound found)) ≡ Lists told → ListsWhole tag after told
   by_found h few tag_asked found f of_search lists =
@@ -54,7 +55,7 @@ module _ (setup : Setup) (tag : Tag) (taken : List Message) (message : Message) 
       let lengths : length (keys_told after) ≡ length (keys_told taken) + length (keys_found message.reply) = ap length keys ∙ length-append (keys_told taken) (keys_found message.reply) in
       nothing (sorted_none (keys_told after) (omega (arith, lengths, counted, zero, total, few))) parts.1
 
-  by_get : HoldsFound setup finder taken → has_ended setup taken ≡ false → (key : Key) (at : Option Stamp) (reply : ReadReply) → message.call ≡ Get key at → message.reply ≡ Some (ToGet reply)
+  by_get : HoldsFound setup search reader taken → has_ended setup taken ≡ false → (key : Key) (at : Option Stamp) (reply : ReadReply) → message.call ≡ Get key at → message.reply ≡ Some (ToGet reply)
       → is_of_search setup taken message.partition (Get key at) (Some (ToGet reply)) ≡ true → not (is_answered taken message.partition (Get key at)) ≡ true
       → find_move setup tag after message.partition (Get key at) (Some (ToGet reply)) ≡ Lists told → ListsWhole tag after told
   by_get h open_yet key at reply e f of_search new lists =
@@ -76,7 +77,7 @@ module _ (setup : Setup) (tag : Tag) (taken : List Message) (message : Message) 
         unfractured = subst P (sym same) whole.1;
       }
 
-  by_call : HoldsFound setup finder taken → has_ended setup taken ≡ false → length (keys_found message.reply) ≤ count_found message.reply
+  by_call : HoldsFound setup search reader taken → has_ended setup taken ≡ false → length (keys_found message.reply) ≤ count_found message.reply
       → (call : Call) (reply : Option Reply) → message.call ≡ call → message.reply ≡ reply
       → is_of_search setup taken message.partition call reply ≡ true → not (is_answered taken message.partition call) ≡ true
       → find_move setup tag after message.partition call reply ≡ Lists told → ListsWhole tag after told
@@ -87,9 +88,9 @@ module _ (setup : Setup) (tag : Tag) (taken : List Message) (message : Message) 
   by_call h open_yet few call reply e f of_search new lists = cc
 
 -- the finder's list is what the replies showed of the keys that were reported, of it what carries the tag, and unfractured
-pub lists_whole : (setup : Setup) (tag : Tag) (taken : List Message) (message : Message) (finder : Finder) (told : List Reading) → StandsFor setup tag finder taken
+pub lists_whole : (setup : Setup) (tag : Tag) (taken : List Message) (message : Message) (search : TagSearch) (reader : Reader) (told : List Reading) → StandsFor setup tag search reader taken
     → length (keys_found message.reply) ≤ count_found message.reply → find_answer setup tag taken message ≡ Some (Lists told) → ListsWhole tag (taken ++ message ∷ []) told
-lists_whole setup tag taken message finder told s few answered = go (is_wanted setup taken message) refl answered
+lists_whole setup tag taken message search reader told s few answered = go (is_wanted setup taken message) refl answered
   where
     go : (b : Bool) → is_wanted setup taken message ≡ b
         → cond b (Some (find_move setup tag (taken ++ message ∷ []) message.partition message.call message.reply)) None ≡ Some (Lists told) → ListsWhole tag (taken ++ message ∷ []) told
@@ -98,4 +99,4 @@ lists_whole setup tag taken message finder told s few answered = go (is_wanted s
         let wanted = and_parts (not (has_ended setup taken)) _ e in
         let open_yet = not-true (has_ended setup taken) wanted.0 in
         let asked = and_parts (is_of_search setup taken message.partition message.call message.reply) (not (is_answered taken message.partition message.call)) wanted.1 in
-        by_call setup tag taken message finder told (s.holds open_yet) open_yet few message.call message.reply refl refl asked.0 asked.1 (some_same _ _ h)
+        by_call setup tag taken message search reader told (s.holds open_yet) open_yet few message.call message.reply refl refl asked.0 asked.1 (some_same _ _ h)

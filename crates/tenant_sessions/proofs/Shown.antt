@@ -20,10 +20,10 @@ use Rattle.put_all.specs.declared.writer.WriteMove.{WriteMove}
 use Rattle.put_all.specs.declared.writer.WriteMove.TheVariants as wrote
 use Rattle.put_all.specs.Writer.{StandsFor as StandsForWrite, TakesWrite, told as told_written}
 use Rattle.put_all.specs.Writing.{is_wanted as is_wanted_written, write_answer, IsPrepared, IsCommitted}
-use Rattle.get_all.specs.declared.finder.Finder.{Finder}
-use Rattle.get_all.specs.declared.finder.FindMove.{FindMove}
-use Rattle.get_all.specs.declared.finder.FindMove.TheVariants as found
-use Rattle.get_all.specs.Finder.{StandsFor as StandsForFind, TakesFind, told as told_found}
+use Rattle.get_all.specs.declared.tag_search.TagSearch.{TagSearch}
+use Rattle.get_all.specs.declared.tag_search.FindMove.{FindMove}
+use Rattle.get_all.specs.declared.tag_search.FindMove.TheVariants as found
+use Rattle.get_all.specs.TagSearch.{StandsFor as StandsForFind, TakesFind, told as told_found}
 use Rattle.get_all.specs.Finding.{is_wanted as is_wanted_found, find_answer}
 use Rattle.get_all.specs.declared.reader.Reader.{Reader}
 use Rattle.get_all.specs.declared.reader.ReadMove.{ReadMove}
@@ -88,7 +88,7 @@ none_shown setup request running stands = go request running.machine stands.runs
     go (Writes stamp items) _ runs = absurd runs
     go (Gets keys) (MachineRead reader) runs = runs.stands
     go (Gets keys) _ runs = absurd runs
-    go (Finds tag) (MachineFind finder) runs = runs.stands
+    go (Finds tag) (MachineFind search reader) runs = runs.stands
     go (Finds tag) _ runs = absurd runs
 
 -- a reply to a GET of round one, or of round two
@@ -223,26 +223,26 @@ decides_none found.TooMany = tt
 decides_none found.Torn = tt
 decides_none found.Ignored = tt
 
-module _ (setup : Setup) (tag : Tag) (taken : List Message) (message : Message) (before finder : Finder) (answer : FindMove) (s : StandsForFind setup tag before taken) (few : length (keys_found message.reply) ≤ count_found message.reply) where
-  pub found_as : (meant : Message) → IsTakenFor message meant → TakesFind setup tag taken meant answer finder → Shows setup (Finds tag) taken message (found_move answer) (StandsForFind setup tag finder)
+module _ (setup : Setup) (tag : Tag) (taken : List Message) (message : Message) (before : TagSearch) (lent : Reader) (search : TagSearch) (reader : Reader) (answer : FindMove) (s : StandsForFind setup tag before lent taken) (few : length (keys_found message.reply) ≤ count_found message.reply) where
+  pub found_as : (meant : Message) → IsTakenFor message meant → TakesFind setup tag taken meant answer search reader → Shows setup (Finds tag) taken message (found_move answer) (StandsForFind setup tag search reader)
   found_as meant same takes = go (is_wanted_found setup taken meant) takes.answered takes.stands
     where
       lists : (a : FindMove) → told_found setup a ≡ find_answer setup tag taken meant → IfLists (found_move a) (IsFindersAnswer setup tag taken meant)
       lists (found.List items) answered =
           let P : Option Reply → Type 0 = λ r. length (keys_found r) ≤ count_found r in
-          record { answers = sym answered; whole = lists_whole setup tag taken meant before items s (subst P (sym same.reply) few) (sym answered) }
+          record { answers = sym answered; whole = lists_whole setup tag taken meant before lent items s (subst P (sym same.reply) few) (sym answered) }
       lists _ answered = tt
 
-      go : (b : Bool) → told_found setup answer ≡ cond b (Some (find_move setup tag (taken ++ meant ∷ []) meant.partition meant.call meant.reply)) None → StandsForFind setup tag finder (cond b (taken ++ meant ∷ []) taken)
-          → Shows setup (Finds tag) taken message (found_move answer) (StandsForFind setup tag finder)
+      go : (b : Bool) → told_found setup answer ≡ cond b (Some (find_move setup tag (taken ++ meant ∷ []) meant.partition meant.call meant.reply)) None → StandsForFind setup tag search reader (cond b (taken ++ meant ∷ []) taken)
+          → Shows setup (Finds tag) taken message (found_move answer) (StandsForFind setup tag search reader)
       go false none stands = inl (ap found_move (none_told_found setup answer none), stands)
       go true some stands = inr (record { meant = meant; same = same; stands = stands; told = lists answer takes.answered; decided = decides_none answer })
 
   -- a reply to a GET of its read, in round one or in round two
   pub offered_found : (key : Key) (reply : ReadReply) (at : Option Stamp) → message.call ≡ Get key at → message.reply ≡ Some (ToGet reply)
-      → (round_of message.call ≡ 1 → (m : Message) → IsFirst key reply m → TakesFind setup tag taken m answer finder)
-      → (round_of message.call ≡ 2 → (m : Message) → IsSecond (all_keys_found taken) taken key reply m → TakesFind setup tag taken m answer finder)
-      → Shows setup (Finds tag) taken message (found_move answer) (StandsForFind setup tag finder)
+      → (round_of message.call ≡ 1 → (m : Message) → IsFirst key reply m → TakesFind setup tag taken m answer search reader)
+      → (round_of message.call ≡ 2 → (m : Message) → IsSecond (all_keys_found taken) taken key reply m → TakesFind setup tag taken m answer search reader)
+      → Shows setup (Finds tag) taken message (found_move answer) (StandsForFind setup tag search reader)
   offered_found key reply None call to first second = found_as message (as_it_is message) (first (ap round_of call) message (record { call = call; replied = to }))
   offered_found key reply (Some stamp) call to first second =
       let meant = as_second (all_keys_found taken) taken key message in
@@ -266,8 +266,8 @@ pub shown_read : (setup : Setup) (request : Intent) (taken : List Message) (mess
 shown_read setup (Gets keys) taken message move reader after shows has = shows keys has
 shown_read setup _ taken message move reader after shows has = absurd has
 
-pub shown_found : (setup : Setup) (request : Intent) (taken : List Message) (message : Message) (move : Move) (finder after : Finder)
-    → ((tag : Tag) → StandsForFind setup tag finder taken → Shows setup (Finds tag) taken message move (StandsForFind setup tag after))
-    → HasTaken setup request taken (MachineFind finder) → Shows setup request taken message move (λ replies. HasTaken setup request replies (MachineFind after))
-shown_found setup (Finds tag) taken message move finder after shows has = shows tag has
-shown_found setup _ taken message move finder after shows has = absurd has
+pub shown_found : (setup : Setup) (request : Intent) (taken : List Message) (message : Message) (move : Move) (search after : TagSearch) (reader next : Reader)
+    → ((tag : Tag) → StandsForFind setup tag search reader taken → Shows setup (Finds tag) taken message move (StandsForFind setup tag after next))
+    → HasTaken setup request taken (MachineFind search reader) → Shows setup request taken message move (λ replies. HasTaken setup request replies (MachineFind after next))
+shown_found setup (Finds tag) taken message move search after reader next shows has = shows tag has
+shown_found setup _ taken message move search after reader next shows has = absurd has

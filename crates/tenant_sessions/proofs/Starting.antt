@@ -20,9 +20,9 @@ use Rattle.put_all.specs.declared.writer.Writer.{Writer}
 use Rattle.put_all.specs.Writer.{StandsFor as StandsForWrite}
 use Rattle.put_all.proofs.Steps.{not_ended}
 use Rattle.get_all.specs.declared.reader.Reader.{Reader}
-use Rattle.get_all.specs.declared.finder.Finder.{Finder}
+use Rattle.get_all.specs.declared.tag_search.TagSearch.{TagSearch}
 use Rattle.get_all.specs.Reader.{is_no_read, StandsFor as StandsForRead}
-use Rattle.get_all.specs.Finder.{StandsFor as StandsForFind}
+use Rattle.get_all.specs.TagSearch.{StandsFor as StandsForFind}
 use Rattle.get_all.specs.Reading.{has_ended as has_read}
 use Rattle.get_all.proofs.New.{not_ended as not_read}
 use Rattle.tenant_sessions.specs.Running.{is_past, waiting_calls, IsWriting, IsReading, IsFinding}
@@ -96,10 +96,10 @@ module _ (setup : Setup) (parts : ℕ) (is : setup.partitions ≡ parts) where
       let all = waits_first setup (Gets keys) (calls_of setup false (Gets keys) []) refl in
       (record { stands = stands [] refl; goes_on = not_read [] refl keys good.not_empty; few = good.at_most; waits = new room ∙ firsts_are keys ∙ sym (reads_first setup keys good.not_empty) ∙ sym all }, all)
 
-  pub find_starts : (tag : Tag) (f : Finder) (left : List Outgoing) → IsParts parts → StandsForFind setup tag f []
+  pub find_starts : (tag : Tag) (f : TagSearch) (r : Reader) (left : List Outgoing) → IsParts parts → StandsForFind setup tag f r []
       → (length (map (found_at tag) (below parts)) ≤ 64 → left ≡ map (found_at tag) (below parts))
-      → IsFinding setup tag [] f left × (waiting_calls setup (Finds tag) [] ≡ calls_of setup false (Finds tag) [])
-  find_starts tag f left range stands new =
+      → IsFinding setup tag [] f r left × (waiting_calls setup (Finds tag) [] ≡ calls_of setup false (Finds tag) [])
+  find_starts tag f r left range stands new =
       let some : 0 < setup.partitions = omega (arith, is, range.positive) in
       let none : all_found setup [] ≡ false = none_told setup.partitions some in
       let room : length (map (found_at tag) (below parts)) ≤ 64 = omega (arith, length-map (below parts) (found_at tag), length-below parts, range.small) in

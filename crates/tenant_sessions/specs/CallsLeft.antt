@@ -4,7 +4,7 @@ use Rattle.stamps.specs.Limits.{max_found}
 use Rattle.plain_store.specs.History.{Intent, Writes, Gets, Finds}
 use Rattle.put_all.specs.Writer.{calls_left as write_left}
 use Rattle.get_all.specs.Reader.{calls_left as read_left}
-use Rattle.get_all.specs.Finder.{calls_left as find_left}
+use Rattle.get_all.specs.TagSearch.{calls_left as find_left}
 use Rattle.tenant_sessions.specs.Holding.{Machine, Write, Read, Find}
 use Rattle.tenant_sessions.specs.Moves.{Move, sends_calls, ending}
 use Rattle.tenant_sessions.specs.declared.running.Running.{Running}
@@ -12,7 +12,7 @@ use Rattle.tenant_sessions.specs.declared.running.Running.{Running}
 abbrev pub machine_left : Machine → ℕ
 machine_left (Write stamp writer) = write_left writer
 machine_left (Read reader) = read_left reader
-machine_left (Find finder) = find_left finder
+machine_left (Find search reader) = find_left search reader
 
 -- how many what runs may still ask for, besides those that it waits for
 abbrev pub calls_left : Option Running → ℕ

@@ -22,8 +22,8 @@ use Rattle.put_all.specs.Writing.{has_ended as has_written}
 use Rattle.get_all.specs.declared.reader.Reader.{Reader}
 use Rattle.get_all.specs.Reader.{StandsFor as StandsForRead}
 use Rattle.get_all.specs.Reading.{has_ended as has_read}
-use Rattle.get_all.specs.declared.finder.Finder.{Finder}
-use Rattle.get_all.specs.Finder.{StandsFor as StandsForFind}
+use Rattle.get_all.specs.declared.tag_search.TagSearch.{TagSearch}
+use Rattle.get_all.specs.TagSearch.{StandsFor as StandsForFind}
 use Rattle.get_all.specs.Finding.{has_ended as has_found}
 use Rattle.tenant_sessions.specs.Moves.{Move}
 use Rattle.tenant_sessions.specs.Moves.{Ignored}
@@ -99,9 +99,9 @@ pub record IsReading (setup : Setup) (keys : List Key) (taken : List Message) (r
   pub waits : waiting ≡ waiting_calls setup (Gets keys) taken
 
 -- a search. It reads no more than 16 keys
-pub record IsFinding (setup : Setup) (tag : Tag) (taken : List Message) (finder : Finder)
+pub record IsFinding (setup : Setup) (tag : Tag) (taken : List Message) (search : TagSearch) (reader : Reader)
     (waiting : List Outgoing) : Type 0 where
-  pub stands : StandsForFind setup tag finder taken
+  pub stands : StandsForFind setup tag search reader taken
   pub goes_on : has_found setup taken ≡ false
   pub few : all_found setup taken ≡ true → length (all_keys_found taken) ≤ 16
   pub of_kind : list_all (λ message. is_reply_of message.call message.reply) taken ≡ true
@@ -111,7 +111,7 @@ abbrev pub RunsAs : Setup → Intent → List Message → Machine → List Outgo
 RunsAs setup (Writes stamp items) taken (Write own writer) waiting =
     (own ≡ stamp) × IsWriting setup stamp items taken writer waiting
 RunsAs setup (Gets keys) taken (Read reader) waiting = IsReading setup keys taken reader waiting
-RunsAs setup (Finds tag) taken (Find finder) waiting = IsFinding setup tag taken finder waiting
+RunsAs setup (Finds tag) taken (Find search reader) waiting = IsFinding setup tag taken search reader waiting
 RunsAs setup request taken machine waiting = ⊥
 
 pub record RunningStands (setup : Setup) (request : Intent) (taken : List Message) (running : Running) : Type 0 where

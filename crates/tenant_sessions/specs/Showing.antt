@@ -17,12 +17,12 @@ use Rattle.put_all.specs.declared.writer.WriteMove.{WriteMove}
 use Rattle.put_all.specs.declared.writer.WriteMove.TheVariants.{Decide as DecideWrite, Done as DoneWrite, Ignored as IgnoredWrite}
 use Rattle.put_all.specs.Writer.{StandsFor as StandsForWrite}
 use Rattle.put_all.specs.Writing.{write_answer}
-use Rattle.get_all.specs.declared.finder.FindMove.{FindMove}
-use Rattle.get_all.specs.declared.finder.FindMove.TheVariants as found
+use Rattle.get_all.specs.declared.tag_search.FindMove.{FindMove}
+use Rattle.get_all.specs.declared.tag_search.FindMove.TheVariants as found
 use Rattle.get_all.specs.declared.reader.Reader.{Reader}
 use Rattle.get_all.specs.declared.reader.ReadMove.{ReadMove}
 use Rattle.get_all.specs.declared.reader.ReadMove.TheVariants.{Ignored as IgnoredRead}
-use Rattle.get_all.specs.Finder.{StandsFor as StandsForFind}
+use Rattle.get_all.specs.TagSearch.{StandsFor as StandsForFind}
 use Rattle.get_all.specs.Finding.{find_answer}
 use Rattle.get_all.specs.Reader.{StandsFor, IfRead}
 use Rattle.get_all.specs.Reading.{read_answer, IsUnfractured, ReadsWhole}
@@ -35,19 +35,19 @@ use Rattle.tenant_sessions.specs.declared.running.Running.{Running}
 abbrev pub HasFound : Setup → Tag → List Message → Machine → Type 0
 HasFound setup tag taken (Write stamp writer) = ⊥
 HasFound setup tag taken (ReadMachine reader) = ⊥
-HasFound setup tag taken (Find finder) = StandsForFind setup tag finder taken
+HasFound setup tag taken (Find search reader) = StandsForFind setup tag search reader taken
 
 -- a read of these keys that did
 abbrev pub HasRead : List Key → List Message → Machine → Type 0
 HasRead keys taken (Write stamp writer) = ⊥
 HasRead keys taken (ReadMachine reader) = StandsFor keys reader taken
-HasRead keys taken (Find finder) = ⊥
+HasRead keys taken (Find search reader) = ⊥
 
 -- a write of these items under this stamp that did
 abbrev pub HasWritten : Setup → Stamp → List Item → List Message → Machine → Type 0
 HasWritten setup stamp items taken (Write own writer) = (own ≡ stamp) × StandsForWrite setup stamp items writer taken
 HasWritten setup stamp items taken (ReadMachine reader) = ⊥
-HasWritten setup stamp items taken (Find finder) = ⊥
+HasWritten setup stamp items taken (Find search reader) = ⊥
 
 -- so of what was asked
 abbrev pub HasTaken : Setup → Intent → List Message → Machine → Type 0

@@ -9,7 +9,7 @@ use crate::running_read::take_read;
 use crate::running_search::take_found;
 use crate::running_write::take_written;
 use crate::waiting::Waiting;
-use get_all::Finder;
+use get_all::{Reader, TagSearch};
 use plain_store::{Message, Readings};
 use put_all::Writer;
 use stamps::{Item, Key, Stamp, Tag, WriteSet};
@@ -34,8 +34,10 @@ pub(crate) struct Running {
     /// The stamp of a write.
     stamp: Stamp,
     writer: Writer,
-    /// A search's; a read has its reader alone.
-    finder: Finder,
+    /// A read's, and that which a search borrows.
+    reader: Reader,
+    /// A search's.
+    search: TagSearch,
     waiting: Waiting,
     parts: u32,
 }
@@ -46,7 +48,7 @@ impl Model for Running {
 
     ghost Value = { RunningMachine };
 
-    ghost view = { λ r. record { machine = machine_of r.kind r.stamp r.writer r.finder; waiting = r.waiting; parts = r.parts } };
+    ghost view = { λ r. record { machine = machine_of r.kind r.stamp r.writer r.reader r.search; waiting = r.waiting; parts = r.parts } };
 
     ghost invariant = { λ r. IsParts r.parts };
 }
@@ -72,7 +74,8 @@ impl Running {
             kind: TransactionKind::Find,
             stamp: Stamp::ZERO,
             writer: Writer::idle(),
-            finder: Finder::new(tag, 1),
+            reader: Reader::idle(),
+            search: TagSearch::new(tag, 1),
             waiting: Waiting::none(tag),
             parts: 1,
         }
@@ -112,7 +115,7 @@ impl Running {
         ensures { (setup : Setup) → setup.partitions ≡ parts → MayBegin (Gets keys.now)
             → Starts setup (Gets keys.now) self.new }
     {
-        if !self.finder.read_alone(keys) {
+        if !self.reader.reset(keys) {
             return;
         }
         self.kind = TransactionKind::Get;
@@ -125,7 +128,7 @@ impl Running {
         requires { IsParts parts }
         ensures { (setup : Setup) → setup.partitions ≡ parts → Starts setup (Finds tag) self.new }
     {
-        self.finder.reset(tag, parts);
+        self.search.reset(tag, parts);
         self.kind = TransactionKind::Find;
         self.waiting.search(tag, parts);
         self.parts = parts;
@@ -156,7 +159,7 @@ impl Running {
                 kind,
             ),
             TransactionKind::Get => take_read(
-                &mut self.finder,
+                &mut self.reader,
                 &mut self.waiting,
                 self.parts,
                 message,
@@ -164,7 +167,8 @@ impl Running {
                 kind,
             ),
             TransactionKind::Find => take_found(
-                &mut self.finder,
+                &mut self.search,
+                &mut self.reader,
                 &mut self.waiting,
                 self.parts,
                 message,

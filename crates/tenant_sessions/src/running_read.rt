@@ -16,69 +16,63 @@ ghost use Rattle.tenant_sessions.specs.Showing.{Offers, Shows};
 
 use crate::waiting::Waiting;
 use crate::{Discards, MoveKind};
-use get_all::{Finder, ReadMoveKind};
+use get_all::{ReadMoveKind, Reader};
 use plain_store::{Call, Message, Readings, Refusal, Reply};
 
-/// Offers a reply to the finder's reader.
-fn offer(finder: &mut Finder, message: &Message) -> ReadMoveKind
+/// Offers a reply to the reader.
+fn offer(reader: &mut Reader, message: &Message) -> ReadMoveKind
     ensures shown { (keys : List Key) (taken : List Message)
-        → StandsFor keys finder.old.reader taken
-        → Offers keys taken message.now (told_by finder.new.reader result) finder.new.reader }
+        → StandsFor keys reader.old taken
+        → Offers keys taken message.now (told_by reader.new result) reader.new }
     ensures takes { (setup : Setup) (keys : List Key) (taken : List Message)
-        → StandsFor keys finder.old.reader taken
+        → StandsFor keys reader.old taken
         → IsReplyTo setup (Gets keys) taken message.now
         → TakesRead keys taken message.now
-        (told_by finder.new.reader result) finder.new.reader }
-    ensures few { calls_asked (told_by finder.new.reader result) + calls_left finder.new.reader
-        ≤ calls_left finder.old.reader }
+        (told_by reader.new result) reader.new }
+    ensures few { calls_asked (told_by reader.new result) + calls_left reader.new
+        ≤ calls_left reader.old }
 {
     match &message.reply {
-        Some(reply) => offer_reply(finder, message, reply),
+        Some(reply) => offer_reply(reader, message, reply),
         None => ReadMoveKind::Ignored,
     }
 }
 
-/// Offers the message's reply to the finder's reader.
-fn offer_reply(finder: &mut Finder, message: &Message, reply: &Reply) -> ReadMoveKind
+/// Offers the message's reply to the reader.
+fn offer_reply(reader: &mut Reader, message: &Message, reply: &Reply) -> ReadMoveKind
     ensures shown { (keys : List Key) (taken : List Message) → message.now.reply ≡ Some reply.now
-        → StandsFor keys finder.old.reader taken
-        → Offers keys taken message.now (told_by finder.new.reader result) finder.new.reader }
+        → StandsFor keys reader.old taken
+        → Offers keys taken message.now (told_by reader.new result) reader.new }
     ensures takes { (setup : Setup) (keys : List Key) (taken : List Message)
-        → message.now.reply ≡ Some reply.now → StandsFor keys finder.old.reader taken
+        → message.now.reply ≡ Some reply.now → StandsFor keys reader.old taken
         → IsReplyTo setup (Gets keys) taken message.now
         → TakesRead keys taken message.now
-        (told_by finder.new.reader result) finder.new.reader }
-    ensures few { calls_asked (told_by finder.new.reader result) + calls_left finder.new.reader
-        ≤ calls_left finder.old.reader }
+        (told_by reader.new result) reader.new }
+    ensures few { calls_asked (told_by reader.new result) + calls_left reader.new
+        ≤ calls_left reader.old }
 {
     match (&message.call, reply) {
-        (Call::Get(key, _), Reply::Get(reply)) => finder.take_kind_alone(
-            key,
-            message.round(),
-            reply,
-        ),
+        (Call::Get(key, _), Reply::Get(reply)) => reader.take_kind(key, message.round(), reply),
         _ => ReadMoveKind::Ignored,
     }
 }
 
-/// Waits for the second round of the read to which the finder lends its reader. It stands alone, so that no other reply has
-/// room for a part.
+/// Waits for the second round of the read. It stands alone, so that no other reply has room for a part.
 #[cold]
 #[inline(never)]
-fn await_late(finder: &Finder, waiting: &mut Waiting, parts: u32)
+fn await_late(reader: &Reader, waiting: &mut Waiting, parts: u32)
     requires { IsParts parts }
-    ensures awaits { let late = late_by finder.now.reader.slots in
+    ensures awaits { let late = late_by reader.now.slots in
         Awaits (batch_calls parts (Second late)) (length late) waiting.new }
     ensures gets { All (λ out. IsGet out.call) waiting.new }
 {
-    let late = finder.late_keys_alone();
+    let late = reader.late_keys();
     waiting.read_late(late, parts);
 }
 
-/// Takes a reply to one of the calls of the read to which the finder lends its reader, and puts what it
-/// gave, and what it does, into the caller's buffers.
+/// Takes a reply to one of the calls of the read, and puts what it gave, and what it does, into the caller's buffers.
 pub(crate) fn take_read(
-    finder: &mut Finder,
+    reader: &mut Reader,
     waiting: &mut Waiting,
     parts: u32,
     message: &Message,
@@ -87,29 +81,29 @@ pub(crate) fn take_read(
 )
     requires { IsParts parts }
     ensures shown { (setup : Setup) (keys : List Key) (taken : List Message)
-        → StandsFor keys finder.old.reader taken
+        → StandsFor keys reader.old taken
         → Shows setup (Gets keys) taken message.now (moved kind.new readings.new)
-        (StandsFor keys finder.new.reader) }
+        (StandsFor keys reader.new) }
     ensures takes { (setup : Setup) (keys : List Key) (taken : List Message)
-        → setup.partitions ≡ parts → IsReading setup keys taken finder.old.reader waiting.old
+        → setup.partitions ≡ parts → IsReading setup keys taken reader.old waiting.old
         → IsReplyTo setup (Gets keys) taken message.now
         → TakesMessage setup (Gets keys) taken message.now (moved kind.new readings.new)
-        (λ replies. IsReading setup keys replies finder.new.reader waiting.new) }
+        (λ replies. IsReading setup keys replies reader.new waiting.new) }
     ensures calls { calls_sent (moved kind.new readings.new) (length waiting.new)
-        + calls_left finder.new.reader ≤ calls_left finder.old.reader }
+        + calls_left reader.new ≤ calls_left reader.old }
     ensures sent { SendsSo (moved kind.new readings.new) waiting.new }
 {
-    match offer(finder, message) {
+    match offer(reader, message) {
         ReadMoveKind::Wait => {
             waiting.forget(message);
             *kind = MoveKind::Wait;
         }
         ReadMoveKind::Ask => {
-            await_late(finder, waiting, parts);
+            await_late(reader, waiting, parts);
             *kind = MoveKind::Ask;
         }
         ReadMoveKind::Read => {
-            finder.readings_alone_into(readings);
+            reader.readings_into(readings);
             *kind = MoveKind::Read;
         }
         ReadMoveKind::Restart(key, floor) => *kind = MoveKind::Restart(key, floor),

@@ -5,7 +5,7 @@ ghost use Rattle.plain_store.specs.declared.message.Message.{Message};
 ghost use Rattle.plain_store.specs.Finding.{keys_found, count_found};
 ghost use Rattle.plain_store.specs.History.{Finds};
 ghost use Rattle.plain_store.specs.Words.{Tag, Setup};
-ghost use Rattle.get_all.specs.Finder.{StandsFor, TakesFind, calls_left, calls_asked};
+ghost use Rattle.get_all.specs.TagSearch.{StandsFor, TakesFind, calls_left, calls_asked};
 ghost use Rattle.tenant_sessions.specs.CallsLeft.{calls_sent};
 ghost use Rattle.tenant_sessions.specs.Moves.{moved};
 ghost use Rattle.tenant_sessions.specs.Running.{IsReplyTo, IsFinding, TakesMessage};
@@ -14,7 +14,7 @@ ghost use Rattle.tenant_sessions.specs.Showing.{found_move, Shows};
 
 use crate::waiting::Waiting;
 use crate::{Discards, MoveKind};
-use get_all::{FindMove, Finder};
+use get_all::{FindMove, Reader, TagSearch};
 use plain_store::{Call, Message, Readings, Refusal, Reply};
 
 /// A partition reports no more keys than it counts: this only reads them.
@@ -26,42 +26,53 @@ fn read_keys(reply: &Reply)
     }
 }
 
-/// Offers a reply to the finder.
-fn offer(finder: &mut Finder, message: &Message) -> FindMove
+/// Offers a reply to the search.
+fn offer(search: &mut TagSearch, reader: &mut Reader, message: &Message) -> FindMove
     ensures few { length (keys_found message.now.reply) ≤ count_found message.now.reply }
     ensures shown { (setup : Setup) (tag : Tag) (taken : List Message)
-        → StandsFor setup tag finder.old taken
+        → StandsFor setup tag search.old reader.old taken
         → Shows setup (Finds tag) taken message.now (found_move result)
-        (StandsFor setup tag finder.new) }
+        (StandsFor setup tag search.new reader.new) }
     ensures takes { (setup : Setup) (tag : Tag) (taken : List Message)
-        → StandsFor setup tag finder.old taken
+        → StandsFor setup tag search.old reader.old taken
         → IsReplyTo setup (Finds tag) taken message.now
-        → TakesFind setup tag taken message.now result finder.new }
-    ensures calls { calls_asked result + calls_left finder.new ≤ calls_left finder.old }
+        → TakesFind setup tag taken message.now result search.new reader.new }
+    ensures calls { calls_asked result + calls_left search.new reader.new
+        ≤ calls_left search.old reader.old }
 {
     match &message.reply {
-        Some(reply) => offer_reply(finder, message, reply),
+        Some(reply) => offer_reply(search, reader, message, reply),
         None => FindMove::Ignored,
     }
 }
 
-/// Offers the message's reply to the finder.
-fn offer_reply(finder: &mut Finder, message: &Message, reply: &Reply) -> FindMove
+/// Offers the message's reply to the search.
+fn offer_reply(
+    search: &mut TagSearch,
+    reader: &mut Reader,
+    message: &Message,
+    reply: &Reply,
+) -> FindMove
     ensures few { length (keys_found (Some reply.now)) ≤ count_found (Some reply.now) }
     ensures shown { (setup : Setup) (tag : Tag) (taken : List Message)
-        → message.now.reply ≡ Some reply.now → StandsFor setup tag finder.old taken
+        → message.now.reply ≡ Some reply.now → StandsFor setup tag search.old reader.old taken
         → Shows setup (Finds tag) taken message.now (found_move result)
-        (StandsFor setup tag finder.new) }
+        (StandsFor setup tag search.new reader.new) }
     ensures takes { (setup : Setup) (tag : Tag) (taken : List Message)
-        → message.now.reply ≡ Some reply.now → StandsFor setup tag finder.old taken
+        → message.now.reply ≡ Some reply.now → StandsFor setup tag search.old reader.old taken
         → IsReplyTo setup (Finds tag) taken message.now
-        → TakesFind setup tag taken message.now result finder.new }
-    ensures calls { calls_asked result + calls_left finder.new ≤ calls_left finder.old }
+        → TakesFind setup tag taken message.now result search.new reader.new }
+    ensures calls { calls_asked result + calls_left search.new reader.new
+        ≤ calls_left search.old reader.old }
 {
     read_keys(reply);
     match (&message.call, reply) {
-        (Call::Found(_), Reply::Found(found)) => finder.take_found(message.partition, found),
-        (Call::Get(key, _), Reply::Get(reply)) => finder.take(key, message.round(), reply),
+        (Call::Found(_), Reply::Found(found)) => search.take_found(
+            reader,
+            message.partition,
+            found,
+        ),
+        (Call::Get(key, _), Reply::Get(reply)) => search.take(reader, key, message.round(), reply),
         _ => FindMove::Ignored,
     }
 }
@@ -70,7 +81,8 @@ fn offer_reply(finder: &mut Finder, message: &Message, reply: &Reply) -> FindMov
 #[cold]
 #[inline(never)]
 pub(crate) fn take_found(
-    finder: &mut Finder,
+    search: &mut TagSearch,
+    reader: &mut Reader,
     waiting: &mut Waiting,
     parts: u32,
     message: &Message,
@@ -79,19 +91,19 @@ pub(crate) fn take_found(
 )
     requires { IsParts parts }
     ensures shown { (setup : Setup) (tag : Tag) (taken : List Message)
-        → StandsFor setup tag finder.old taken
+        → StandsFor setup tag search.old reader.old taken
         → Shows setup (Finds tag) taken message.now (moved kind.new readings.new)
-        (StandsFor setup tag finder.new) }
+        (StandsFor setup tag search.new reader.new) }
     ensures takes { (setup : Setup) (tag : Tag) (taken : List Message) → setup.partitions ≡ parts
-        → IsFinding setup tag taken finder.old waiting.old
+        → IsFinding setup tag taken search.old reader.old waiting.old
         → IsReplyTo setup (Finds tag) taken message.now
         → TakesMessage setup (Finds tag) taken message.now (moved kind.new readings.new)
-        (λ replies. IsFinding setup tag replies finder.new waiting.new) }
+        (λ replies. IsFinding setup tag replies search.new reader.new waiting.new) }
     ensures calls { calls_sent (moved kind.new readings.new) (length waiting.new)
-        + calls_left finder.new ≤ calls_left finder.old }
+        + calls_left search.new reader.new ≤ calls_left search.old reader.old }
     ensures sent { SendsSo (moved kind.new readings.new) waiting.new }
 {
-    match offer(finder, message) {
+    match offer(search, reader, message) {
         FindMove::Wait => {
             waiting.forget(message);
             *kind = MoveKind::Wait;

@@ -62,13 +62,13 @@ few_so is few = subst (λ (r : Option Reply). length (keys_found r) ≤ count_fo
 pub returns-in-Found-Found-clause-shown : goal.returns-in-Found-Found-clause-shown
 returns-in-Found-Found-clause-shown c = λ setup tag taken replied s.
     let message = c.args.message.now in
-    found_as setup tag taken message c.args.finder.now c.take_found.new.self _ s (few_so replied c.read_keys.ensures) message (as_it_is message)
+    found_as setup tag taken message c.args.search.now c.args.reader.now c.take_found.new.self c.take_found.new.reader _ s (few_so replied c.read_keys.ensures) message (as_it_is message)
     (c.take_found.ensures.takes setup tag taken message s
     (record { tag = c.in-Found-Found.field-0-0; call = c.in-Found-Found.is-0; at = refl; replied = replied ∙ ap Some c.in-Found-Found.is-1 }))
 
 pub returns-in-Get-Get-clause-shown : goal.returns-in-Get-Get-clause-shown
 returns-in-Get-Get-clause-shown c = λ setup tag taken replied s.
     let message = c.args.message.now in
-    offered_found setup tag taken message c.args.finder.now c.take.new.self _ s (few_so replied c.read_keys.ensures) c.in-Get-Get.key c.in-Get-Get.reply c.in-Get-Get.field-1-0 c.in-Get-Get.is-0 (replied ∙ ap Some c.in-Get-Get.is-1)
+    offered_found setup tag taken message c.args.search.now c.args.reader.now c.take.new.self c.take.new.reader _ s (few_so replied c.read_keys.ensures) c.in-Get-Get.key c.in-Get-Get.reply c.in-Get-Get.field-1-0 c.in-Get-Get.is-0 (replied ∙ ap Some c.in-Get-Get.is-1)
     (λ round m first. c.take.ensures.first setup tag taken m (c.round.ensures ∙ round) s first)
     (λ round m second. c.take.ensures.second setup tag taken m (c.round.ensures ∙ round) s second)

@@ -5,6 +5,6 @@ use Rattle.tenant_sessions.proofs.running.Running.begin_get.Goals as goal
 
 pub returns : goal.returns
 returns c = λ setup parts fits.
-    let starts = read_starts setup c.args.parts parts c.args.keys.now c.read_alone.new.self.reader c.read.new.self (transaction_keys c.args.keys.now fits)
-    (c.read_alone.ensures.stands c.if-not-read_alone.false) c.read.ensures.awaits.calls in
+    let starts = read_starts setup c.args.parts parts c.args.keys.now c.reset.new.self c.read.new.self (transaction_keys c.args.keys.now fits)
+    (c.reset.ensures.stands c.if-not-reset.false) c.read.ensures.awaits.calls in
     record { stands = record { parts = sym parts; runs = starts.0 }; calls = starts.1 }

@@ -48,30 +48,30 @@ returns-in-Put-clause-takes c = λ setup request taken stands is.
     let w = c.self.inside in
     let s = subst (λ (t : RunningMachine). RunningStands setup request taken t) (sym c.self.view_is) stands in
     wrote setup request taken c.args.message.now (moved c.take_written.new.kind c.args.readings.now) _ w.waiting s.parts is w.stamp w.writer c.take_written.new.writer
-    (ap (λ k. machine_of k w.stamp c.take_written.new.writer w.finder) c.in-Put.is)
-    (subst (λ (m : Machine). RunsAs setup request taken m w.waiting) (ap (λ k. machine_of k w.stamp w.writer w.finder) c.in-Put.is) s.runs)
+    (ap (λ k. machine_of k w.stamp c.take_written.new.writer w.reader w.search) c.in-Put.is)
+    (subst (λ (m : Machine). RunsAs setup request taken m w.waiting) (ap (λ k. machine_of k w.stamp w.writer w.reader w.search) c.in-Put.is) s.runs)
     (λ items writing to. c.take_written.ensures.takes setup items taken c.args.readings.now (sym s.parts) writing to)
 
 pub returns-in-Put-clause-shown : goal.returns-in-Put-clause-shown
 returns-in-Put-clause-shown c = λ setup request taken has.
     let w = c.self.inside in
     let at = subst (λ (t : RunningMachine). HasTaken setup request taken t.machine) (sym c.self.view_is) has in
-    let writes = subst (λ (k : TransactionKind). HasTaken setup request taken (machine_of k w.stamp w.writer w.finder)) c.in-Put.is at in
-    subst (λ (k : TransactionKind). Shows setup request taken c.args.message.now (moved c.take_written.new.kind c.args.readings.now) (λ replies. HasTaken setup request replies (machine_of k w.stamp c.take_written.new.writer w.finder)))
+    let writes = subst (λ (k : TransactionKind). HasTaken setup request taken (machine_of k w.stamp w.writer w.reader w.search)) c.in-Put.is at in
+    subst (λ (k : TransactionKind). Shows setup request taken c.args.message.now (moved c.take_written.new.kind c.args.readings.now) (λ replies. HasTaken setup request replies (machine_of k w.stamp c.take_written.new.writer w.reader w.search)))
     (sym c.in-Put.is) (shown_written setup request taken c.args.message.now _ w.stamp w.writer c.take_written.new.writer (λ items. c.take_written.ensures.shown setup items taken c.args.readings.now) writes)
 
 pub returns-in-Get-clause-shown : goal.returns-in-Get-clause-shown
 returns-in-Get-clause-shown c = λ setup request taken has.
     let w = c.self.inside in
     let at = subst (λ (t : RunningMachine). HasTaken setup request taken t.machine) (sym c.self.view_is) has in
-    let reads = subst (λ (k : TransactionKind). HasTaken setup request taken (machine_of k w.stamp w.writer w.finder)) c.in-Get.is at in
-    subst (λ (k : TransactionKind). Shows setup request taken c.args.message.now (moved c.take_read.new.kind c.take_read.new.readings) (λ replies. HasTaken setup request replies (machine_of k w.stamp w.writer c.take_read.new.finder)))
-    (sym c.in-Get.is) (shown_read setup request taken c.args.message.now _ w.finder.reader c.take_read.new.finder.reader (λ keys. c.take_read.ensures.shown setup keys taken) reads)
+    let reads = subst (λ (k : TransactionKind). HasTaken setup request taken (machine_of k w.stamp w.writer w.reader w.search)) c.in-Get.is at in
+    subst (λ (k : TransactionKind). Shows setup request taken c.args.message.now (moved c.take_read.new.kind c.take_read.new.readings) (λ replies. HasTaken setup request replies (machine_of k w.stamp w.writer c.take_read.new.reader w.search)))
+    (sym c.in-Get.is) (shown_read setup request taken c.args.message.now _ w.reader c.take_read.new.reader (λ keys. c.take_read.ensures.shown setup keys taken) reads)
 
 pub returns-in-Find-clause-shown : goal.returns-in-Find-clause-shown
 returns-in-Find-clause-shown c = λ setup request taken has.
     let w = c.self.inside in
     let at = subst (λ (t : RunningMachine). HasTaken setup request taken t.machine) (sym c.self.view_is) has in
-    let finds = subst (λ (k : TransactionKind). HasTaken setup request taken (machine_of k w.stamp w.writer w.finder)) c.in-Find.is at in
-    subst (λ (k : TransactionKind). Shows setup request taken c.args.message.now (moved c.take_found.new.kind c.take_found.new.readings) (λ replies. HasTaken setup request replies (machine_of k w.stamp w.writer c.take_found.new.finder)))
-    (sym c.in-Find.is) (shown_found setup request taken c.args.message.now _ w.finder c.take_found.new.finder (λ tag. c.take_found.ensures.shown setup tag taken) finds)
+    let finds = subst (λ (k : TransactionKind). HasTaken setup request taken (machine_of k w.stamp w.writer w.reader w.search)) c.in-Find.is at in
+    subst (λ (k : TransactionKind). Shows setup request taken c.args.message.now (moved c.take_found.new.kind c.take_found.new.readings) (λ replies. HasTaken setup request replies (machine_of k w.stamp w.writer c.take_found.new.reader c.take_found.new.search)))
+    (sym c.in-Find.is) (shown_found setup request taken c.args.message.now _ w.search c.take_found.new.search w.reader c.take_found.new.reader (λ tag. c.take_found.ensures.shown setup tag taken) finds)

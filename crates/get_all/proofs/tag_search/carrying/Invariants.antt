@@ -1,6 +1,6 @@
 use Rattle.std.proofs.Common.{◌≡◌, ◌≤◌, length, take}
 use Rattle.plain_store.specs.Finding.{carrying}
-use Rattle.get_all.proofs.finder.carrying.Given as goal
+use Rattle.get_all.proofs.tag_search.carrying.Given as goal
 
 -- the items so far are those of the tag among what was read so far
 abbrev pub invariant-loop-reading : goal.invariant-loop-reading

@@ -1,4 +1,4 @@
--- What a finder that took no reply stands for, and how its reader begins.
+-- What a search that took no reply stands for, and how its reader begins.
 use Rattle.std.proofs.Common.{◌≡◌, ℕ, zero, suc, ◌<◌, List, [], Bool, true, false, ◌&&◌, ◌||◌, map, ap, sym, ◌∙◌, refl, subst, arith}
 use Rattle.std.specs.Prelude.{nat_lt}
 use Rattle.std.specs.List.{list_all}
@@ -15,15 +15,15 @@ use Rattle.get_all.specs.AskedPartition.{asked_at}
 use Rattle.get_all.specs.Reading.{has_ended as has_read}
 use Rattle.get_all.specs.Reader.{is_no_read, StandsFor as StandsForRead}
 use Rattle.get_all.specs.Finding.{has_ended}
-use Rattle.get_all.specs.Finder.{has_told, StandsFor}
+use Rattle.get_all.specs.TagSearch.{has_told, StandsFor}
 use Rattle.get_all.specs.declared.reader.Reader.{Reader}
-use Rattle.get_all.specs.declared.finder.Finder.{Finder}
+use Rattle.get_all.specs.declared.tag_search.TagSearch.{TagSearch}
 
--- ---- a new finder
+-- ---- a new search
 
-pub new_finder : (setup : Setup) (tag : Tag) (f : Finder) → 0 < setup.partitions → f.tag ≡ tag → f.parts ≡ setup.partitions → f.asked ≡ map asked_at (below setup.partitions) → f.total ≡ 0
-    → f.keys ≡ [] → f.reads ≡ false → f.has_ended ≡ false → StandsFor setup tag f []
-new_finder setup tag f some tagged parts asked total keys unread going =
+pub new_search : (setup : Setup) (tag : Tag) (f : TagSearch) (reader : Reader) → 0 < setup.partitions → f.tag ≡ tag → f.parts ≡ setup.partitions → f.asked ≡ map asked_at (below setup.partitions) → f.total ≡ 0
+    → f.keys ≡ [] → f.reads ≡ false → f.has_ended ≡ false → StandsFor setup tag f reader []
+new_search setup tag f reader some tagged parts asked total keys unread going =
     let not_all : all_found setup [] ≡ false = untold setup.partitions some in
     let open_now : has_ended setup [] ≡ false = ap (λ b. b && (nat_lt 16 (total_found []) || has_read (all_keys_found []) [])) not_all in
     record {

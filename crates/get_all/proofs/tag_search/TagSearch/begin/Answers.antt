@@ -1,8 +1,8 @@
 use Rattle.std.proofs.Common.{◌++◌, refl, ap, ◌∙◌}
 use Rattle.stamps.specs.Key.{sorted_keys}
-use Rattle.get_all.proofs.NewFinder.{opened}
-use Rattle.get_all.specs.declared.finder.FindMove.TheVariants.{Begin}
-use Rattle.get_all.proofs.finder.Finder.begin.Goals as goal
+use Rattle.get_all.proofs.NewSearch.{opened}
+use Rattle.get_all.specs.declared.tag_search.FindMove.TheVariants.{Begin}
+use Rattle.get_all.proofs.tag_search.TagSearch.begin.Goals as goal
 
 pub returns-clause-found : goal.returns-clause-found
 returns-clause-found c = λ few good.

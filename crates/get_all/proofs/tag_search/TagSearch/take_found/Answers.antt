@@ -1,21 +1,21 @@
 use Rattle.std.proofs.Common.{not, refl, ap, sym, ◌∙◌}
-use Rattle.get_all.specs.declared.finder.FindMove.TheVariants.{Torn}
+use Rattle.get_all.specs.declared.tag_search.FindMove.TheVariants.{Torn}
 use Rattle.std.proofs.Common.{◌==◌}
 use Rattle.std.specs.List.{list_all}
 use Rattle.stamps.specs.Key.{home_of}
 use Rattle.get_all.proofs.SearchTurns.{ignores, wanted_over, wanted_told, tears, waits_on, finishes, stray_test}
 use Rattle.get_all.proofs.CallsLeft.{found_waits, found_begins}
-use Rattle.get_all.proofs.finder.Finder.take_found.Goals as goal
-use Rattle.get_all.proofs.finder.Finder.take_found.Goals.{then-self-via-then-self, then-self-via-else-self+then-not-await_told}
+use Rattle.get_all.proofs.tag_search.TagSearch.take_found.Goals as goal
+use Rattle.get_all.proofs.tag_search.TagSearch.take_found.Goals.{then-self-via-then-self, then-self-via-else-self+then-not-await_told}
 
 pub returns-then-self-clause-takes : goal.returns-then-self-clause-takes
 returns-then-self-clause-takes c = λ setup tag taken message s is.
     let f = c.args.self.now in
-    ignores setup tag taken message f s
+    ignores setup tag taken message f c.args.reader.now s
     (elim c.then-self.branch [
-      | then-self-via-then-self w ↦ wanted_over setup tag taken message c.args.partition c.args.found.now is f s w.if-self.true
+      | then-self-via-then-self w ↦ wanted_over setup tag taken message c.args.partition c.args.found.now is f c.args.reader.now s w.if-self.true
       | then-self-via-else-self+then-not-await_told w ↦
-          wanted_told setup tag taken message c.args.partition c.args.found.now is f s w.if-self.false ∙ sym w.await_told.ensures ∙ w.if-not-await_told.true
+          wanted_told setup tag taken message c.args.partition c.args.found.now is f c.args.reader.now s w.if-self.false ∙ sym w.await_told.ensures ∙ w.if-not-await_told.true
     ])
 
 pub returns-then-not-are_at_home-clause-takes : goal.returns-then-not-are_at_home-clause-takes
@@ -23,9 +23,9 @@ returns-then-not-are_at_home-clause-takes c = λ setup tag taken message s is.
     let f = c.args.self.now in
     let p = c.args.partition in
     let found = c.args.found.now in
-    let stray = stray_test setup tag taken message p found is f s
+    let stray = stray_test setup tag taken message p found is f c.args.reader.now s
     ∙ ap (λ keys. not (list_all (λ key. home_of key f.parts == p) keys)) (sym c.keys.ensures.keys) ∙ ap not (sym c.are_at_home.ensures ∙ c.if-not-are_at_home.true) in
-    tears setup tag taken message p found is f s c.if-self.false c.end.new.self (sym c.await_told.ensures ∙ c.if-not-await_told.false) stray
+    tears setup tag taken message p found is f c.args.reader.now s c.if-self.false c.end.new.self (sym c.await_told.ensures ∙ c.if-not-await_told.false) stray
     (ap (λ a. a.tag) c.end.ensures.ended) (ap (λ a. a.parts) c.end.ensures.ended) (ap (λ a. a.has_ended) c.end.ensures.ended) Torn refl
 
 pub returns-then-not-have_told-clause-takes : goal.returns-then-not-have_told-clause-takes
@@ -34,9 +34,9 @@ returns-then-not-have_told-clause-takes c = λ setup tag taken message s is.
     let p = c.args.partition in
     let found = c.args.found.now in
     let added = c.add.new.self in
-    let honest = stray_test setup tag taken message p found is f s
+    let honest = stray_test setup tag taken message p found is f c.args.reader.now s
     ∙ ap (λ keys. not (list_all (λ key. home_of key f.parts == p) keys)) (sym c.keys.ensures.keys) ∙ ap not (sym c.are_at_home.ensures ∙ c.if-not-are_at_home.false) in
-    waits_on setup tag taken message p found is f s c.if-self.false (sym c.await_told.ensures ∙ c.if-not-await_told.false) c.add.ensures.valid honest
+    waits_on setup tag taken message p found is f c.args.reader.now s c.if-self.false (sym c.await_told.ensures ∙ c.if-not-await_told.false) c.add.ensures.valid honest
     added c.add.ensures.asked c.add.ensures.total c.add.ensures.keys (ap (λ a. a.reads) c.add.ensures.same)
     (ap (λ a. a.tag) c.add.ensures.same) (ap (λ a. a.parts) c.add.ensures.same) (ap (λ a. a.has_ended) c.add.ensures.same)
     (sym c.have_told.ensures ∙ c.if-not-have_told.true)
@@ -47,20 +47,20 @@ returns-clause-takes c = λ setup tag taken message s is.
     let p = c.args.partition in
     let found = c.args.found.now in
     let added = c.add.new.self in
-    let honest = stray_test setup tag taken message p found is f s
+    let honest = stray_test setup tag taken message p found is f c.args.reader.now s
     ∙ ap (λ keys. not (list_all (λ key. home_of key f.parts == p) keys)) (sym c.keys.ensures.keys) ∙ ap not (sym c.are_at_home.ensures ∙ c.if-not-are_at_home.false) in
-    finishes setup tag taken message p found is f s c.if-self.false (sym c.await_told.ensures ∙ c.if-not-await_told.false) c.add.ensures.valid honest
+    finishes setup tag taken message p found is f c.args.reader.now s c.if-self.false (sym c.await_told.ensures ∙ c.if-not-await_told.false) c.add.ensures.valid honest
     added c.add.ensures.asked c.add.ensures.total c.add.ensures.keys (ap (λ a. a.reads) c.add.ensures.same)
-    (sym c.have_told.ensures ∙ c.if-not-have_told.false) c.begin.new.self c.begin.result
+    (sym c.have_told.ensures ∙ c.if-not-have_told.false) c.begin.new.self c.begin.new.reader c.begin.result
     (ap (λ a. a.tag) c.add.ensures.same) (ap (λ a. a.parts) c.add.ensures.same) (ap (λ a. a.has_ended) c.add.ensures.same)
     c.begin.ensures.too_many c.begin.ensures.nothing c.begin.ensures.found
 
 pub returns-then-not-have_told-clause-few : goal.returns-then-not-have_told-clause-few
 returns-then-not-have_told-clause-few c =
-    found_waits c.args.self.now c.args.partition c.if-self.false (sym c.await_told.ensures ∙ c.if-not-await_told.false) c.add.new.self
-    (ap (λ a. a.reads) c.add.ensures.same) (ap (λ a. a.reader) c.add.ensures.same)
+    found_waits c.args.self.now c.args.reader.now c.args.partition c.if-self.false (sym c.await_told.ensures ∙ c.if-not-await_told.false) c.add.new.self
+    (ap (λ a. a.reads) c.add.ensures.same)
 
 pub returns-clause-few : goal.returns-clause-few
 returns-clause-few c =
-    found_begins c.args.self.now c.args.partition c.if-self.false (sym c.await_told.ensures ∙ c.if-not-await_told.false) _
+    found_begins c.args.self.now c.args.reader.now c.args.partition c.if-self.false (sym c.await_told.ensures ∙ c.if-not-await_told.false) _
     (c.begin.ensures.few (sym c.have_told.ensures ∙ c.if-not-have_told.false))
