@@ -25,7 +25,7 @@ impl Model for Discards {
 }
 
 impl Discards {
-    ghost use Rattle.std.specs.Prelude.{ℕ, [], true, false, Some, None, if◌then◌else◌};
+    ghost use Rattle.std.specs.Prelude.{◌≡◌, ℕ, [], true, false, Some, None, if◌then◌else◌, All};
     ghost use Rattle.plain_store.specs.declared.calls.Call.TheVariants.{Discard};
     ghost use Rattle.plain_store.specs.Writing.{Outgoing as Sent};
     ghost use Rattle.tenant_sessions.specs.Sending.{IsDiscard};
@@ -47,6 +47,13 @@ impl Discards {
             partitions }
     {
         Discards { stamp, partitions }
+    }
+
+    /// The stamp of each.
+    pub(crate) fn stamp(&self) -> Stamp
+        ensures { All (λ (out : Sent). out.call ≡ Discard result) self.now }
+    {
+        self.stamp
     }
 
     /// Whether there are none.

@@ -163,9 +163,11 @@ pub enum MoveKind {
 }
 
 impl MoveKind {
-    ghost use Rattle.std.specs.Prelude.{◌≡◌, nat_lt, List, length, map, slice_get, true, false, Some, None, if◌then◌else◌};
+    ghost use Rattle.std.specs.Prelude.{◌≡◌, nat_lt, List, length, map, slice_get, true, false, Some, None, if◌then◌else◌, All};
+    ghost use Rattle.plain_store.specs.declared.calls.Call.TheVariants.{Discard};
     ghost use Rattle.plain_store.specs.declared.reading.Reading.{Reading};
     ghost use Rattle.plain_store.specs.Run.{call_message};
+    ghost use Rattle.plain_store.specs.Writing.{Outgoing};
     ghost use Rattle.tenant_sessions.specs.Moves.{moved, answer_of, sends_calls, ending, is_last, is_ignored};
     ghost use Rattle.tenant_sessions.specs.Sending.{IsDiscard};
 
@@ -256,6 +258,17 @@ impl MoveKind {
         match self {
             MoveKind::Ended(_, discards) => discards.message_into(client, ticket, nth, place),
             _ => false,
+        }
+    }
+
+    /// The stamp of each DISCARD that is sent at the transaction's end; nothing else is sent then.
+    pub fn discarded(&self) -> Stamp
+        ensures { (readings : List Reading)
+            → All (λ (out : Outgoing). out.call ≡ Discard result) (ending (moved self.now readings)) }
+    {
+        match self {
+            MoveKind::Ended(_, discards) => discards.stamp(),
+            _ => Stamp::ZERO,
         }
     }
 
