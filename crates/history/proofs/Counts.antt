@@ -5,7 +5,7 @@ use Rattle.std.proofs.lemmas.List.{append-nil}
 use Rattle.std.proofs.lemmas.List.Elements.{filter-append}
 use mathlib.Core.List.{IsPrefix}
 use Rattle.history.specs.declared.entry.HistoryEntry.{HistoryEntry}
-use Rattle.history.specs.declared.entry.HistoryEntry.TheVariants.{Opened, Joined, Arrived, Began, Decided, ReadBegan, Served}
+use Rattle.history.specs.declared.entry.HistoryEntry.TheVariants.{Opened, Joined, Arrived, Began, Decided, GivenUp, ReadBegan, Served}
 use Rattle.history.specs.Entries.{HasMark, is_of, own, count}
 use Rattle.history.specs.declared.entry.Mark.{Mark}
 use Rattle.history.proofs.Lists.{none_of_none}
@@ -30,6 +30,7 @@ of_no_other k p (Arrived word) is apart = no_other word k p is apart
 of_no_other k p (ReadBegan word) is apart = no_other word k p is apart
 of_no_other k p (Began write) is apart = no_other write.word k p is apart
 of_no_other k p (Decided decision) is apart = no_other decision.word k p is apart
+of_no_other k p (GivenUp decision) is apart = no_other decision.word k p is apart
 of_no_other k p (Served served) is apart = no_other (served.partition + 1) k p is apart
 
 pub own_append : (k : ℕ) (xs ys : List HistoryEntry) → own k (xs ++ ys) ≡ own k xs ++ own k ys

@@ -14,14 +14,14 @@ use Rattle.plain_store.specs.declared.calls.Reply.TheVariants.{Prepare as ToPrep
 use Rattle.plain_store.specs.declared.calls.PrepareReply.TheVariants.{Prepared}
 use Rattle.plain_store.specs.Writing.{record_for}
 use Rattle.history.specs.declared.entry.HistoryEntry.{HistoryEntry}
-use Rattle.history.specs.declared.entry.HistoryEntry.TheVariants.{Opened, Joined, Arrived, Began, Decided, ReadBegan, Served}
+use Rattle.history.specs.declared.entry.HistoryEntry.TheVariants.{Opened, Joined, Arrived, Began, Decided, GivenUp, ReadBegan, Served}
 use Rattle.history.specs.declared.entry.Decision.{Decision}
 use Rattle.history.specs.declared.entry.JoinedClient.{JoinedClient}
 use Rattle.history.specs.declared.entry.ServedCall.{ServedCall}
 use Rattle.history.specs.declared.entry.StoreOpening.{StoreOpening}
 use Rattle.history.specs.declared.entry.Write.{Write}
 use Rattle.history.specs.Entries.{is_of, own, count, parts_of, StandsInHistory}
-use Rattle.history.specs.Legal.{MayJoin, MayBegin, IsOfWrite, IsAccepted, MayDecide, IsDecided, IsOfPut, HasParts, IsKeyHome, IsAtHome, MayServe, MayFollow, IsLegal, HasOneWrite, AreOfTheirWrites}
+use Rattle.history.specs.Legal.{MayJoin, MayBegin, MayEnd, IsOfWrite, IsAccepted, MayDecide, IsDecided, IsGivenUp, IsOfPut, HasParts, IsKeyHome, IsAtHome, MayServe, MayFollow, IsLegal, HasOneWrite, AreOfTheirWrites}
 use Rattle.history.specs.Rules.{is_opening}
 use Rattle.plain_store.proofs.Members.{in_left, filter_in}
 use Rattle.history.proofs.Lists.{prefix_has, StandsBehind, StandsAfter, split_last, split_at, order}
@@ -70,13 +70,20 @@ decided_later v log tenant stamp pre d = record {
   its = d.its;
 }
 
+pub given_up_later : (v log : List HistoryEntry) (tenant : ℕ) (stamp : Stamp) → IsPrefix v log → IsGivenUp v tenant stamp → IsGivenUp log tenant stamp
+given_up_later v log tenant stamp pre d = record {
+  decision = d.decision;
+  stands = prefix_has v log (GivenUp d.decision) pre d.stands;
+  its = d.its;
+}
+
 pub of_put_later : (v log : List HistoryEntry) (tenant : ℕ) (call : Call) → IsPrefix v log → IsOfPut v tenant call → IsOfPut log tenant call
 of_put_later v log tenant (Prepare version) pre may = of_write_later v log tenant version pre may
 of_put_later v log tenant (Commit stamp) pre may = decided_later v log tenant stamp pre may
 of_put_later v log tenant (Get key stamp) pre may = tt
 of_put_later v log tenant (Found tag) pre may = tt
 of_put_later v log tenant (Collect keep) pre may = tt
-of_put_later v log tenant (Discard stamp) pre may = tt
+of_put_later v log tenant (Discard stamp) pre may = given_up_later v log tenant stamp pre may
 
 parts_before : (v rest : List HistoryEntry) (parts : ℕ) → HasParts v parts → HasParts (v ++ rest) parts
 parts_before [] rest parts has = absurd has
@@ -85,6 +92,7 @@ parts_before (Joined member ∷ v) rest parts has = absurd has
 parts_before (Arrived word ∷ v) rest parts has = absurd has
 parts_before (Began write ∷ v) rest parts has = absurd has
 parts_before (Decided decision ∷ v) rest parts has = absurd has
+parts_before (GivenUp decision ∷ v) rest parts has = absurd has
 parts_before (ReadBegan word ∷ v) rest parts has = absurd has
 parts_before (Served served ∷ v) rest parts has = absurd has
 
@@ -99,6 +107,7 @@ parts_as_opened (Joined member ∷ v) parts has = absurd has
 parts_as_opened (Arrived word ∷ v) parts has = absurd has
 parts_as_opened (Began write ∷ v) parts has = absurd has
 parts_as_opened (Decided decision ∷ v) parts has = absurd has
+parts_as_opened (GivenUp decision ∷ v) parts has = absurd has
 parts_as_opened (ReadBegan word ∷ v) parts has = absurd has
 parts_as_opened (Served served ∷ v) parts has = absurd has
 
@@ -134,6 +143,11 @@ decide_later v log decision legal pre may = record {
       subst P (parts_later v log legal pre) (∥∥₁_map (may.accepted item among) further);
 }
 
+end_later : (k : ℕ) (mine log : List HistoryEntry) (decision : Decision) → decision.word ≡ k → own k mine ≡ own k log → MayEnd (own decision.word mine) decision
+    → MayEnd (own decision.word log) decision
+end_later k mine log decision word same may =
+    subst (λ l. MayEnd l decision) (subst (λ (w : ℕ). own w mine ≡ own w log) (sym word) same) may
+
 -- where a history has the same entries of the entry's word, and has what was seen, the entry may follow it
 pub may_later : (k : ℕ) (mine seen log : List HistoryEntry) (e : HistoryEntry) → is_of k e ≡ true → own k mine ≡ own k log → IsLegal seen → IsPrefix seen log
     → MayFollow mine seen e → MayFollow log log e
@@ -150,7 +164,9 @@ may_later k mine seen log (Began write) is same legal pre may =
       joined = prefix_has seen log (Joined (record { word = write.word; tenant = write.tenant; client = client_of write.stamp })) pre may.joined;
       above = λ other has. may.above other (subst (λ l. Began other ∈ l) (sym mine_is) has);
     }
-may_later k mine seen log (Decided decision) is same legal pre may = decide_later seen log decision legal pre may
+may_later k mine seen log (Decided decision) is same legal pre may =
+    (end_later k mine log decision (test_equal decision.word k is) same may.0, decide_later seen log decision legal pre may.1)
+may_later k mine seen log (GivenUp decision) is same legal pre may = end_later k mine log decision (test_equal decision.word k is) same may
 may_later k mine seen log (Served served) is same legal pre may = serve_later seen log served.partition served.tenant served.call pre may
 
 -- ---- a legal history
@@ -191,6 +207,7 @@ opening_legal (Arrived word ∷ log) is = absurd (cc is)
 opening_legal (ReadBegan word ∷ log) is = absurd (cc is)
 opening_legal (Began write ∷ log) is = absurd (cc is)
 opening_legal (Decided decision ∷ log) is = absurd (cc is)
+opening_legal (GivenUp decision ∷ log) is = absurd (cc is)
 opening_legal (Served served ∷ log) is = absurd (cc is)
 
 -- ---- one write for each stamp

@@ -33,7 +33,7 @@ one_home log key one other a b =
     sym a.home ∙ ap (home_of key) parts ∙ b.home
 
 -- later calls stand before those so far
-calls_behind : (v rest : List HistoryEntry) (tenant partition : ℕ) → calls_served tenant partition (v ++ rest) ≡ calls_served tenant partition rest ++ calls_served tenant partition v
+pub calls_behind : (v rest : List HistoryEntry) (tenant partition : ℕ) → calls_served tenant partition (v ++ rest) ≡ calls_served tenant partition rest ++ calls_served tenant partition v
 calls_behind v rest tenant partition =
     let f : ServedCall → Call = λ s. s.call in
     let one = served_at tenant partition v in
@@ -41,7 +41,7 @@ calls_behind v rest tenant partition =
     ap calls_of (filter_map-append (served_to tenant partition) v rest) ∙ ap reverse (map-append f one other) ∙ reverse-append (map f one) (map f other)
 
 -- what calls commit stays so with later ones
-committed_behind : (room : Room) (later calls : List Call) (key : Key) (stamp : Stamp) → is_committed (log_of room calls) key stamp ≡ true → is_committed (log_of room (later ++ calls)) key stamp ≡ true
+pub committed_behind : (room : Room) (later calls : List Call) (key : Key) (stamp : Stamp) → is_committed (log_of room calls) key stamp ≡ true → is_committed (log_of room (later ++ calls)) key stamp ≡ true
 unfolding log_of
 committed_behind room [] calls key stamp is = is
 committed_behind room (call ∷ later) calls key stamp is =

@@ -5,3 +5,4 @@ pub mod Steps
 pub mod Shown
 pub mod Servings
 pub mod Fresh
+pub mod Committing

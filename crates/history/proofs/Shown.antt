@@ -20,7 +20,7 @@ use Rattle.plain_store.proofs.Members.{in_left, in_right, in_cases, in_map, in_f
 use Rattle.plain_store.proofs.Cells.{version_accepted, committed_is, first_reply, IsFirstReply}
 use Rattle.plain_store.proofs.Logs.{is_version-parts}
 use Rattle.history.specs.declared.entry.HistoryEntry.{HistoryEntry}
-use Rattle.history.specs.declared.entry.HistoryEntry.TheVariants.{Opened, Joined, Arrived, Began, Decided, ReadBegan, Served}
+use Rattle.history.specs.declared.entry.HistoryEntry.TheVariants.{Opened, Joined, Arrived, Began, Decided, GivenUp, ReadBegan, Served}
 use Rattle.history.specs.declared.entry.ServedCall.{ServedCall}
 use Rattle.history.specs.declared.entry.Write.{Write}
 use Rattle.history.specs.Entries.{parts_of, room_of, served_to, served_at, calls_served, StandsInHistory}
@@ -58,6 +58,7 @@ served_to_is tenant partition (Arrived word) served is = cc
 served_to_is tenant partition (ReadBegan word) served is = cc
 served_to_is tenant partition (Began write) served is = cc
 served_to_is tenant partition (Decided decision) served is = cc
+served_to_is tenant partition (GivenUp decision) served is = cc
 served_to_is tenant partition (Served s) served is = go (s.tenant == tenant && s.partition == partition) refl is
   where
     go : (b : Bool) → (s.tenant == tenant && s.partition == partition) ≡ b → cond b (Some s) None ≡ Some served → IsServing tenant partition (Served s) served
@@ -71,7 +72,7 @@ served_to_is tenant partition (Served s) served is = go (s.tenant == tenant && s
     go false t e = cc
 
 -- a call that was served stands in the history
-called : (tenant partition : ℕ) (log : List HistoryEntry) (call : Call) → call ∈ calls_served tenant partition log
+pub called : (tenant partition : ℕ) (log : List HistoryEntry) (call : Call) → call ∈ calls_served tenant partition log
     → (served : ServedCall) × (Served served ∈ log) × (served.tenant ≡ tenant) × (served.call ≡ call)
 called tenant partition log call h =
     let calls = map (λ (s : ServedCall). s.call) (served_at tenant partition log) in
@@ -81,21 +82,21 @@ called tenant partition log call h =
     (m.0, subst (λ (e : HistoryEntry). e ∈ log) s.0 f.1, s.1, sym m.2)
 
 -- each exchange of the log that calls make is one of these calls
-logged : (room : Room) (calls : List Call) (e : Exchange) → e ∈ log_of room calls → e.call ∈ calls
+pub logged : (room : Room) (calls : List Call) (e : Exchange) → e ∈ log_of room calls → e.call ∈ calls
 unfolding log_of
 logged room [] e h = absurd h
 logged room (call ∷ before) e (inl same) = inl (ap (λ (x : Exchange). x.call) same)
 logged room (call ∷ before) e (inr h) = inr (logged room before e h)
 
 -- what a legal history shows of a call that was served: it was right to serve it
-was_right : (log : List HistoryEntry) (served : ServedCall) → IsLegal log → Served served ∈ log
+pub was_right : (log : List HistoryEntry) (served : ServedCall) → IsLegal log → Served served ∈ log
     → (before : List HistoryEntry) × (after : List HistoryEntry) × (log ≡ before ++ Served served ∷ after) × ∥ MayServe before served.partition served.tenant served.call ∥₁
 was_right log served legal has =
     let s = split_at log (Served served) has in
     (s.0, s.1.0, s.1.1, legal.each s.0 (Served served) s.1.0 s.1.1)
 
 -- a version that was accepted is of a write
-accepted_written : (log : List HistoryEntry) (tenant : ℕ) (served : ServedCall) (version : Record) → IsLegal log → Served served ∈ log → served.tenant ≡ tenant
+pub accepted_written : (log : List HistoryEntry) (tenant : ℕ) (served : ServedCall) (version : Record) → IsLegal log → Served served ∈ log → served.tenant ≡ tenant
     → served.call ≡ Prepare version → ∥ IsOfWrite log tenant version ∥₁
 accepted_written log tenant served version legal has its call =
     let r = was_right log served legal has in

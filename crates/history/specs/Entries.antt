@@ -8,7 +8,7 @@ use Rattle.plain_store.specs.declared.calls.Call.{Call}
 use Rattle.plain_store.specs.declared.calls.Reply.{Reply}
 use Rattle.plain_store.specs.Replies.{reply_to}
 use Rattle.history.specs.declared.entry.HistoryEntry.{HistoryEntry}
-use Rattle.history.specs.declared.entry.HistoryEntry.TheVariants.{Opened, Joined, Arrived, Began, Decided, ReadBegan, Served}
+use Rattle.history.specs.declared.entry.HistoryEntry.TheVariants.{Opened, Joined, Arrived, Began, Decided, GivenUp, ReadBegan, Served}
 use Rattle.history.specs.declared.entry.Mark.{Mark}
 use Rattle.history.specs.declared.entry.ServedCall.{ServedCall}
 
@@ -20,6 +20,7 @@ is_of k (Joined member) = 0 == k
 is_of k (Arrived word) = word == k
 is_of k (Began write) = write.word == k
 is_of k (Decided decision) = decision.word == k
+is_of k (GivenUp decision) = decision.word == k
 is_of k (ReadBegan word) = word == k
 is_of k (Served served) = (served.partition + 1) == k
 

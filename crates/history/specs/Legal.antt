@@ -1,5 +1,5 @@
 -- Which histories are legal: each entry may follow those before it.
-use Rattle.std.specs.Prelude.{◌≡◌, ℕ, ◌+◌, ◌<◌, List, [], ◌∷◌, ◌++◌, length, Option, None}
+use Rattle.std.specs.Prelude.{◌≡◌, ◌⊎◌, ℕ, ◌+◌, ◌<◌, List, [], ◌∷◌, ◌++◌, length, Option, None}
 use Rattle.stamps.specs.Key.{home_of}
 use Rattle.stamps.specs.Stamp.{client_of}
 use Rattle.plain_store.specs.Words.{◌∈◌, Key, Item, Record, Stamp}
@@ -10,7 +10,7 @@ use Rattle.plain_store.specs.declared.calls.PrepareReply.TheVariants.{Prepared}
 use Rattle.plain_store.specs.declared.calls.ReadReply.TheVariants.{Version}
 use Rattle.plain_store.specs.Writing.{record_for}
 use Rattle.history.specs.declared.entry.HistoryEntry.{HistoryEntry}
-use Rattle.history.specs.declared.entry.HistoryEntry.TheVariants.{Opened, Joined, Arrived, Began, Decided, ReadBegan, Served}
+use Rattle.history.specs.declared.entry.HistoryEntry.TheVariants.{Opened, Joined, Arrived, Began, Decided, GivenUp, ReadBegan, Served}
 use Rattle.history.specs.declared.entry.Decision.{Decision}
 use Rattle.history.specs.declared.entry.JoinedClient.{JoinedClient}
 use Rattle.history.specs.declared.entry.ServedCall.{ServedCall}
@@ -31,6 +31,13 @@ pub record MayJoin (joined : List HistoryEntry) (member : JoinedClient) : Type 0
 pub record MayBegin (own before : List HistoryEntry) (write : Write) : Type 0 where
   pub joined : Joined (record { word = write.word; tenant = write.tenant; client = client_of write.stamp }) ∈ before
   pub above : (other : Write) → Began other ∈ own → other.stamp < write.stamp
+
+-- a put ends once, under the word of its client: it is decided, or refused
+pub record MayEnd (own : List HistoryEntry) (decision : Decision) : Type 0 where
+  pub write : Write
+  pub began : Began write ∈ own
+  pub its : (write.tenant ≡ decision.tenant) × (write.stamp ≡ decision.stamp)
+  pub unended : (other : Decision) → (Decided other ∈ own) ⊎ (GivenUp other ∈ own) → other.stamp ≡ decision.stamp → ⊥
 
 -- the version is what a put of this tenant that began writes to one of its items
 pub record IsOfWrite (before : List HistoryEntry) (tenant : ℕ) (version : Record) : Type 0 where
@@ -62,14 +69,20 @@ pub record IsDecided (before : List HistoryEntry) (tenant : ℕ) (stamp : Stamp)
   pub stands : Decided decision ∈ before
   pub its : (decision.tenant ≡ tenant) × (decision.stamp ≡ stamp)
 
--- a PREPARE is one of a put that began, and a COMMIT is one of a put that was decided
+-- the put of this stamp was refused
+pub record IsGivenUp (before : List HistoryEntry) (tenant : ℕ) (stamp : Stamp) : Type 0 where
+  pub decision : Decision
+  pub stands : GivenUp decision ∈ before
+  pub its : (decision.tenant ≡ tenant) × (decision.stamp ≡ stamp)
+
+-- a PREPARE is one of a put that began, a COMMIT is one of a put that was decided, and a DISCARD is one of a put that was refused
 abbrev pub IsOfPut : List HistoryEntry → ℕ → Call → Type 0
 IsOfPut before tenant (Prepare version) = IsOfWrite before tenant version
 IsOfPut before tenant (Commit stamp) = IsDecided before tenant stamp
 IsOfPut before tenant (Get key stamp) = Unit {0}
 IsOfPut before tenant (Found tag) = Unit {0}
 IsOfPut before tenant (Collect keep) = Unit {0}
-IsOfPut before tenant (Discard stamp) = Unit {0}
+IsOfPut before tenant (Discard stamp) = IsGivenUp before tenant stamp
 
 -- the store has so many partitions, as its opening says
 abbrev pub HasParts : List HistoryEntry → ℕ → Type 0
@@ -104,7 +117,8 @@ MayFollow mine before (Opened setting) = before ≡ []
 MayFollow mine before (Joined member) = MayJoin (own 0 mine) member
 MayFollow mine before (Arrived word) = Unit {0}
 MayFollow mine before (Began write) = MayBegin (own write.word mine) before write
-MayFollow mine before (Decided decision) = MayDecide before decision
+MayFollow mine before (Decided decision) = MayEnd (own decision.word mine) decision × MayDecide before decision
+MayFollow mine before (GivenUp decision) = MayEnd (own decision.word mine) decision
 MayFollow mine before (ReadBegan word) = Unit {0}
 MayFollow mine before (Served served) = MayServe before served.partition served.tenant served.call
 
@@ -137,6 +151,10 @@ ShowsWrites log = (served : ServedCall) (place : ℕ) (key : Key) (stamp : Optio
 abbrev pub ShowsDecided : List HistoryEntry → Type 0
 ShowsDecided log = (served : ServedCall) (place : ℕ) (key : Key) (version : Record)
     → served.call ≡ Get key None → StandsInHistory log served place (ToGet (Version version)) → ∥ IsDecided log served.tenant version.stamp ∥₁
+
+-- no DISCARD of a put that was decided is served
+abbrev pub KeepsDecided : List HistoryEntry → Type 0
+KeepsDecided log = (served : ServedCall) (stamp : Stamp) → Served served ∈ log → served.call ≡ Discard stamp → ∥ IsDecided log served.tenant stamp ∥₁ → ⊥
 
 -- each call on a key was served at the key's home
 abbrev pub AreAtHome : List HistoryEntry → Type 0

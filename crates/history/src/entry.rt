@@ -39,7 +39,7 @@ pub struct Write {
     pub items: Items,
 }
 
-/// That all items of the write of this stamp are prepared.
+/// How the client with this word ends its put of this stamp.
 #[derive(Clone, Copy)]
 pub struct Decision {
     pub word: u64,
@@ -67,8 +67,10 @@ pub enum HistoryEntry {
     Arrived(u64),
     /// A put drew its stamp.
     Began(Write),
-    /// A writer took the last of its replies.
+    /// All items of a put are prepared, and it is committed.
     Decided(Decision),
+    /// A put was refused, and is never committed.
+    GivenUp(Decision),
     /// A read or a search of the client with this word began.
     ReadBegan(u64),
     /// A call was served.

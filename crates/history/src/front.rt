@@ -2,15 +2,15 @@
 ghost use Rattle.std.specs.Prelude.{◌≡◌, ◌≢◌, ◌+◌, ◌<◌, ◌^◌, [], ◌∷◌, MatchBool, IfSome, IsTrue, None, true};
 ghost use mathlib.Core.List.{IsPrefix};
 ghost use Rattle.plain_store.specs.Words.{◌∈◌};
-ghost use Rattle.history.specs.declared.entry.HistoryEntry.TheVariants.{Joined, Arrived, Decided, ReadBegan};
+ghost use Rattle.history.specs.declared.entry.HistoryEntry.TheVariants.{Joined, Arrived, Decided, GivenUp, ReadBegan};
 ghost use Rattle.history.specs.declared.entry.JoinedClient.{JoinedClient as WhoJoined};
 ghost use Rattle.history.specs.Asking.{began_by, served_by};
 ghost use Rattle.history.specs.Entries.{but_last, is_of, own, count};
-ghost use Rattle.history.specs.Legal.{IsLegal, MayFollow, MayBegin, MayDecide, MayServe};
+ghost use Rattle.history.specs.Legal.{IsLegal, MayFollow, MayBegin, MayDecide, MayEnd, MayServe};
 ghost use Rattle.history.specs.Rules.{IsHome, IsAdded, is_opening};
 
 use crate::entry::{CallToServe, Decision, HistoryEntry, JoinedClient, WriteToBegin};
-use crate::rule::{Add, Arrive, Join, Law, Look, Naming, Nothing};
+use crate::rule::{Add, Arrive, GiveUp, Join, Law, Look, Naming, Nothing};
 use crate::tallies::Tally;
 use logbook::{Offer, Plain, Seen, Word};
 use std::marker::{Model, PhantomData};
@@ -176,6 +176,7 @@ impl<J: Naming> Front<J> {
         requires client { (tally.now.key ≡ decision.now.word) × (64 < decision.now.word)
             × (0 < entries) }
         requires counted { count tally.now.key self.old ≡ entries }
+        requires unended { MayEnd (own decision.now.word self.old) decision.now }
         requires may { ∥ MayDecide evidence.now decision.now ∥₁ }
         ensures later { IsPrefix self.old self.new }
         ensures evidence { IsPrefix evidence.now self.new }
@@ -184,6 +185,23 @@ impl<J: Naming> Front<J> {
             (IsLegal self.new) }
     {
         self.add::<Decision, Add>(tally, entries, evidence, decision)
+    }
+
+    /// Enters that a put of a client was refused, and says whether it did. It did not where the client has other entries than were
+    /// seen here.
+    pub fn give_up(&mut self, tally: &Tally<J>, entries: u64, decision: &Decision) -> bool
+        requires room { entries < 2 ^ 62 }
+        requires client { (tally.now.key ≡ decision.now.word) × (64 < decision.now.word)
+            × (0 < entries) }
+        requires counted { count tally.now.key self.old ≡ entries }
+        requires unended { MayEnd (own decision.now.word self.old) decision.now }
+        ensures later { IsPrefix self.old self.new }
+        ensures added { MatchBool result
+            (IsAdded tally.now.key entries (GivenUp decision.now) self.old self.new)
+            (IsLegal self.new) }
+    {
+        let evidence = self.again();
+        self.add::<Decision, GiveUp>(tally, entries, &evidence, decision)
     }
 
     /// Enters that a read or a search of a client begins, behind all that the evidence has seen, and says whether it did. It did not

@@ -1,7 +1,8 @@
 //! What holds of every legal history. Each law is the contract of a function that does nothing.
 ghost use Rattle.std.specs.Prelude.{List};
 ghost use Rattle.history.specs.declared.entry.HistoryEntry.{HistoryEntry};
-ghost use Rattle.history.specs.Legal.{IsLegal, HasOneWrite, AreOfTheirWrites, AreAtHome, ShowsWrites, ShowsDecided};
+ghost use Rattle.history.specs.Fresh.{CommitsKeys};
+ghost use Rattle.history.specs.Legal.{IsLegal, HasOneWrite, AreOfTheirWrites, AreAtHome, KeepsDecided, ShowsWrites, ShowsDecided};
 
 /// In a legal history a stamp of a tenant is that of one put: it has one client, and one write set.
 pub fn a_stamp_has_one_write()
@@ -26,4 +27,14 @@ pub fn first_gets_show_decided_writes()
 /// In a legal history each PREPARE and each GET was served at the home of its key.
 pub fn calls_are_at_home()
     ensures { (log : List HistoryEntry) → IsLegal log → AreAtHome log }
+{}
+
+/// In a legal history no DISCARD of a put that was decided is served.
+pub fn decided_puts_are_not_discarded()
+    ensures { (log : List HistoryEntry) → IsLegal log → KeepsDecided log }
+{}
+
+/// In a legal history a COMMIT of a put that was served at the home of a key commits what the put wrote there.
+pub fn commits_are_of_each_key()
+    ensures { (log : List HistoryEntry) → IsLegal log → CommitsKeys log }
 {}

@@ -14,7 +14,8 @@ pub use entry::{
 };
 pub use front::Front;
 pub use history_laws::{
-    a_stamp_has_one_write, calls_are_at_home, first_gets_show_decided_writes, gets_show_writes,
+    a_stamp_has_one_write, calls_are_at_home, commits_are_of_each_key,
+    decided_puts_are_not_discarded, first_gets_show_decided_writes, gets_show_writes,
     versions_are_of_their_writes,
 };
 pub use rule::{Law, Naming};

@@ -51,6 +51,9 @@ impl Play<HistoryEntry, u64> for Add {
     ghost then = { Adds };
 }
 
+/// That a put was refused, as an entry that is added.
+pub struct GiveUp;
+
 /// A step that adds a client, and a cell for its word.
 pub struct Join;
 
@@ -100,6 +103,15 @@ impl Plain<Decision, HistoryEntry, u64> for Add {
     ghost use Rattle.history.specs.declared.entry.HistoryEntry.TheVariants.{Decided};
 
     ghost ask = { λ decision. Decided decision };
+
+    ghost state = { λ decision. None };
+}
+
+impl Plain<Decision, HistoryEntry, u64> for GiveUp {
+    ghost use Rattle.std.specs.Prelude.{None};
+    ghost use Rattle.history.specs.declared.entry.HistoryEntry.TheVariants.{GivenUp};
+
+    ghost ask = { λ decision. GivenUp decision };
 
     ghost state = { λ decision. None };
 }

@@ -4,7 +4,7 @@ use Rattle.std.specs.Prelude.{All, bytes_eq, cond, map}
 use Rattle.std.specs.List.{list_any}
 use Rattle.std.proofs.Math.Logic.{∥∥₁_elim, ∥∥₁_prop}
 use Rattle.std.proofs.lemmas.Bool.{and_parts}
-use Rattle.std.proofs.lemmas.List.Elements.{All-cons, All-get_or, All-nil, All-weaker}
+use Rattle.std.proofs.lemmas.List.Elements.{All-cons, All-get_or, All-map, All-nil, All-weaker}
 use Rattle.std.proofs.lemmas.Option.{get_or_from_slice_get, slice_get_within}
 use Rattle.stamps.specs.Stamp.{stamp}
 use Rattle.stamps.specs.StampLaws.{counter_of-stamp}
@@ -16,7 +16,7 @@ use Rattle.plain_store.specs.declared.calls.Reply.{Reply}
 use Rattle.plain_store.specs.declared.calls.Reply.TheVariants.{Prepare as ToPrepare}
 use Rattle.plain_store.specs.declared.message.Message.{Message}
 use Rattle.plain_store.specs.History.{Intent as Asked, Writes, Gets, Finds}
-use Rattle.plain_store.specs.Run.{are_bad, one_twice}
+use Rattle.plain_store.specs.Run.{are_bad, call_message, one_twice}
 use Rattle.plain_store.specs.declared.answer.Answer.{Answer}
 use Rattle.plain_store.specs.Words.{◌∈◌, Item, Key, Record, Setup, Stamp, home}
 use Rattle.plain_store.specs.Finding.{all_found, all_keys_found, below, found_calls}
@@ -34,7 +34,7 @@ use Rattle.history.specs.declared.entry.HistoryEntry.{HistoryEntry}
 use Rattle.history.specs.declared.entry.HistoryEntry.TheVariants.{Began}
 use Rattle.history.specs.declared.entry.Write.{Write}
 use Rattle.history.specs.Entries.{parts_of, StandsInHistory}
-use Rattle.history.specs.Legal.{HasParts, IsAccepted, IsAtHome, IsDecided, IsLegal, IsOfPut}
+use Rattle.history.specs.Legal.{HasParts, IsAccepted, IsAtHome, IsDecided, IsGivenUp, IsLegal, IsOfPut}
 use Rattle.history.proofs.Lists.{prefix_has}
 use Rattle.history.proofs.Shown.{accepted_of_item}
 use Rattle.stamps.specs.Key.{home_of}
@@ -48,7 +48,7 @@ use Rattle.tenant_sessions.specs.declared.moves.MoveKind.{MoveKind}
 use Rattle.tenant_sessions.specs.declared.moves.MoveKind.TheVariants as turns
 use Rattle.tenant_sessions.specs.declared.session.ClientSession.{ClientSession}
 use Rattle.tenant_sessions.specs.Running.{MayBegin, RunsAs, waiting_calls}
-use Rattle.tenant_sessions.specs.Sending.{IsDiscard, IsGet, SendsSo, waiting_of}
+use Rattle.tenant_sessions.specs.Sending.{IsGet, SendsSo, waiting_of}
 use Rattle.tenant_sessions.specs.declared.moves.Move.{Move}
 use Rattle.tenant_sessions.specs.declared.moves.Move.TheVariants.{Decided, Ignored}
 use Rattle.tenant_sessions.specs.declared.running.Running.{Running}
@@ -71,18 +71,22 @@ goes_home seen parts partition (Found tag) has = tt
 goes_home seen parts partition (Collect keep) has = tt
 goes_home seen parts partition (Discard stamp) has = tt
 
--- a DISCARD is of any put
-pub discard_put : (seen : List HistoryEntry) (tenant : ℕ) (call : Call) → IsDiscard call → IsOfPut seen tenant call
-discard_put seen tenant (Discard stamp) is = tt
-discard_put seen tenant (Prepare version) is = absurd is
-discard_put seen tenant (Commit stamp) is = absurd is
-discard_put seen tenant (Get key stamp) is = absurd is
-discard_put seen tenant (Found tag) is = absurd is
-discard_put seen tenant (Collect keep) is = absurd is
+-- DISCARDs are of a put that was refused
+pub discards_of_put : (seen : List HistoryEntry) (tenant : ℕ) (stamp : Stamp) (outs : List Outgoing) → IsGivenUp seen tenant stamp
+    → All (λ (out : Outgoing). out.call ≡ Discard stamp) outs → AreOfPuts seen tenant outs
+discards_of_put seen tenant stamp outs given are =
+    All-weaker (λ (out : Outgoing). out.call ≡ Discard stamp) (λ (out : Outgoing). IsOfPut seen tenant out.call)
+    (λ out is. subst (λ (c : Call). IsOfPut seen tenant c) (sym is) given) outs are
 
 -- what holds of all holds of the one at a place
 pub all_got : {X : Type 0} (P : X → Type 0) (xs : List X) (i : ℕ) (x : X) → All P xs → slice_get xs i ≡ Some x → P x
 all_got P xs i x all at = subst P (get_or_from_slice_get xs i x x at) (All-get_or P xs i x (slice_get_within xs i x at) all)
+
+-- the message at a place of these calls has one that is of its put
+pub put_at : (seen : List HistoryEntry) (tenant client ticket nth : ℕ) (outs : List Outgoing) (message : Message) → AreOfPuts seen tenant outs
+    → slice_get (map (call_message client ticket) outs) nth ≡ Some message → IsOfPut seen tenant message.call
+put_at seen tenant client ticket nth outs message are at =
+    all_got (λ (m : Message). IsOfPut seen tenant m.call) (map (call_message client ticket) outs) nth message (All-map (λ (m : Message). IsOfPut seen tenant m.call) (call_message client ticket) outs are) at
 
 -- of keys that are not named twice one item has each
 one_item : (items : List Item) (a b : Item) → one_twice (keys_written items) ≡ false → a ∈ items → b ∈ items → a.key ≡ b.key → a ≡ b
@@ -110,21 +114,21 @@ reply_of sight asked (m ∷ ms) (e ∷ es) message (inl is) (inr has) = reply_of
 reply_of sight asked (m ∷ ms) (e ∷ es) message (inr is) has = reply_of sight asked (m ∷ ms) es message is has
 
 -- a message that says so has a PREPARE of that key and stamp, which was accepted
-record SaysPrepared (own : Stamp) (key : Key) (call : Call) (reply : Option Reply) : Type 0 where
-  version : Record
-  call_is : call ≡ Prepare version
-  reply_is : reply ≡ Some (ToPrepare Prepared)
-  at_key : version.key ≡ key
-  at_stamp : version.stamp ≡ own
+pub record SaysPrepared (own : Stamp) (key : Key) (call : Call) (reply : Option Reply) : Type 0 where
+  pub version : Record
+  pub call_is : call ≡ Prepare version
+  pub reply_is : reply ≡ Some (ToPrepare Prepared)
+  pub at_key : version.key ≡ key
+  pub at_stamp : version.stamp ≡ own
 
-says : (own : Stamp) (key : Key) (call : Call) (reply : Option Reply) → says_prepared own key call reply ≡ true → SaysPrepared own key call reply
+pub says : (own : Stamp) (key : Key) (call : Call) (reply : Option Reply) → says_prepared own key call reply ≡ true → SaysPrepared own key call reply
 says own key (Prepare version) (Some (ToPrepare Prepared)) is =
     let both = and_parts (bytes_eq version.key key) (version.stamp == own) is in
     record { version = version; call_is = refl; reply_is = refl; at_key = key_is version.key key both.0; at_stamp = eqb-true version.stamp own both.1 }
 says own key _ _ is = cc
 
 -- a call that is taken as a PREPARE is one of that key
-taken_as_prepare : (call : Call) (version : Record) (told : Call) → told ≡ Prepare version → IsCallFor call told → (first : Record) × (call ≡ Prepare first) × (first.key ≡ version.key)
+pub taken_as_prepare : (call : Call) (version : Record) (told : Call) → told ≡ Prepare version → IsCallFor call told → (first : Record) × (call ≡ Prepare first) × (first.key ≡ version.key)
 taken_as_prepare (Prepare first) version told is for =
     let same : Prepare (record first { stamp = for.0 }) ≡ Prepare version = sym for.1 ∙ is in
     let equal : ◌≡◌ {A = Record} (record first { stamp = for.0 }) version = cc in

@@ -168,10 +168,10 @@ came-served name seen mark first last partition tenant seat number place message
 -- and that its session takes as one to this message
 pub came-taken : (name : OperationSight) (seen : List HistoryEntry) (mark : Mark) (asked : Asked) (partition tenant seat number place : ℕ) (message meant : Message) (outcome : Result ℕ Fault) (reply : Reply)
     → IsPrefix seen name.seen → outcome ≡ Ok place → message.reply ≡ Some reply → tenant ≡ name.tenant → seat ≡ name.seat → mark ≡ name.mark
-    → CameSo seen mark partition tenant seat number message outcome → IsOf asked message.call → IsTakenFor message meant → IsReplyIn name asked meant (Took number partition place reply)
-came-taken name seen mark asked partition tenant seat number place message meant outcome reply pre is has its own marked came of taken =
+    → CameSo seen mark partition tenant seat number message outcome → IsOf asked message.call → message.partition ≡ partition → IsTakenFor message meant → IsReplyIn name asked meant (Took number partition place reply)
+came-taken name seen mark asked partition tenant seat number place message meant outcome reply pre is has its own marked came of at taken =
     let P : Mark → Type 0 = λ m. IsServedIn name.seen m partition name.tenant name.seat number place message.call reply in
-    (taken.reply ∙ has, ∥∥₁_map (came-given (record { tenant = name.tenant; seat = name.seat; seen = name.seen }) seen mark partition tenant seat number place message outcome reply pre is has its own came) (λ given. (message.call, taken.call, of, subst P marked given)))
+    (taken.reply ∙ has, ∥∥₁_map (came-given (record { tenant = name.tenant; seat = name.seat; seen = name.seen }) seen mark partition tenant seat number place message outcome reply pre is has its own came) (λ given. (message.call, taken.call, of, subst P marked given)), taken.partition ∙ at)
 
 -- a reply that is entered
 pub served-took : (name before : SeatSight) (seen : List HistoryEntry) (mark : Mark) (first last : ℕ) (start entries next : List Entry) (partition tenant seat number place : ℕ) (message : Message) (outcome : Result ℕ Fault) (reply : Reply)

@@ -14,3 +14,4 @@ mod Started
 mod Taking
 pub mod Evidence
 mod Fresh
+mod Done

@@ -1,7 +1,8 @@
--- What a seat reads, by what had been committed as the read began.
+-- What a seat reads, by what had been committed as the read began, and what a put commits.
 use Rattle.std.specs.Prelude.{◌≤◌, ℕ, List}
 use Rattle.plain_store.specs.declared.reading.Reading.{Reading}
-use Rattle.plain_store.specs.Words.{◌∈◌, Stamp}
+use Rattle.plain_store.specs.Words.{◌∈◌, Item, Key, Stamp}
+use Rattle.plain_store.specs.Writing.{keys_written}
 use Rattle.history.specs.declared.entry.HistoryEntry.{HistoryEntry}
 use Rattle.history.specs.Fresh.{IsCommittedIn}
 
@@ -9,3 +10,11 @@ use Rattle.history.specs.Fresh.{IsCommittedIn}
 abbrev pub IsReadFresh : List HistoryEntry → ℕ → List Reading → Type 0
 IsReadFresh before tenant readings =
     (reading : Reading) (stamp : Stamp) → reading ∈ readings → IsCommittedIn before tenant reading.item.key stamp → stamp ≤ reading.stamp
+
+-- what a put wrote to each of its keys, under this stamp, is committed at the home of the key
+abbrev pub AreCommittedIn : List HistoryEntry → ℕ → List Item → Stamp → Type 0
+AreCommittedIn seen tenant items own = (key : Key) → key ∈ keys_written items → ∥ IsCommittedIn seen tenant key own ∥₁
+
+-- none of the keys that the put wrote is read below its stamp
+abbrev pub IsNotMissed : List Item → Stamp → List Reading → Type 0
+IsNotMissed items own told = (reading : Reading) → reading ∈ told → reading.item.key ∈ keys_written items → own ≤ reading.stamp

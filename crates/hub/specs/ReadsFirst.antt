@@ -7,6 +7,7 @@ use Rattle.plain_store.specs.declared.refusal.Refusal.TheVariants.{RowsUsed, Sto
 use Rattle.plain_store.specs.declared.step.Act.TheVariants.{Put, Get}
 use Rattle.plain_store.specs.Words.{Key}
 use Rattle.plain_store.specs.Writing.{keys_written}
+use Rattle.hub.specs.Fresh.{AreCommittedIn}
 use Rattle.hub.specs.Limits.{max_calls}
 use Rattle.hub.specs.Operations.{IsLater, ReportsRead, ReportsWrite}
 use Rattle.hub.specs.Replies.{IfDone, IsDrawn}
@@ -45,3 +46,4 @@ pub record PutsNewest (items : List Item) (old : SeatView) (answer : Answer) (ne
   pub past : answer ≡ Refused RowsUsed → 2 ^ 62 - 128 < new.sent
   pub used_up : (old.stopped ≡ false) × (2 ^ 62 - 128 < old.sent) → answer ≡ Refused RowsUsed
   pub later : IsLater (2 * max_calls) old new
+  pub committed : IfDone answer (AreCommittedIn new.seen new.name.tenant items)

@@ -53,13 +53,14 @@ IsOf (Finds tag) call = Unit {0}
 
 -- The message has the reply of this entry, which this session's call of that number was given at that place of a journal of the
 -- partition, and of the history that its seat has seen, behind the mark of its operation. That call is one of what was asked, and is
--- the message's, but for its stamp.
+-- the message's, but for its stamp, and so is the partition.
 abbrev pub IsReplyIn : OperationSight → Asked → Message → Entry → Type 0
 IsReplyIn sight asked message (Began act) = ⊥
 IsReplyIn sight asked message (Took number partition place reply) =
     (message.reply ≡ Some reply)
     × ∥ ((call : Call) × IsCallFor call message.call × IsOf asked call
     × IsServedIn sight.seen sight.mark partition sight.tenant sight.seat number place call reply) ∥₁
+    × (message.partition ≡ partition)
 IsReplyIn sight asked message (Answered answer) = ⊥
 
 -- the messages have, in order, replies among those entered

@@ -20,7 +20,8 @@ pub use hub::Hub;
 pub use new_store::NewStore;
 pub use partition::Usage;
 pub use read_laws::{
-    seat_lists_are_atomic, seat_lists_are_fresh, seat_reads_are_atomic, seat_reads_are_fresh,
+    seat_lists_are_atomic, seat_lists_are_fresh, seat_puts_are_committed, seat_reads_are_atomic,
+    seat_reads_are_fresh, seat_reads_miss_no_put_that_was_done,
 };
 pub use seat::Seat;
 pub use shard::{Gate, Named, Sink, TenantUsage};

@@ -2,7 +2,7 @@
 ghost use Rattle.std.specs.Prelude.{◌≡◌, ◌<◌, ◌≤◌, ◌+◌, ◌^◌, ◌↔◌, ℕ, true, None, IfSome, IsTrue};
 ghost use mathlib.Core.List.{IsPrefix};
 ghost use Rattle.history.specs.Entries.{HasMark};
-ghost use Rattle.history.specs.Legal.{IsDecided, IsLegal};
+ghost use Rattle.history.specs.Legal.{IsDecided, IsGivenUp, IsLegal};
 ghost use Rattle.hub.specs.Evidence.{HasBegunIn, IsMarkedSince, IsOfTenant, MayBeDecided};
 ghost use Rattle.hub.specs.Requests.{intent_of};
 ghost use Rattle.tenant_sessions.specs.declared.moves.MoveKind.TheVariants.{Decided as Decides};
@@ -190,6 +190,30 @@ fn enter_decided<G: Naming>(
         return false;
     };
     if !its.decide(*stamp, seen) {
+        return false;
+    }
+    seen.learn(&its.seen());
+    true
+}
+
+/// Enters that the put of this stamp of this tenant's client was refused, and says whether that was done. It was not where the word is
+/// not here, or has other entries than were seen, and where this is not the client's last put or has ended.
+fn enter_given_up<G: Naming>(
+    client: &mut Option<TracedClient<G>>,
+    seen: &mut Front<G>,
+    tenant: u32,
+    stamp: Stamp,
+) -> bool
+    requires { IsOfTenant tenant client.old }
+    ensures given_up { IsTrue result → IsGivenUp seen.new tenant stamp }
+    ensures later { IsPrefix seen.old seen.new }
+    ensures legal { ∥ IsLegal seen.old ∥₁ → ∥ IsLegal seen.new ∥₁ }
+    ensures of_tenant { IsOfTenant tenant client.new }
+{
+    let Some(its) = client else {
+        return false;
+    };
+    if !its.give_up(stamp) {
         return false;
     }
     seen.learn(&its.seen());
@@ -512,6 +536,7 @@ impl<'a, G: Gate + Naming> RunningOperation<'a, G> {
         ensures took { (place : ℕ) (told : Served) → IsNone self.old.fault
             → reply.now.outcome ≡ Ok place → reply.now.message.value.reply ≡ Some told
             → IsUnder own reply.now.message.value.call
+            → reply.now.message.value.partition ≡ reply.now.partition
             → Extends (self.old.entries.items
             ++ Entry.Took reply.now.number reply.now.partition place told
             ∷ []) self.new.entries.items }
@@ -553,7 +578,7 @@ impl<'a, G: Gate + Naming> RunningOperation<'a, G> {
     }
 
     /// Enters a reply that was served, hands it to the session, and follows its move. One to a PREPARE or COMMIT under another stamp
-    /// than this is a fault.
+    /// than this is a fault, and so is one of another partition than the call was made for.
     fn enter_served<R: Wait>(
         &mut self,
         rt: &R,
@@ -575,6 +600,7 @@ impl<'a, G: Gate + Naming> RunningOperation<'a, G> {
             (operation_of self.old.name self.old.mark self.new.seen) own self.new answer.new }
         ensures took { (told : Served) → reply.now.message.value.reply ≡ Some told
             → IsUnder own reply.now.message.value.call
+            → reply.now.message.value.partition ≡ reply.now.partition
             → Extends (self.old.entries.items
             ++ Entry.Took reply.now.number reply.now.partition place told
             ∷ []) self.new.entries.items }
@@ -608,7 +634,7 @@ impl<'a, G: Gate + Naming> RunningOperation<'a, G> {
             self.fault = Some(Fault::NoTenant);
             return;
         };
-        if !is_under(&message.call, own) {
+        if !is_under(&message.call, own) || message.partition != reply.partition {
             self.fault = Some(Fault::NoTenant);
             return;
         }
@@ -839,20 +865,30 @@ impl<'a, G: Gate + Naming> RunningOperation<'a, G> {
         self.stage(message);
     }
 
-    /// Sends the calls that a move sends at its operation's end, if there are any, and says whether all went out.
+    /// Sends the calls that a move sends at its operation's end, if there are any, and says whether all went out. They are DISCARDs
+    /// of a put that was refused, which is entered first.
     fn send_ending<R: Wait>(&mut self, rt: &R, taken: &MoveKind, ticket: u64) -> bool
         requires { HasRoom
             (length (ending (moved taken.now self.old.readings.value))) self.old.dispatcher }
         ensures room { (calls : ℕ)
             → HasRoom (length (ending (moved taken.now self.old.readings.value))
             + calls) self.old.dispatcher → HasRoom calls self.new.dispatcher }
-        ensures sent { (told : List Shown)
+        ensures counted { self.old.dispatcher.sent ≤ self.new.dispatcher.sent }
+        ensures sent { IsTrue result → (told : List Shown)
             → self.new.dispatcher.sent
             ≡ self.old.dispatcher.sent + length (ending (moved taken.now told)) }
-        ensures rest { OnlySends self.old self.new }
+        ensures seen { IsPrefix self.old.seen self.new.seen }
+        ensures rest { (self.new.name ≡ self.old.name) × (self.new.session ≡ self.old.session)
+            × (self.new.entries ≡ self.old.entries) × (self.new.first ≡ self.old.first)
+            × (self.new.place ≡ self.old.place) × (self.new.fault ≡ self.old.fault)
+            × (self.new.readings ≡ self.old.readings) × (self.new.mark ≡ self.old.mark) }
     {
         if !taken.has_ending(0) {
             return true;
+        }
+        let tenant = self.name.tenant;
+        if !enter_given_up(&mut self.client, &mut self.seen, tenant, taken.discarded()) {
+            return false;
         }
         self.stage_ending(taken, ticket);
         self.dispatcher.dispatch(rt)
@@ -860,8 +896,10 @@ impl<'a, G: Gate + Naming> RunningOperation<'a, G> {
 
     /// Stages the calls that a move sends at its operation's end.
     fn stage_ending(&mut self, taken: &MoveKind, ticket: u64)
-        requires { HasRoom
+        requires room { HasRoom
             (length (ending (moved taken.now self.old.readings.value))) self.old.dispatcher }
+        requires puts { AreOfPuts self.old.seen self.old.name.tenant
+            (ending (moved taken.now self.old.readings.value)) }
         ensures room { (calls : ℕ)
             → HasRoom (length (ending (moved taken.now self.old.readings.value))
             + calls) self.old.dispatcher → HasRoom calls self.new.dispatcher }
@@ -890,6 +928,8 @@ impl<'a, G: Gate + Naming> RunningOperation<'a, G> {
     fn stage_ending_call(&mut self, taken: &MoveKind, ticket: u64, nth: u32)
         requires there { nth < length (ending (moved taken.now self.old.readings.value)) }
         requires room { HasRoom 1 self.old.dispatcher }
+        requires puts { AreOfPuts self.old.seen self.old.name.tenant
+            (ending (moved taken.now self.old.readings.value)) }
         ensures room { (calls : ℕ) → HasRoom (1 + calls) self.old.dispatcher
             → HasRoom calls self.new.dispatcher }
         ensures counted { self.new.dispatcher.sent ≡ self.old.dispatcher.sent + 1 }

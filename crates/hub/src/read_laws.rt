@@ -1,14 +1,15 @@
-//! What holds of each read of a seat. Each law is the contract of a function that does nothing.
-ghost use Rattle.std.specs.Prelude.{List};
+//! What holds of each read and of each put of a seat. Each law is the contract of a function that does nothing.
+ghost use Rattle.std.specs.Prelude.{ℕ, List};
+ghost use mathlib.Core.List.{IsPrefix};
 ghost use Rattle.entry_list.specs.declared.kinds.Entry.{Entry};
 ghost use Rattle.plain_store.specs.declared.reading.Reading.{Reading};
-ghost use Rattle.plain_store.specs.Words.{Key, Tag, Setup};
-ghost use Rattle.history.specs.Legal.{IsLegal};
+ghost use Rattle.plain_store.specs.Words.{Item, Key, Stamp, Tag, Setup};
+ghost use Rattle.history.specs.Legal.{HasParts, IsLegal};
 ghost use Rattle.history.specs.declared.entry.HistoryEntry.{HistoryEntry};
 ghost use Rattle.traced_client.specs.Clients.{HasWith};
 ghost use Rattle.hub.specs.Atomic.{IsReadAtomic};
-ghost use Rattle.hub.specs.Fresh.{IsReadFresh};
-ghost use Rattle.hub.specs.Replies.{IsListOf, IsReadOf};
+ghost use Rattle.hub.specs.Fresh.{AreCommittedIn, IsNotMissed, IsReadFresh};
+ghost use Rattle.hub.specs.Replies.{IsListOf, IsReadOf, IsWriteOf};
 ghost use Rattle.hub.specs.Sights.{OperationSight};
 
 /// What a seat reads is read atomic: it was written by decided puts of the store's history, and of none of these a part is read beside
@@ -43,4 +44,22 @@ pub fn seat_lists_are_fresh()
         (start entries : List Entry) (told : List Reading)
         → IsLegal sight.seen → HasWith sight.mark sight.seen before
         → IsListOf sight setup tag start entries told → IsReadFresh before sight.tenant told }
+{}
+
+/// A put that is answered as done has committed each key that it wrote.
+pub fn seat_puts_are_committed()
+    ensures { (sight : OperationSight) (setup : Setup) (items : List Item) (own : Stamp)
+        (start entries : List Entry)
+        → IsLegal sight.seen → HasParts sight.seen setup.partitions
+        → IsWriteOf sight setup own items start entries
+        → AreCommittedIn sight.seen sight.tenant items own }
+{}
+
+/// A read that began when its seat had seen the end of such a put does not miss it. Here `seen` is what the put's seat had seen at its
+/// end, and `before` what the reader's seat had seen as the read began.
+pub fn seat_reads_miss_no_put_that_was_done()
+    ensures { (seen before : List HistoryEntry) (tenant : ℕ) (items : List Item) (own : Stamp)
+        (told : List Reading)
+        → IsLegal seen → IsPrefix seen before → AreCommittedIn seen tenant items own
+        → IsReadFresh before tenant told → IsNotMissed items own told }
 {}

@@ -1,12 +1,12 @@
 //! A client's session.
 ghost use Rattle.std.specs.Prelude.{◌≡◌, ◌<◌, ◌≤◌, ◌+◌, ◌-◌, ◌^◌, ◌↔◌, ◌⊎◌, [], true, false, Some, OnOk, IfErr, IfSome, IfNone};
 ghost use Rattle.plain_store.specs.declared.step.Act.TheVariants.{Put, Get as GetAll, Find};
-ghost use Rattle.history.specs.Legal.{IsLegal};
+ghost use Rattle.history.specs.Legal.{HasParts, IsLegal};
 ghost use Rattle.hub.specs.Rooms.{awaited};
 ghost use Rattle.hub.specs.Limits.{max_calls};
 ghost use Rattle.hub.specs.Operations.{IsLater, IsOperation, ReportsList, ReportsRead, ReportsWrite};
 ghost use Rattle.hub.specs.Atomic.{IsReadAtomic};
-ghost use Rattle.hub.specs.Fresh.{IsReadFresh};
+ghost use Rattle.hub.specs.Fresh.{AreCommittedIn, IsReadFresh};
 ghost use Rattle.hub.specs.Evidence.{no_mark};
 ghost use Rattle.hub.specs.Replies.{IfDone, IfListed, IfRead, IfShows, IsDrawn, IsToldFor};
 ghost use Rattle.traced_client.specs.Clients.{HasWith};
@@ -55,6 +55,7 @@ pub struct Seat<'a, G: Naming> {
     ticket: u64,
     stopped: bool,
     ghost answered: { stopped ≡ false → awaited operation.dispatcher ≡ 0 },
+    ghost of_store: { ∥ HasParts operation.seen hub.now.parts ∥₁ },
 }
 
 impl<'a, G: Naming> Model for Seat<'a, G> {
@@ -76,6 +77,7 @@ impl<'a, G: Gate + Naming> Seat<'a, G> {
     ) -> Seat<'a, G>
         requires of_tenant { client.tenant ≡ name.tenant }
         requires legal { ∥ IsLegal seen ∥₁ }
+        requires of_store { ∥ HasParts seen hub.now.parts ∥₁ }
         ensures seen { result.seen ≡ seen }
         ensures rest { (result.name ≡ name) × (result.stopped ≡ false) × (result.sent ≡ 0)
             × (result.counter ≡ ends.entry.session.counter) × (result.parts ≡ hub.now.parts)
@@ -135,12 +137,15 @@ impl<'a, G: Gate + Naming> Seat<'a, G> {
     ///
     /// That it is done is the writer's answer to replies that this operation entered, whatever they are, each given to just the
     /// call that was answered by it, but for its stamp: each item's PREPARE was accepted, and then the COMMIT done at each home.
+    /// So each key is committed in the store's one history, and no read misses it that begins when its seat has seen as much.
     pub fn put_all<R: Wait>(&mut self, rt: &R, items: &[Item]) -> Answer
         ensures operated { IsOperation
             (Put self.old.name.client items.now) self.old result self.new }
         ensures stamp { IfDone result
             (IsDrawn self.old.name.client self.old.counter self.new.counter) }
         ensures written { ReportsWrite items.now self.old result self.new }
+        ensures committed { IfDone result
+            (AreCommittedIn self.new.seen self.new.name.tenant items.now) }
     {
         let mut answer = Answer::Ignored;
         self.put_all_into(rt, items, &mut answer);
@@ -154,6 +159,8 @@ impl<'a, G: Gate + Naming> Seat<'a, G> {
         ensures stamp { IfDone answer.new
             (IsDrawn self.old.name.client self.old.counter self.new.counter) }
         ensures written { ReportsWrite items.now self.old answer.new self.new }
+        ensures committed { IfDone answer.new
+            (AreCommittedIn self.new.seen self.new.name.tenant items.now) }
     {
         self.run(rt, &SeatRequest::Put(items), usize::MAX, answer);
     }
@@ -278,6 +285,7 @@ impl<'a, G: Gate + Naming> Seat<'a, G> {
         ensures since { IfShows request.now answer.new
             (HasWith self.new.mark self.new.seen self.old.seen) }
         ensures legal { ∥ IsLegal self.new.seen ∥₁ }
+        ensures of_store { ∥ HasParts self.new.seen self.old.parts ∥₁ }
     {
         if let Some(refusal) = self.refuses() {
             tell_refusal(refusal, answer);

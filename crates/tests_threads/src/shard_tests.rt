@@ -10,7 +10,7 @@ use shard::{
     Collector, Gate, Job, KeepSettings, SeatCall, SeatReply, Shard, ShardConfig, Sink, Task,
     collect_at, job_queue, work,
 };
-use stamps::{Client, Keep, Limits, Stamp};
+use stamps::{Client, Keep, Limits, Tag};
 use std::alloc::Global;
 use std::marker::Brand;
 use std::sync::atomic::{AtomicU64, Ordering};
@@ -112,7 +112,7 @@ fn job<J: Naming>(
         client: Client::new(1)?,
         ticket: 1,
         partition: 0,
-        call: Call::Discard(Stamp::ZERO),
+        call: Call::Found(Tag::read(b"red")?),
         reply: None,
     };
     let call = SeatCall {

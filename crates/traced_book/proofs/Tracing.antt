@@ -24,7 +24,7 @@ use Rattle.partition.specs.Journals.{event_exchange, log_after, room_for}
 use Rattle.history.specs.declared.entry.CallToServe.{CallToServe}
 use Rattle.history.specs.declared.entry.HistoryEntry.{HistoryEntry}
 use Rattle.history.specs.Asking.{served_by}
-use Rattle.history.specs.declared.entry.HistoryEntry.TheVariants.{Opened, Joined, Arrived, Began, Decided, ReadBegan, Served}
+use Rattle.history.specs.declared.entry.HistoryEntry.TheVariants.{Opened, Joined, Arrived, Began, Decided, GivenUp, ReadBegan, Served}
 use Rattle.history.specs.declared.entry.ServedCall.{ServedCall}
 use Rattle.history.specs.declared.entry.StoreOpening.{StoreOpening}
 use Rattle.history.specs.Entries.{but_last, calls_of, calls_served, count, limits_of, reply_in, room_in, room_of, served_at, served_to, StandsBehind}
@@ -282,6 +282,7 @@ opened_traced (Arrived word ∷ log) partition opens tenant account is = absurd 
 opened_traced (ReadBegan word ∷ log) partition opens tenant account is = absurd (cc opens)
 opened_traced (Began write ∷ log) partition opens tenant account is = absurd (cc opens)
 opened_traced (Decided decision ∷ log) partition opens tenant account is = absurd (cc opens)
+opened_traced (GivenUp decision ∷ log) partition opens tenant account is = absurd (cc opens)
 opened_traced (Served served ∷ log) partition opens tenant account is = absurd (cc opens)
 
 -- ---- what an admission comes to

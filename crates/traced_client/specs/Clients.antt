@@ -1,16 +1,18 @@
 -- What a client has of the history.
-use Rattle.std.specs.Prelude.{ℕ, ◌≡◌, ◌<◌, ◌≤◌, ◌+◌, ◌*◌, Bool, true, false, List, [], ◌∷◌, ◌++◌, Option, Some, IsSome, nat_eq}
+use Rattle.std.specs.Prelude.{ℕ, ◌≡◌, ◌⊎◌, ◌<◌, ◌≤◌, ◌+◌, ◌*◌, Bool, true, false, List, [], ◌∷◌, ◌++◌, Option, Some, IsSome, nat_eq}
 use mathlib.Core.List.{IsPrefix}
 use Rattle.indexmap.specs.IndexMap.{IndexMap, get}
 use Rattle.plain_store.specs.declared.refusal.Refusal.{Refusal}
 use Rattle.plain_store.specs.declared.refusal.Refusal.TheVariants.{Busy, RowsUsed, OutOfMemory}
 use Rattle.plain_store.specs.Words.{◌∈◌}
 use Rattle.history.specs.declared.entry.HistoryEntry.{HistoryEntry}
-use Rattle.history.specs.declared.entry.HistoryEntry.TheVariants.{Joined, Began}
+use Rattle.history.specs.declared.entry.HistoryEntry.TheVariants.{Joined, Began, Decided, GivenUp, ReadBegan}
+use Rattle.history.specs.declared.entry.Decision.{Decision}
 use Rattle.history.specs.declared.entry.JoinedClient.{JoinedClient}
 use Rattle.history.specs.declared.entry.Mark.{Mark}
 use Rattle.history.specs.declared.entry.Write.{Write}
 use Rattle.history.specs.Entries.{HasMark, own, count}
+use Rattle.history.specs.Legal.{MayEnd}
 
 -- the client's word, whose it is, the stamp of its last write, and what was seen of the history
 pub record ClientTrace : Type 0 where
@@ -20,12 +22,15 @@ pub record ClientTrace : Type 0 where
   pub last : ℕ
   pub seen : List HistoryEntry
 
--- The client joined under the word, and what was seen has each of its writes, none above this stamp.
-pub record IsTracedClient (word tenant client last : ℕ) (seen : List HistoryEntry) : Type 0 where
+-- The client joined under the word, and what was seen has each of its writes, none above this stamp. One that is open, which is the last
+-- one, may end.
+pub record IsTracedClient (word tenant client last : ℕ) (is_open : Bool) (seen : List HistoryEntry) : Type 0 where
   pub high : 64 < word
   pub some : 0 < count word seen
   pub joined : Joined (record { word = word; tenant = tenant; client = client }) ∈ seen
   pub above : (write : Write) → Began write ∈ own word seen → write.stamp ≤ last
+  pub ended : (decision : Decision) → (Decided decision ∈ own word seen) ⊎ (GivenUp decision ∈ own word seen) → decision.stamp ≤ last
+  pub unended : is_open ≡ true → MayEnd (own word seen) (record { word = word; tenant = tenant; stamp = last })
 
 -- the same client, under the same word
 pub record IsSameClient (old new : ClientTrace) : Type 0 where
@@ -37,6 +42,15 @@ pub record IsSameClient (old new : ClientTrace) : Type 0 where
 abbrev pub HasWith : Mark → (seen evidence : List HistoryEntry) → Type 0
 HasWith mark seen evidence =
     (log all : List HistoryEntry) → IsPrefix seen all → IsPrefix log all → HasMark log mark → IsPrefix evidence log
+
+-- A read or a search has an entry of its client's word, behind all that the evidence has, and what has the mark has all that stands before
+-- that entry.
+pub record HasReadEntry (mark : Mark) (seen evidence : List HistoryEntry) : Type 0 where
+  pub before : List HistoryEntry
+  pub after : List HistoryEntry
+  pub stands : seen ≡ before ++ ReadBegan mark.word ∷ after
+  pub behind : IsPrefix evidence before
+  pub marked : HasWith mark seen before
 
 -- The entry is the client's own, behind those that it had, and the one of its word since then.
 abbrev pub IsEntered : HistoryEntry → ClientTrace → ClientTrace → Type 0

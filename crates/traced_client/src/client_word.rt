@@ -2,10 +2,10 @@
 ghost use Rattle.std.specs.Prelude.{◌≡◌, ◌<◌, ◌↔◌, [], ◌∷◌, cond, IfNone, IfSome, IsTrue, false};
 ghost use mathlib.Core.List.{IsPrefix};
 ghost use Rattle.plain_store.specs.Words.{◌∈◌};
-ghost use Rattle.history.specs.declared.entry.HistoryEntry.TheVariants.{Joined, Arrived, Began, Decided, ReadBegan};
+ghost use Rattle.history.specs.declared.entry.HistoryEntry.TheVariants.{Joined, Arrived, Began, Decided, GivenUp, ReadBegan};
 ghost use Rattle.history.specs.Entries.{HasMark, own};
-ghost use Rattle.history.specs.Legal.{MayDecide};
-ghost use Rattle.traced_client.specs.Clients.{HasWith, IsEntered, IsSameClient};
+ghost use Rattle.history.specs.Legal.{MayDecide, MayEnd};
+ghost use Rattle.traced_client.specs.Clients.{HasReadEntry, IsEntered, IsSameClient};
 
 use history::{Decision, Front, Mark, Naming, Tally, WriteToBegin};
 use stamps::{Client, Item, Stamp};
@@ -21,6 +21,8 @@ pub struct TracedClient<J: Naming> {
     pub(crate) tenant: u32,
     pub(crate) client: Client,
     last: Stamp,
+    /// Whether that write has neither been decided nor refused.
+    is_open: bool,
     tally: Tally<J>,
     entries: u64,
     front: Front<J>,
@@ -35,7 +37,7 @@ impl<J: Naming> Model for TracedClient<J> {
 
     ghost view = { λ c. record { word = c.tally.key; tenant = c.tenant; client = c.client; last = c.last; seen = c.front } };
 
-    ghost invariant = { λ c. IsTracedClient c.tally.key c.tenant c.client c.last c.front × (count c.tally.key c.front ≡ c.entries) };
+    ghost invariant = { λ c. IsTracedClient c.tally.key c.tenant c.client c.last c.is_open c.front × (count c.tally.key c.front ≡ c.entries) };
 }
 
 impl<J: Naming> TracedClient<J> {
@@ -52,6 +54,7 @@ impl<J: Naming> TracedClient<J> {
             tenant,
             client,
             last: Stamp::ZERO,
+            is_open: false,
             tally,
             entries: 1,
             front,
@@ -107,13 +110,14 @@ impl<J: Naming> TracedClient<J> {
         self.front = front;
         self.entries += 1;
         self.last = stamp;
+        self.is_open = true;
         true
     }
 
     /// Enters that a read or a search of the client begins, behind all that the evidence has seen, and answers its mark: what has it
-    /// has what the evidence has. None where the client has other entries than were seen here, or 2^62. Then nothing has changed.
+    /// has all that stands before this entry. None where the client has other entries than were seen here, or 2^62. Then nothing has changed.
     pub fn begin_read(&mut self, evidence: &Front<J>) -> Option<Mark>
-        ensures since { IfSome result (λ mark. HasWith mark self.new.seen evidence.now) }
+        ensures since { IfSome result (λ mark. HasReadEntry mark self.new.seen evidence.now) }
         ensures marked { IfSome result (λ mark. HasMark self.new.seen mark) }
         ensures entered { IfSome result
             (λ _. IsEntered (ReadBegan self.old.word) self.old self.new) }
@@ -138,8 +142,19 @@ impl<J: Naming> TracedClient<J> {
         })
     }
 
-    /// Enters that the write of this stamp is decided, and says whether it did. It did not where the client has other entries than
-    /// were seen here, or 2^62. Then nothing has changed. The evidence shows that all items of the write are prepared.
+    /// Whether the write of this stamp may end: it is the client's last one, and was neither decided nor refused.
+    fn may_end(&self, stamp: Stamp) -> bool
+        ensures last { IsTrue result → stamp ≡ self.now.last }
+        ensures unended { IsTrue result
+            → MayEnd (own self.now.word self.now.seen)
+            (record { word = self.now.word; tenant = self.now.tenant; stamp = stamp }) }
+    {
+        self.is_open && stamp == self.last
+    }
+
+    /// Enters that the write of this stamp is decided, and says whether it did. It did not where this is not the client's last
+    /// write or has ended, and where the client has other entries than were seen here, or 2^62. Then nothing has changed. The
+    /// evidence shows that all items of the write are prepared.
     pub fn decide(&mut self, stamp: Stamp, evidence: &Front<J>) -> bool
         requires { ∥ MayDecide evidence.now
             (record { word = self.old.word; tenant = self.old.tenant; stamp = stamp }) ∥₁ }
@@ -156,7 +171,7 @@ impl<J: Naming> TracedClient<J> {
         ensures whose { IsSameClient self.old self.new }
         ensures unchanged { result ≡ false → self.new ≡ self.old }
     {
-        if self.entries >= MOST {
+        if self.entries >= MOST || !self.may_end(stamp) {
             return false;
         }
         let decision = Decision {
@@ -170,6 +185,40 @@ impl<J: Naming> TracedClient<J> {
         }
         self.front = front;
         self.entries += 1;
+        self.is_open = false;
+        true
+    }
+
+    /// Enters that the write of this stamp was refused, and says whether it did. It did not where this is not the client's last
+    /// write or has ended, and where the client has other entries than were seen here, or 2^62. Then nothing has changed.
+    pub fn give_up(&mut self, stamp: Stamp) -> bool
+        ensures entered { IsTrue result
+            → IsEntered
+            (GivenUp (record { word = self.old.word; tenant = self.old.tenant; stamp = stamp }))
+            self.old self.new }
+        ensures given_up { IsTrue result
+            → GivenUp
+            (record { word = self.old.word; tenant = self.old.tenant; stamp = stamp }) ∈ self.new.seen }
+        ensures last { self.new.last ≡ self.old.last }
+        ensures later { IsPrefix self.old.seen self.new.seen }
+        ensures whose { IsSameClient self.old self.new }
+        ensures unchanged { result ≡ false → self.new ≡ self.old }
+    {
+        if self.entries >= MOST || !self.may_end(stamp) {
+            return false;
+        }
+        let decision = Decision {
+            word: self.tally.key,
+            tenant: self.tenant,
+            stamp,
+        };
+        let mut front = self.front.again();
+        if !front.give_up(&self.tally, self.entries, &decision) {
+            return false;
+        }
+        self.front = front;
+        self.entries += 1;
+        self.is_open = false;
         true
     }
 }

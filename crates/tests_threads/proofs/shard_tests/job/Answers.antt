@@ -9,7 +9,7 @@ of_ok : {A E : Type 0} (P : A → Type 0) (result : Result A E) (value : A) → 
 of_ok P (Ok its) value is holds = subst (λ it. IfSome it P) is holds
 of_ok P (Err fault) value is holds = let no : None ≡ Some value = is in cc
 
--- a DISCARD is of no put, and of no key
+-- a FOUND is of no put, and of no key
 pub invariant_of-call-clause-may : goal.invariant_of-call-clause-may
 invariant_of-call-clause-may g c =
     let boxed = of_ok _ c.new-2.result c.in_ok-ok.field-0 (sym c.ok.ensures.value ∙ c.in_ok-ok.was) c.new-2.ensures.ok in

@@ -34,8 +34,9 @@ returns-clause-read g c name setup asked start stamped is its own marked pre rea
     let has : reply.message.value.reply ≡ Some c.in-Some.told = cc in
     let under : IsUnder c.args.own c.deref-message.result.now.call = c.is_under.ensures.0 c.if-not-is_under.false in
     let of : IsOf asked reply.message.value.call = under-asked c.args.own asked _ stamped (subst (λ (m : Message). IsUnder c.args.own m.call) c.deref-message.ensures under) in
+    let at : reply.message.value.partition ≡ reply.partition = subst (λ (m : Message). m.partition ≡ reply.partition) c.deref-message.ensures c.if-message-reply.false in
     let enters = λ (m : Message) (same : IsTakenFor c.deref-message.result.now m).
-    came-taken name reply.front reply.mark asked reply.partition reply.tenant reply.seat reply.number c.args.place reply.message.value m reply.outcome _ pre is has its own marked reply.came of
+    came-taken name reply.front reply.mark asked reply.partition reply.tenant reply.seat reply.number c.args.place reply.message.value m reply.outcome _ pre is has its own marked reply.came of at
     (subst (λ (from : Message). IsTakenFor from m) c.deref-message.ensures same) in
     let served = reads-served name setup asked start c.args.self.now.entries.items c.push_took.new.self.entries.items c.args.self.now.session c.push_took.new.self.session c.move_into.new.self c.args.self.now.place c.push_took.new.self.place c.args.answer.now _ _ _ _ _ _
     c.push_took.ensures.took c.push_took.ensures.only.session c.push_took.ensures.place enters c.move_into.ensures.shown reads in
@@ -62,9 +63,10 @@ follow-requires-clause-decided g c stamp is =
     let has : reply.message.value.reply ≡ Some c.in-Some.told = cc in
     let under : IsUnder c.args.own c.deref-message.result.now.call = c.is_under.ensures.0 c.if-not-is_under.false in
     let under_own : IsUnder c.args.own reply.message.value.call = subst (λ (m : Message). IsUnder c.args.own m.call) c.deref-message.ensures under in
+    let at : reply.message.value.partition ≡ reply.partition = subst (λ (m : Message). m.partition ≡ reply.partition) c.deref-message.ensures c.if-message-reply.false in
     let enters = λ (asked : Asked) (stamped : IsStampOf c.args.own asked) (m : Message) (same : IsTakenFor c.deref-message.result.now m).
     came-taken sight reply.front reply.mark asked reply.partition reply.tenant reply.seat reply.number c.args.place reply.message.value m reply.outcome _ c.requires.front c.requires.served has c.requires.own.0 c.requires.own.1 c.requires.own.2 reply.came
-    (under-asked c.args.own asked _ stamped under_own) (subst (λ (from : Message). IsTakenFor from m) c.deref-message.ensures same) in
+    (under-asked c.args.own asked _ stamped under_own) at (subst (λ (from : Message). IsTakenFor from m) c.deref-message.ensures same) in
     let Q : ClientSession → Type 0 = λ s. IsUnderWay sight c.args.own before.entries.items s.running (told_by before.place c.args.answer.now) in
     let P : ℕ → Type 0 = λ t. MayBeDecided before.seen t stamp in
     let R : List HistoryEntry → Type 0 = λ l. MayBeDecided l kept.name.tenant stamp in

@@ -1,6 +1,6 @@
 use Rattle.std.proofs.Common.{◌≡◌, ◌≤◌, ◌+◌, ◌∙◌, [], ap, refl, sym, subst, arith}
 use mathlib.Core.List.{IsPrefix}
-use Rattle.history.proofs.Lists.{prefix_of_itself}
+use Rattle.history.proofs.Lists.{prefix_join, prefix_of_itself}
 use Rattle.tenant_sessions.specs.CallsLeft.{calls_left, calls_sent, calls_waiting}
 use Rattle.tenant_sessions.specs.Moves.{moved}
 use Rattle.hub.specs.Rooms.{HasRoom}
@@ -58,7 +58,7 @@ returns-else-not-send_ending-clause-sent g c none =
     let before = c.args.self.now in
     let told = before.readings.value in
     let last = sym (c.is_last.ensures told) ∙ c.if-is_last.true in
-    omega (arith, c.send_ending.ensures.sent told, ap (λ q. q.sent) c.enter_end.ensures.only.dispatcher, sent_at_end (moved c.args.taken.now told) (calls_waiting before.session.running) last)
+    omega (arith, c.send_ending.ensures.sent c.if-not-send_ending.false told, ap (λ q. q.sent) c.enter_end.ensures.only.dispatcher, sent_at_end (moved c.args.taken.now told) (calls_waiting before.session.running) last)
 
 pub returns-else-sends-clause-sent : goal.returns-else-sends-clause-sent
 returns-else-sends-clause-sent g c none =
@@ -78,10 +78,10 @@ returns-else-sends-clause-sent g c none =
     ]
 
 pub returns-then-not-send_ending-clause-counted : goal.returns-then-not-send_ending-clause-counted
-returns-then-not-send_ending-clause-counted g c = omega (arith, c.send_ending.ensures.sent [], ap (λ q. q.sent) c.enter_end.ensures.only.dispatcher)
+returns-then-not-send_ending-clause-counted g c = omega (arith, c.send_ending.ensures.counted, ap (λ q. q.sent) c.enter_end.ensures.only.dispatcher)
 
 pub returns-else-not-send_ending-clause-counted : goal.returns-else-not-send_ending-clause-counted
-returns-else-not-send_ending-clause-counted g c = omega (arith, c.send_ending.ensures.sent [], ap (λ q. q.sent) c.enter_end.ensures.only.dispatcher)
+returns-else-not-send_ending-clause-counted g c = omega (arith, c.send_ending.ensures.counted, ap (λ q. q.sent) c.enter_end.ensures.only.dispatcher)
 
 pub returns-else-sends-clause-counted : goal.returns-else-sends-clause-counted
 returns-else-sends-clause-counted g c =
@@ -103,10 +103,10 @@ returns-else-sends-clause-seen g c =
     ]
 
 pub returns-then-not-send_ending-clause-seen : goal.returns-then-not-send_ending-clause-seen
-returns-then-not-send_ending-clause-seen g c = prefix_is _ _ (sym (c.send_ending.ensures.rest.7 ∙ c.enter_end.ensures.only.seen))
+returns-then-not-send_ending-clause-seen g c = prefix_join _ _ _ (prefix_is _ _ (sym c.enter_end.ensures.only.seen)) c.send_ending.ensures.seen
 
 pub returns-else-not-send_ending-clause-seen : goal.returns-else-not-send_ending-clause-seen
-returns-else-not-send_ending-clause-seen g c = prefix_is _ _ (sym (c.send_ending.ensures.rest.7 ∙ c.enter_end.ensures.only.seen))
+returns-else-not-send_ending-clause-seen g c = prefix_join _ _ _ (prefix_is _ _ (sym c.enter_end.ensures.only.seen)) c.send_ending.ensures.seen
 
 -- by which each reply so far stands
 pub returns-then-not-send_asked-clause-served : goal.returns-then-not-send_asked-clause-served
@@ -128,6 +128,22 @@ returns-else-sends-clause-served g c first last start are =
           (served-same (sight_of before.name now.seen) (sight_of before.name now.seen) first first last last start before.entries.items now.entries.items refl refl (omega arith) (ap (λ e. e.items) w.send_asked.ensures.rest.2) later)
       | else-sends-via-else-sends w ↦ subst P (sym w.self-is) are
     ]
+
+pub returns-then-not-send_ending-clause-served : goal.returns-then-not-send_ending-clause-served
+returns-then-not-send_ending-clause-served g c first last start are =
+    let name = c.args.self.now.name in
+    let ended = c.enter_end.new.self in
+    let now = c.send_ending.new.self in
+    let later = served-later (sight_of name ended.seen) (sight_of name now.seen) first last start ended.entries.items (record { tenant = refl; seat = refl; seen = c.send_ending.ensures.seen }) (c.enter_end.ensures.served first last start are) in
+    served-same (sight_of name now.seen) (sight_of name now.seen) first first last last start ended.entries.items now.entries.items refl refl (omega arith) (ap (λ e. e.items) c.send_ending.ensures.rest.2) later
+
+pub returns-else-not-send_ending-clause-served : goal.returns-else-not-send_ending-clause-served
+returns-else-not-send_ending-clause-served g c first last start are =
+    let name = c.args.self.now.name in
+    let ended = c.enter_end.new.self in
+    let now = c.send_ending.new.self in
+    let later = served-later (sight_of name ended.seen) (sight_of name now.seen) first last start ended.entries.items (record { tenant = refl; seat = refl; seen = c.send_ending.ensures.seen }) (c.enter_end.ensures.served first last start are) in
+    served-same (sight_of name now.seen) (sight_of name now.seen) first first last last start ended.entries.items now.entries.items refl refl (omega arith) (ap (λ e. e.items) c.send_ending.ensures.rest.2) later
 
 -- within the same operation
 pub returns-else-sends-clause-mark : goal.returns-else-sends-clause-mark

@@ -1,8 +1,13 @@
-use Rattle.std.proofs.Common.{◌+◌, ◌<◌, ◌≤◌, ◌∙◌, length, map, slice_get, ap, refl, sym, arith}
+use Rattle.std.proofs.Common.{◌+◌, ◌<◌, ◌≤◌, ◌∙◌, List, length, map, slice_get, ap, refl, subst, sym, arith}
 use Rattle.std.proofs.lemmas.Bool.{ltb-false, ltb-true}
 use Rattle.std.proofs.lemmas.List.{length-map}
+use Rattle.plain_store.specs.declared.reading.Reading.{Reading}
 use Rattle.plain_store.specs.Run.{call_message}
+use Rattle.plain_store.specs.Writing.{Outgoing}
+use Rattle.history.specs.declared.entry.HistoryEntry.{HistoryEntry}
+use Rattle.shard.specs.declared.seat_name.SeatName.{SeatName}
 use Rattle.tenant_sessions.specs.Moves.{moved, ending}
+use Rattle.hub.specs.Evidence.{AreOfPuts}
 use Rattle.hub.proofs.Behind.{behind-start, behind-more, behind-all, next-same}
 use Rattle.hub.proofs.Rooms.{room_for_fewer, same-ending}
 use Rattle.hub.proofs.operation.RunningOperation.stage_ending.Goals as goal
@@ -11,7 +16,19 @@ pub stage_ending_call-requires-clause-room : goal.stage_ending_call-requires-cla
 stage_ending_call-requires-clause-room g c =
     let told = c.args.self.now.readings.value in
     let less : c.loop-nth.nth < length (ending (moved c.args.taken.now told)) = ltb-true _ _ (sym (c.has_ending.ensures told) ∙ c.if-not-has_ending.false) in
-    c.loop-nth.invariant.room 1 (room_for_fewer (c.loop-nth.nth + 1) _ c.args.self.now.dispatcher (omega arith) c.requires)
+    c.loop-nth.invariant.room 1 (room_for_fewer (c.loop-nth.nth + 1) _ c.args.self.now.dispatcher (omega arith) c.requires.room)
+
+-- they are those that were
+pub stage_ending_call-requires-clause-puts : goal.stage_ending_call-requires-clause-puts
+stage_ending_call-requires-clause-puts g c =
+    let so_far = c.loop-nth.invariant in
+    let before = c.args.self.now in
+    let now = c.loop-nth.self in
+    let P : List Reading → Type 0 = λ told. AreOfPuts before.seen before.name.tenant (ending (moved c.args.taken.now told)) in
+    let calls : List Outgoing = ending (moved c.args.taken.now now.readings.value) in
+    let Q : SeatName → Type 0 = λ n. AreOfPuts before.seen n.tenant calls in
+    let R : List HistoryEntry → Type 0 = λ l. AreOfPuts l now.name.tenant calls in
+    subst R (sym so_far.seen) (subst Q (sym so_far.name) (subst P (ap (λ r. r.value) (sym so_far.readings)) c.requires.puts))
 
 pub loop-nth-preserved : goal.loop-nth-preserved
 loop-nth-preserved g c =
@@ -62,7 +79,7 @@ returns-clause-staged g c told =
     let calls = ending (moved c.args.taken.now told) in
     let message = call_message c.args.self.now.name.client c.args.ticket in
     let same = same-ending c.args.taken.now told c.args.self.now.readings.value in
-    let most : length calls ≤ c.loop-nth.nth = omega (arith, ap length same, c.requires.there.numbers, c.loop-nth-test.false) in
+    let most : length calls ≤ c.loop-nth.nth = omega (arith, ap length same, c.requires.room.there.numbers, c.loop-nth-test.false) in
     behind-all _ _ _ c.loop-nth.nth (map message calls) _ _ (omega (arith, most, length-map calls message)) (c.loop-nth.invariant.staged told)
 
 -- none is staged yet

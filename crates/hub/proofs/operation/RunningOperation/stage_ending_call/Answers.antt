@@ -1,19 +1,22 @@
 use Rattle.std.proofs.Common.{◌+◌, ap, arith, refl, sym, ◌∙◌, Some, None}
 use Rattle.std.specs.Prelude.{if◌then◌else◌}
 use Rattle.std.specs.VecDeque.{deque_len}
-use Rattle.hub.proofs.Evidence.{discard_put}
+use Rattle.tenant_sessions.specs.Moves.{ending, moved}
+use Rattle.hub.proofs.Evidence.{put_at}
 use Rattle.hub.proofs.Behind.{next-same}
 use Rattle.hub.proofs.operation.RunningOperation.stage_ending_call.Goals as goal
 
 pub stage-requires-clause-places : goal.stage-requires-clause-places
 stage-requires-clause-places g c = c.take_box-message.ensures.room 1 c.requires.room.there
 
--- it is a DISCARD
+-- it is one of those that are sent at the end
 pub stage-requires-clause-put : goal.stage-requires-clause-put
 stage-requires-clause-put g c =
     let self = c.args.self.now in
     let place = c.ending_into-is_made.new.place in
-    ∣ discard_put self.seen self.name.tenant place.call (c.ending_into-is_made.ensures.discard c.if-prove.false) ∣₁
+    let told = self.readings.value in
+    let made = ap (λ b. if b then Some place else None) c.if-prove.false in
+    ∣ put_at self.seen self.name.tenant self.name.client c.args.ticket c.args.nth (ending (moved c.args.taken.now told)) place c.requires.puts (sym (c.ending_into-is_made.ensures.told told) ∙ made) ∣₁
 
 pub returns-clause-room : goal.returns-clause-room
 returns-clause-room g c calls room = record {

@@ -2,6 +2,7 @@ use Rattle.std.proofs.Common.{◌≡◌, true, false, ap, inl, inr, refl, sym, �
 use Rattle.hub.specs.Seats.{is_unrecorded}
 use Rattle.hub.proofs.Operations.{entered-last, entered-stays}
 use Rattle.hub.proofs.ReadsFirst.{both-stopped, later-both, later-one}
+use Rattle.hub.proofs.Replies.{none_done}
 use Rattle.hub.proofs.seat.Seat.put_newest_into.Goals as goal
 
 pub returns-then-has_no_entry : goal.returns-then-has_no_entry
@@ -18,6 +19,7 @@ returns-then-has_no_entry g c = record {
   past = λ is. omega (arith, (c.read_first.ensures.past.0 is).1, c.read_first.ensures.later.sent.0);
   used_up = c.read_first.ensures.past.1;
   later = later-one c.args.self.now c.read_first.new.self c.read_first.ensures.later;
+  committed = none_done c.read_first.new.answer _ (sym c.has_no_entry.ensures ∙ c.if-has_no_entry.true);
 }
 
 pub returns : goal.returns
@@ -38,4 +40,5 @@ returns g c = record {
   used_up = λ used.
       let both : true ≡ false = sym (ap is_unrecorded (c.read_first.ensures.past.1 used)) ∙ sym c.has_no_entry.ensures ∙ c.if-has_no_entry.false in cc;
   later = later-both c.args.self.now c.read_first.new.self c.put_all_into.new.self c.read_first.ensures.later c.put_all_into.ensures.operated.later;
+  committed = c.put_all_into.ensures.committed;
 }

@@ -1,16 +1,20 @@
-use Rattle.std.proofs.Common.{◌≡◌, ◌≤◌, ◌+◌, ℕ, ap, subst, sym, refl, ◌∙◌, ◌++◌, ◌∷◌, [], List, Some, false, arith}
+use Rattle.std.proofs.Common.{◌≡◌, ◌≤◌, ◌+◌, ℕ, ap, subst, sym, refl, ◌∙◌, ◌++◌, ◌∷◌, [], List, Some, Result, Ok, Err, false, arith}
+use Rattle.std.specs.Prelude.{is_err, OnOk}
+use Rattle.std.proofs.Math.Logic.{∥∥₁_map}
 use Rattle.entry_list.specs.declared.kinds.Entry.{Entry}
 use Rattle.tenant_sessions.specs.declared.session.ClientSession.{ClientSession}
 use Rattle.entry_list.specs.declared.kinds.Entry.TheVariants.{Began}
 use Rattle.history.specs.declared.entry.HistoryEntry.{HistoryEntry}
-use Rattle.history.specs.Legal.{IsLegal}
+use Rattle.history.specs.Legal.{HasParts, IsLegal}
 use Rattle.hub.specs.Limits.{max_calls}
 use Rattle.hub.specs.Replies.{IfShows, IsDrawn, IsToldFor}
+use Rattle.shard.specs.declared.jobs.Fault.{Fault}
 use Rattle.shard.specs.declared.seat_name.SeatName.{SeatName}
 use Rattle.hub.specs.Requests.{act_of}
 use Rattle.hub.specs.Seats.{SeatView, Follows, last_operation, sight}
 use Rattle.hub.specs.Sights.{OperationSight, operation_of, sight_of}
 use Rattle.history.specs.declared.entry.Mark.{Mark}
+use Rattle.history.proofs.Following.{has_parts_later}
 use Rattle.history.proofs.Lists.{prefix_join}
 use Rattle.traced_client.specs.Clients.{HasWith}
 use Rattle.hub.specs.Taken.{replies_in}
@@ -20,6 +24,21 @@ use Rattle.hub.proofs.Given.{prefix_is, operations, served-began, served-same, s
 use Rattle.hub.proofs.Operations.{entered-as, later-same, unbegun-entered}
 use Rattle.hub.proofs.Replies.{reads-refused, reads-run, shows_refused, shows_run}
 use Rattle.hub.proofs.seat.Seat.run.Goals as goal
+
+-- where it goes on, no reply is still to come; and what it sees is of the same store
+pub invariant_of-self-inside-2 : goal.invariant_of-self-inside-2
+invariant_of-self-inside-2 g c =
+    let before = c.self.inside in
+    let going = ap (λ (s : SeatView). s.stopped) c.self.view_is ∙ c.in_default.ensures.open.0 in
+    let later = prefix_join _ _ _ (prefix_is _ _ (sym c.in-Ok.ensures.keeps.seen)) (prefix_join _ _ _ c.perform-told.ensures.goes_on.seen (prefix_is _ _ (sym c.count-sent.ensures.keeps.seen))) in (
+      λ well. ap (λ q. q.served + q.queued) c.count-sent.ensures.dispatcher
+          ∙ ended c.perform-told.result (sym c.is_err-self-inside.ensures.value ∙ well) (c.perform-told.ensures.awaited (c.in-Ok.ensures.awaited ∙ before.answered going)),
+      (∥∥₁_map before.of_store (has_parts_later before.operation.seen c.count-sent.new.self.seen before.hub.now.parts later), tt),
+    )
+  where
+    ended : {P : Type 0} (told : Result (Unit {0}) Fault) → is_err told ≡ false → OnOk told P → P
+    ended (Ok done) well has = has
+    ended (Err fault) well has = absurd (cc well)
 
 pub returns-clause-entered : goal.returns-clause-entered
 returns-clause-entered g c =
@@ -132,3 +151,15 @@ returns-clause-since g c =
 
 pub returns-in-Some-clause-since : goal.returns-in-Some-clause-since
 returns-in-Some-clause-since g c = shows_refused c.args.request.now c.in-Some.refusal _ _ c.tell_refusal.ensures
+
+-- the opening is seen still
+pub returns-clause-of_store : goal.returns-clause-of_store
+returns-clause-of_store g c =
+    let before = c.args.self.now in
+    let P : SeatView → Type 0 = λ s. ∥ HasParts s.seen s.parts ∥₁ in
+    ∥∥₁_map (subst P c.self.view_is c.self.inside.of_store) (has_parts_later before.seen c.finish.new.self.seen before.parts (returns-clause-later g c).seen)
+
+pub returns-in-Some-clause-of_store : goal.returns-in-Some-clause-of_store
+returns-in-Some-clause-of_store g c =
+    let P : SeatView → Type 0 = λ s. ∥ HasParts s.seen s.parts ∥₁ in
+    subst P c.self.view_is c.self.inside.of_store

@@ -21,7 +21,7 @@ begin-requires-clause-may g c =
     let client : client_of c.args.stamp ≡ b.client = sym c.client.ensures ∙ c.if-client-get.false ∙ c.get.ensures.value in
     let above : b.last < c.args.stamp = omega (arith, c.if-number.false, c.number.ensures.value, c.number-else-client-get.ensures.value) in
     let P : List HistoryEntry → Type 0 = λ seen. ∥ MayBegin (own b.tally.key seen) seen write ∥₁ in
-    subst P (sym c.again-front.ensures.same) ∣ may_begin write b.client b.last b.front c.self.invariant.0 client above ∣₁
+    subst P (sym c.again-front.ensures.same) ∣ may_begin write b.client b.last b.is_open b.front c.self.invariant.0 client above ∣₁
 
 pub invariant_of-self : goal.invariant_of-self
 invariant_of-self g c =
@@ -30,7 +30,7 @@ invariant_of-self g c =
     let above : b.last < c.args.stamp = omega (arith, c.if-number.false, c.number.ensures.value, c.number-else-client-get.ensures.value) in
     let P : List HistoryEntry → Type 0 = λ seen. IsAdded b.tally.key b.entries (Began write) seen c.begin.new.self in
     let added : P b.front = subst P c.again-front.ensures.same c.if-not-begin.ensures.added in (
-      traced_began write b.client b.last b.entries b.front c.begin.new.self c.self.invariant.0 above c.self.invariant.1 added,
+      traced_began write b.client b.last b.is_open b.entries b.front c.begin.new.self c.self.invariant.0 above c.self.invariant.1 added,
       added_count b.tally.key b.entries (Began write) b.front c.begin.new.self (equal_test b.tally.key b.tally.key refl) added,
     )
 

@@ -6,7 +6,7 @@ use Rattle.history.specs.Rules.{IsAdded}
 use Rattle.history.proofs.Counts.{equal_test}
 use Rattle.history.proofs.Servings.{added_count}
 use Rattle.traced_client.specs.Clients.{ClientTrace}
-use Rattle.traced_client.proofs.Following.{has_with, own_added, traced_asked}
+use Rattle.traced_client.proofs.Following.{own_added, read_entry, traced_asked}
 use Rattle.traced_client.proofs.client_word.TracedClient.begin_read.Goals as goal
 
 pub invariant_of-self : goal.invariant_of-self
@@ -14,7 +14,7 @@ invariant_of-self g c =
     let b = c.self.inside in
     let P : List HistoryEntry → Type 0 = λ seen. IsAdded b.tally.key b.entries (ReadBegan b.tally.key) seen c.begin_read.new.self in
     let added : P b.front = subst P c.again-front.ensures.same c.if-not-begin_read.ensures.added in (
-      traced_asked b.tally.key b.tenant b.client b.last b.entries b.front c.begin_read.new.self c.self.invariant.0 c.self.invariant.1 added,
+      traced_asked b.tally.key b.tenant b.client b.last b.is_open b.entries b.front c.begin_read.new.self c.self.invariant.0 c.self.invariant.1 added,
       added_count b.tally.key b.entries (ReadBegan b.tally.key) b.front c.begin_read.new.self (equal_test b.tally.key b.tally.key refl) added,
     )
 
@@ -23,7 +23,7 @@ returns-clause-since g c =
     let b = c.self.inside in
     let P : List HistoryEntry → Type 0 = λ seen. IsAdded b.tally.key b.entries (ReadBegan b.tally.key) seen c.begin_read.new.self in
     let added : P b.front = subst P c.again-front.ensures.same c.if-not-begin_read.ensures.added in
-    has_with b.tally.key b.entries (ReadBegan b.tally.key) b.front c.begin_read.new.self c.args.evidence.now (equal_test b.tally.key b.tally.key refl) c.self.invariant.1 added (c.begin_read.ensures.behind c.if-not-begin_read.false)
+    read_entry b.tally.key b.entries b.front c.begin_read.new.self c.args.evidence.now c.self.invariant.1 added (c.begin_read.ensures.behind c.if-not-begin_read.false)
 
 pub returns-clause-marked : goal.returns-clause-marked
 returns-clause-marked g c =

@@ -1,24 +1,35 @@
-use Rattle.std.proofs.Common.{◌≡◌, ◌++◌, List, [], ◌∷◌, refl, subst}
+use Rattle.std.proofs.Common.{◌≡◌, ◌∙◌, ◌++◌, List, [], ◌∷◌, ap, inl, inr, refl, subst, sym}
 use Rattle.plain_store.specs.Words.{◌∈◌}
 use Rattle.history.specs.declared.entry.Decision.{Decision}
 use Rattle.history.specs.declared.entry.HistoryEntry.{HistoryEntry}
 use Rattle.history.specs.declared.entry.HistoryEntry.TheVariants.{Decided}
 use Rattle.history.specs.Entries.{own}
+use Rattle.history.specs.Legal.{MayEnd}
 use Rattle.history.specs.Rules.{IsAdded}
 use Rattle.history.proofs.Counts.{equal_test}
 use Rattle.history.proofs.Servings.{added_count}
 use Rattle.traced_client.specs.Clients.{ClientTrace}
-use Rattle.traced_client.proofs.Following.{added_in, own_added, traced_decided}
+use Rattle.traced_client.proofs.Following.{added_in, own_added, traced_ended}
 use Rattle.traced_client.proofs.client_word.TracedClient.decide.Goals as goal
+
+-- the put may end
+pub decide-requires-clause-unended : goal.decide-requires-clause-unended
+decide-requires-clause-unended g c =
+    let b = c.self.inside in
+    let P : ClientTrace → Type 0 = λ t. MayEnd (own t.word t.seen) (record { word = t.word; tenant = t.tenant; stamp = c.args.stamp }) in
+    let Q : List HistoryEntry → Type 0 = λ seen. MayEnd (own b.tally.key seen) (record { word = b.tally.key; tenant = b.tenant; stamp = c.args.stamp }) in
+    subst Q (sym c.again-front.ensures.same) (subst P (sym c.self.view_is) (c.may_end.ensures.unended c.if-not-may_end.false))
 
 pub invariant_of-self : goal.invariant_of-self
 invariant_of-self g c =
     let b = c.self.inside in
     let decision : Decision = record { word = b.tally.key; tenant = b.tenant; stamp = c.args.stamp } in
     let P : List HistoryEntry → Type 0 = λ seen. IsAdded b.tally.key b.entries (Decided decision) seen c.decide.new.self in
-    let added : P b.front = subst P c.again-front.ensures.same c.if-not-decide.ensures.added in (
-      traced_decided decision b.client b.last b.entries b.front c.decide.new.self c.self.invariant.0 c.self.invariant.1 added,
-      added_count b.tally.key b.entries (Decided decision) b.front c.decide.new.self (equal_test b.tally.key b.tally.key refl) added,
+    let added : P b.front = subst P c.again-front.ensures.same c.if-not-decide.ensures.added in
+    let its = equal_test b.tally.key b.tally.key refl in
+    let last : c.args.stamp ≡ b.last = c.may_end.ensures.last c.if-not-may_end.false ∙ ap (λ (t : ClientTrace). t.last) (sym c.self.view_is) in (
+      traced_ended decision b.client b.last b.is_open b.entries (Decided decision) b.front c.decide.new.self (inl refl) last c.self.invariant.0 its c.self.invariant.1 added,
+      added_count b.tally.key b.entries (Decided decision) b.front c.decide.new.self its added,
     )
 
 pub returns-clause-decided : goal.returns-clause-decided

@@ -1,0 +1,51 @@
+use Rattle.std.proofs.Common.{◌≡◌, ◌∙◌, ◌++◌, List, [], ◌∷◌, ap, inl, inr, refl, subst, sym}
+use Rattle.plain_store.specs.Words.{◌∈◌}
+use Rattle.history.specs.declared.entry.Decision.{Decision}
+use Rattle.history.specs.declared.entry.HistoryEntry.{HistoryEntry}
+use Rattle.history.specs.declared.entry.HistoryEntry.TheVariants.{GivenUp}
+use Rattle.history.specs.Entries.{own}
+use Rattle.history.specs.Legal.{MayEnd}
+use Rattle.history.specs.Rules.{IsAdded}
+use Rattle.history.proofs.Counts.{equal_test}
+use Rattle.history.proofs.Servings.{added_count}
+use Rattle.traced_client.specs.Clients.{ClientTrace}
+use Rattle.traced_client.proofs.Following.{added_in, own_added, traced_ended}
+use Rattle.traced_client.proofs.client_word.TracedClient.give_up.Goals as goal
+
+-- the put may end
+pub give_up-requires-clause-unended : goal.give_up-requires-clause-unended
+give_up-requires-clause-unended g c =
+    let b = c.self.inside in
+    let P : ClientTrace → Type 0 = λ t. MayEnd (own t.word t.seen) (record { word = t.word; tenant = t.tenant; stamp = c.args.stamp }) in
+    let Q : List HistoryEntry → Type 0 = λ seen. MayEnd (own b.tally.key seen) (record { word = b.tally.key; tenant = b.tenant; stamp = c.args.stamp }) in
+    subst Q (sym c.again-front.ensures.same) (subst P (sym c.self.view_is) (c.may_end.ensures.unended c.if-not-may_end.false))
+
+pub invariant_of-self : goal.invariant_of-self
+invariant_of-self g c =
+    let b = c.self.inside in
+    let decision : Decision = record { word = b.tally.key; tenant = b.tenant; stamp = c.args.stamp } in
+    let P : List HistoryEntry → Type 0 = λ seen. IsAdded b.tally.key b.entries (GivenUp decision) seen c.give_up.new.self in
+    let added : P b.front = subst P c.again-front.ensures.same c.if-not-give_up.ensures.added in
+    let its = equal_test b.tally.key b.tally.key refl in
+    let last : c.args.stamp ≡ b.last = c.may_end.ensures.last c.if-not-may_end.false ∙ ap (λ (t : ClientTrace). t.last) (sym c.self.view_is) in (
+      traced_ended decision b.client b.last b.is_open b.entries (GivenUp decision) b.front c.give_up.new.self (inr refl) last c.self.invariant.0 its c.self.invariant.1 added,
+      added_count b.tally.key b.entries (GivenUp decision) b.front c.give_up.new.self its added,
+    )
+
+pub returns-clause-given_up : goal.returns-clause-given_up
+returns-clause-given_up g c did =
+    let b = c.self.inside in
+    let decision : Decision = record { word = b.tally.key; tenant = b.tenant; stamp = c.args.stamp } in
+    let P : ClientTrace → Type 0 = λ t. GivenUp (record { word = t.word; tenant = t.tenant; stamp = c.args.stamp }) ∈ c.give_up.new.self in
+    subst P c.self.view_is (added_in b.tally.key b.entries (GivenUp decision) c.again-front.result c.give_up.new.self c.if-not-give_up.ensures.added)
+
+pub returns-clause-entered : goal.returns-clause-entered
+returns-clause-entered g c did =
+    let b = c.self.inside in
+    let decision : Decision = record { word = b.tally.key; tenant = b.tenant; stamp = c.args.stamp } in
+    let Q : List HistoryEntry → Type 0 = λ seen. IsAdded b.tally.key b.entries (GivenUp decision) seen c.give_up.new.self in
+    let added : Q b.front = subst Q c.again-front.ensures.same c.if-not-give_up.ensures.added in
+    let its = equal_test b.tally.key b.tally.key refl in
+    let P : ClientTrace → Type 0 =
+    λ t. own t.word c.give_up.new.self ≡ own t.word t.seen ++ GivenUp (record { word = t.word; tenant = t.tenant; stamp = c.args.stamp }) ∷ [] in
+    subst P c.self.view_is (own_added b.tally.key b.entries (GivenUp decision) b.front c.give_up.new.self its c.self.invariant.1 added)
