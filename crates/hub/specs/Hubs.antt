@@ -54,7 +54,7 @@ AllSoundBooks config at _ _ = ⊥
 -- the events of each tenant's journal at this partition are a stretch of what was seen of the history
 abbrev pub AreStretches : List HistoryEntry → ℕ → List Account → Type 0
 AreStretches seen at accounts =
-    (tenant : ℕ) (account : Account) → slice_get accounts tenant ≡ Some account → IsStretch seen at tenant account.start.base account.events
+    (tenant : ℕ) (account : Account) → slice_get accounts tenant ≡ Some account → IsStretch seen at tenant account.start account.events
 
 -- partition by partition, in their order from this one on
 abbrev pub AllStretches : List HistoryEntry → ℕ → List (Vec Journal) → Type 0

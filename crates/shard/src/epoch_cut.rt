@@ -1,7 +1,7 @@
 //! Epochs that a worker cuts.
 ghost use Rattle.std.specs.Prelude.{◌≡◌, ◌<◌, ◌≤◌, ◌+◌, ◌-◌, ◌*◌, false, true, length, IfOk, IfSome, IfNone, IsErrOf, OnErr};
 ghost use Rattle.partition.specs.Accounts.{events_at};
-ghost use Rattle.traced_book.specs.Traced.{IsStretch};
+ghost use Rattle.traced_book.specs.Traced.{IsLatestEpoch};
 ghost use Rattle.shard.specs.Journals.{WasCut};
 ghost use Rattle.shard.specs.Cutting.{GoesOn, IsCutOff, IsOver};
 ghost use Rattle.shard.specs.Held.{StaysAt};
@@ -19,7 +19,8 @@ pub struct CutEpoch<J: Naming> {
     /// What was seen of the history: it has the epoch's events.
     seen: Front<J>,
     ghost was_cut: { WasCut partition tenant epoch },
-    ghost stretch: { ∥ IsStretch seen partition tenant epoch.base epoch.events.items ∥₁ },
+    ghost some: { 0 < length epoch.events.items },
+    ghost latest: { ∥ IsLatestEpoch seen partition tenant epoch ∥₁ },
 }
 
 /// Why a journal was not cut.
@@ -49,7 +50,8 @@ fn cut_long<J: Naming>(
     tenant: u32,
     least: u32,
 ) -> Result<CutEpoch<J>, Uncut>
-    requires { tenant < length state.old.book.accounts }
+    requires tenant { tenant < length state.old.book.accounts }
+    requires some { 0 < least }
     ensures cut { IfOk result
         (λ cut. IsCutOff state.old.book.accounts state.new.book.accounts state.old.partition tenant
         least cut.partition cut.tenant cut.epoch) }

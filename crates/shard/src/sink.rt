@@ -1,7 +1,7 @@
 //! Where epochs go.
-ghost use Rattle.std.specs.Prelude.{ℕ};
+ghost use Rattle.std.specs.Prelude.{ℕ, ◌<◌, length};
 ghost use Rattle.partition.specs.declared.journal.Epoch.{Epoch as Cut};
-ghost use Rattle.traced_book.specs.Traced.{IsStretch};
+ghost use Rattle.traced_book.specs.Traced.{IsLatestEpoch};
 ghost use Rattle.shard.specs.Journals.{WasCut};
 
 use history::{Front, Naming};
@@ -15,11 +15,12 @@ use partition::Epoch;
 pub trait Sink {
     ghost has_taken: { Self → ℕ → ℕ → Cut → Type 0 } = { λ _ _ _ _. Unit {0} };
 
-    /// Takes an epoch of a tenant's journal at this partition: what a cut of that journal gave. Its events are a stretch of what was
-    /// seen of the store's history.
+    /// Takes an epoch of a tenant's journal at this partition: what a cut of that journal gave. It has an event, and its events are
+    /// the last of the tenant's calls there that were seen of the store's history: it is of no other store.
     fn epoch<J: Naming>(&self, partition: u32, tenant: u32, epoch: Epoch, seen: &Front<J>)
         requires cut { WasCut partition tenant epoch }
-        requires stretch { ∥ IsStretch seen.now partition tenant epoch.base epoch.events.items ∥₁ }
+        requires some { 0 < length epoch.events.items }
+        requires latest { ∥ IsLatestEpoch seen.now partition tenant epoch ∥₁ }
         ensures { has_taken self.now partition tenant epoch };
 }
 

@@ -17,7 +17,7 @@ use Rattle.plain_store.specs.declared.calls.Reply.{Reply}
 use Rattle.prepare_commit.proofs.Freezing.{nothing_left}
 use Rattle.prepare_commit.specs.Bases.{Frozen, Leaves, empty_base}
 use Rattle.partition.specs.declared.journal.Epoch.{Epoch}
-use Rattle.partition.specs.Accounts.{Account, IsCut, IsEntered, IsReplyInEpoch, account_room, base_at, base_in, before_at, before_in, events_at, events_in, new_account, next_account, with_event}
+use Rattle.partition.specs.Accounts.{Account, EpochStart, IsCut, IsEntered, IsReplyInEpoch, account_room, base_at, base_in, before_at, before_in, events_at, events_in, new_account, next_account, with_event}
 use Rattle.partition.specs.Accounts.{room_in as room_of_account}
 use Rattle.partition.specs.Events.{Event, event}
 use Rattle.partition.specs.Journals.{event_exchange, log_after, room_for}
@@ -35,7 +35,7 @@ use Rattle.history.proofs.Shown.{to_is}
 use Rattle.history.proofs.Servings.{is_served, room_later, served_added}
 use Rattle.history.proofs.Steps.{before_added}
 use Rattle.traced_book.specs.Entering.{HasEntered}
-use Rattle.traced_book.specs.Traced.{AreTraced, IsStretch, IsTraced, served_of}
+use Rattle.traced_book.specs.Traced.{AreTraced, IsLatestEpoch, IsStretch, IsTraced, served_of}
 
 -- a history with the same calls there has as much of the account
 moved : (v log : List HistoryEntry) (partition tenant : ℕ) (account : Account) → room_of v tenant ≡ room_of log tenant
@@ -48,6 +48,12 @@ moved v log partition tenant account room same r = record {
   base = r.base;
   replies = r.replies ∙ ap (λ (l : List ServedCall). log_of (room_for account.limits) (calls_of l)) same;
 }
+
+-- as many calls were served as there are calls alone
+served_length : (log : List HistoryEntry) (partition tenant : ℕ) → length (served_at tenant partition log) ≡ length (calls_served tenant partition log)
+served_length log partition tenant =
+    let f : ServedCall → Call = λ s. s.call in
+    sym (length-map (served_at tenant partition log) f) ∙ sym (length-reverse (map f (served_at tenant partition log)))
 
 -- how many calls there were
 pub places_of : (log : List HistoryEntry) (partition tenant : ℕ) (account : Account) → IsTraced log partition tenant account
@@ -185,16 +191,14 @@ cut_traced log partition tenant epoch old new there cut traced other account is 
     next a base r leaves = record {
       earlier = served_at tenant partition log;
       calls = sym (append-nil (served_at tenant partition log));
-      places = let f : ServedCall → Call = λ s. s.call in
-          sym (length-map (served_at tenant partition log) f) ∙ sym (length-reverse (map f (served_at tenant partition log)))
-          ∙ places_of log partition tenant a r;
+      places = served_length log partition tenant ∙ places_of log partition tenant a r;
       room = r.room;
       base = subst (Leaves base) r.replies leaves;
       replies = refl;
     }
 
 -- an account's events are a stretch of the history
-pub traced_stretch : (log : List HistoryEntry) (partition tenant : ℕ) (a : Account) → IsTraced log partition tenant a → IsStretch log partition tenant a.start.base a.events
+pub traced_stretch : (log : List HistoryEntry) (partition tenant : ℕ) (a : Account) → IsTraced log partition tenant a → IsStretch log partition tenant a.start a.events
 traced_stretch log partition tenant a r =
     let f : Event → ServedCall = served_of partition tenant in
     let L : Room → Log = λ room. log_of room (calls_of r.earlier) in
@@ -204,14 +208,15 @@ traced_stretch log partition tenant a r =
       earlier = r.earlier;
       later = [];
       calls = r.calls ∙ sym (append-nil (r.earlier ++ map f a.events));
+      places = r.places;
       leads = subst (λ (room : Room). Leaves a.start.base (L room)) (sym r.room) r.base;
       replies = subst (λ (room : Room). log_after a.events ++ L room ≡ log_of room (calls_of (r.earlier ++ map f a.events))) (sym r.room) told;
     }
 
 -- a stretch of what was seen is one of what is seen later
-pub stretch_later : (v log : List HistoryEntry) (partition tenant : ℕ) (base : Frozen) (events : List Event) → IsLegal v → IsPrefix v log
-    → IsStretch v partition tenant base events → IsStretch log partition tenant base events
-stretch_later v log partition tenant base events legal pre s =
+pub stretch_later : (v log : List HistoryEntry) (partition tenant : ℕ) (start : EpochStart) (events : List Event) → IsLegal v → IsPrefix v log
+    → IsStretch v partition tenant start events → IsStretch log partition tenant start events
+stretch_later v log partition tenant start events legal pre s =
     let f : Event → ServedCall = served_of partition tenant in
     let g : HistoryEntry → Option ServedCall = served_to tenant partition in
     let room : room_of v tenant ≡ room_of log tenant = room_later v log tenant legal pre in
@@ -221,22 +226,29 @@ stretch_later v log partition tenant base events legal pre s =
       earlier = s.earlier;
       later = s.later ++ filter_map g pre.0;
       calls = whole ∙ ap (λ (l : List ServedCall). l ++ filter_map g pre.0) s.calls ∙ append_assoc (s.earlier ++ map f events) s.later (filter_map g pre.0);
-      leads = subst (λ (r : Room). Leaves base (log_of r (calls_of s.earlier))) room s.leads;
+      places = s.places;
+      leads = subst (λ (r : Room). Leaves start.base (log_of r (calls_of s.earlier))) room s.leads;
       replies = subst (λ (r : Room). log_after events ++ log_of r (calls_of s.earlier) ≡ log_of r (calls_of (s.earlier ++ map f events))) room s.replies;
     }
 
--- the epoch that it gave is a stretch of the history
-pub cut_stretch : (log : List HistoryEntry) (partition tenant : ℕ) (epoch : Epoch) (old new : List Account) → tenant < length old → IsCut old new tenant epoch
-    → AreTraced log partition old → IsStretch log partition tenant epoch.base epoch.events.items
-cut_stretch log partition tenant epoch old new there cut traced =
-    ⊎_elim (λ h. stretch h.0 (cut.given h.0 h.2) (traced tenant h.0 h.2)) (λ h. absurd (omega (arith, h.0, there))) (slice_get_cases old tenant).1
+-- the epoch that it gave has the last of the calls
+pub cut_latest : (log : List HistoryEntry) (partition tenant : ℕ) (epoch : Epoch) (old new : List Account) → tenant < length old → IsCut old new tenant epoch
+    → AreTraced log partition old → IsLatestEpoch log partition tenant epoch
+cut_latest log partition tenant epoch old new there cut traced =
+    ⊎_elim (λ h. latest h.0 (cut.given h.0 h.2) (traced tenant h.0 h.2)) (λ h. absurd (omega (arith, h.0, there))) (slice_get_cases old tenant).1
   where
-    stretch : (a : Account) → (epoch.number ≡ a.start.number) × (epoch.base ≡ a.start.base) × (epoch.events.items ≡ a.events)
-        → IsTraced log partition tenant a → IsStretch log partition tenant epoch.base epoch.events.items
-    stretch a given r =
-        let P : Frozen → Type 0 = λ b. IsStretch log partition tenant b epoch.events.items in
-        let Q : List Event → Type 0 = λ es. IsStretch log partition tenant a.start.base es in
-        subst P (sym given.1) (subst Q (sym given.2) (traced_stretch log partition tenant a r))
+    latest : (a : Account) → (epoch.number ≡ a.start.number) × (epoch.base ≡ a.start.base) × (epoch.events.items ≡ a.events)
+        → IsTraced log partition tenant a → IsLatestEpoch log partition tenant epoch
+    latest a given r =
+        let P : ℕ → Type 0 = λ n. IsStretch log partition tenant (record { number = n; before = a.start.before; base = epoch.base }) epoch.events.items in
+        let Q : Frozen → Type 0 = λ b. IsStretch log partition tenant (record { number = a.start.number; before = a.start.before; base = b }) epoch.events.items in
+        let R : List Event → Type 0 = λ es. IsStretch log partition tenant a.start es in
+        let L : List Event → Type 0 = λ es. length (served_at tenant partition log) ≡ a.start.before + length es in
+        record {
+          before = a.start.before;
+          stretch = subst P (sym given.0) (subst Q (sym given.1) (subst R (sym given.2) (traced_stretch log partition tenant a r)));
+          latest = subst L (sym given.2) (served_length log partition tenant ∙ places_of log partition tenant a r);
+        }
 
 -- where a cut may have failed
 pub cut_or_not : {E : Type 0} (log : List HistoryEntry) (partition tenant : ℕ) (old new : List Account) (result : Result Epoch E) → tenant < length old
@@ -244,10 +256,10 @@ pub cut_or_not : {E : Type 0} (log : List HistoryEntry) (partition tenant : ℕ)
 cut_or_not log partition tenant old new (Ok epoch) there cut same traced = cut_traced log partition tenant epoch old new there cut traced
 cut_or_not log partition tenant old new (Err e) there cut same traced = subst (AreTraced log partition) (sym same) traced
 
-pub stretch_or_not : {E : Type 0} (log : List HistoryEntry) (partition tenant : ℕ) (old new : List Account) (result : Result Epoch E) → tenant < length old
-    → IfOk result (λ epoch. IsCut old new tenant epoch) → AreTraced log partition old → IfOk result (λ epoch. IsStretch log partition tenant epoch.base epoch.events.items)
-stretch_or_not log partition tenant old new (Ok epoch) there cut traced = cut_stretch log partition tenant epoch old new there cut traced
-stretch_or_not log partition tenant old new (Err e) there cut traced = tt
+pub latest_or_not : {E : Type 0} (log : List HistoryEntry) (partition tenant : ℕ) (old new : List Account) (result : Result Epoch E) → tenant < length old
+    → IfOk result (λ epoch. IsCut old new tenant epoch) → AreTraced log partition old → IfOk result (λ epoch. IsLatestEpoch log partition tenant epoch)
+latest_or_not log partition tenant old new (Ok epoch) there cut traced = cut_latest log partition tenant epoch old new there cut traced
+latest_or_not log partition tenant old new (Err e) there cut traced = tt
 
 -- ---- a store that was just opened
 

@@ -1,8 +1,9 @@
 -- What a partition's book has of the history.
-use Rattle.std.specs.Prelude.{ℕ, ◌≡◌, ◌++◌, List, length, map, slice_get, Some}
+use Rattle.std.specs.Prelude.{ℕ, ◌≡◌, ◌+◌, ◌++◌, List, length, map, slice_get, Some}
 use Rattle.plain_store.specs.Replies.{log_of}
-use Rattle.prepare_commit.specs.Bases.{Frozen, Leaves}
-use Rattle.partition.specs.Accounts.{Account}
+use Rattle.prepare_commit.specs.Bases.{Leaves}
+use Rattle.partition.specs.declared.journal.Epoch.{Epoch}
+use Rattle.partition.specs.Accounts.{Account, EpochStart}
 use Rattle.partition.specs.Events.{Event}
 use Rattle.partition.specs.Journals.{log_after, room_for}
 use Rattle.history.specs.declared.entry.HistoryEntry.{HistoryEntry}
@@ -34,12 +35,19 @@ pub record Tracing : Type 0 where
   pub accounts : List Account
   pub seen : List HistoryEntry
 
--- these events are a stretch of the calls that the history has of the tenant at the partition, each with the reply after the calls before
--- it, and they begin at the base to which the calls before them led
-pub record IsStretch (log : List HistoryEntry) (partition tenant : ℕ) (base : Frozen) (events : List Event) : Type 0 where
+-- These events are a stretch of the calls that the history has of the tenant at the partition, each with the reply after the calls before
+-- it. They stand behind as many calls as their epoch says, and begin at its base, to which these led.
+pub record IsStretch (log : List HistoryEntry) (partition tenant : ℕ) (start : EpochStart) (events : List Event) : Type 0 where
   pub earlier : List ServedCall
   pub later : List ServedCall
   pub calls : served_at tenant partition log ≡ (earlier ++ map (served_of partition tenant) events) ++ later
-  pub leads : Leaves base (log_of (room_of log tenant) (calls_of earlier))
+  pub places : length earlier ≡ start.before
+  pub leads : Leaves start.base (log_of (room_of log tenant) (calls_of earlier))
   pub replies : log_after events ++ log_of (room_of log tenant) (calls_of earlier)
       ≡ log_of (room_of log tenant) (calls_of (earlier ++ map (served_of partition tenant) events))
+
+-- The epoch has the last of the calls that the history has of the tenant at the partition: they are a stretch, and none stands behind them.
+pub record IsLatestEpoch (log : List HistoryEntry) (partition tenant : ℕ) (epoch : Epoch) : Type 0 where
+  pub before : ℕ
+  pub stretch : IsStretch log partition tenant (record { number = epoch.number; before = before; base = epoch.base }) epoch.events.items
+  pub latest : length (served_at tenant partition log) ≡ before + length epoch.events.items

@@ -7,7 +7,7 @@ ghost use Rattle.partition.specs.Serving.{EntersCall};
 ghost use Rattle.history.specs.Entries.{limits_of, StandsBehind};
 ghost use Rattle.history.specs.Legal.{IsLegal, MayServe};
 ghost use Rattle.history.specs.Rules.{is_opening};
-ghost use Rattle.traced_book.specs.Traced.{AreTraced, IsStretch};
+ghost use Rattle.traced_book.specs.Traced.{AreTraced, IsLatestEpoch};
 
 use crate::entering::Entering;
 use history::{CallToServe, Front, Naming, Tally};
@@ -150,15 +150,14 @@ impl<J: Naming> TracedBook<J> {
     }
 
     /// Hands out what a tenant's journal has, as an epoch, and begins the next one at what the tenant's cell holds, as `Book::cut`
-    /// reports. The epoch is a stretch of the history.
+    /// reports. The epoch has the last of the calls that were seen of the tenant there.
     pub fn cut(&mut self, tenant: u32) -> Result<Epoch, Refusal>
         requires { tenant < length self.old.accounts }
 
         ensures cut { IfOk result
             (λ epoch. IsCut self.old.accounts self.new.accounts tenant epoch) }
-        ensures stretch { IfOk result
-            (λ epoch.
-            IsStretch self.old.seen self.old.partition tenant epoch.base epoch.events.items) }
+        ensures latest { IfOk result
+            (λ epoch. IsLatestEpoch self.old.seen self.old.partition tenant epoch) }
         ensures seen { (self.new.partition ≡ self.old.partition) × (self.new.seen ≡ self.old.seen) }
 
         ensures past { IsErrOf result Refusal.RowsUsed ↔ IsPastAt self.old.accounts tenant }

@@ -1,8 +1,8 @@
 use Rattle.std.proofs.Common.{◌<◌, List, length, ap, sym, subst}
 use Rattle.std.specs.Prelude.{IfOk}
 use Rattle.partition.specs.Accounts.{Account}
-use Rattle.traced_book.specs.Traced.{IsStretch, Tracing}
-use Rattle.traced_book.proofs.Tracing.{cut_or_not, stretch_or_not}
+use Rattle.traced_book.specs.Traced.{IsLatestEpoch, Tracing}
+use Rattle.traced_book.proofs.Tracing.{cut_or_not, latest_or_not}
 use Rattle.traced_book.proofs.traced.TracedBook.cut.Goals as goal
 
 pub invariant_of-self : goal.invariant_of-self
@@ -16,10 +16,10 @@ invariant_of-self g c =
       c.self.invariant.3,
     )
 
-pub returns-clause-stretch : goal.returns-clause-stretch
-returns-clause-stretch g c =
+pub returns-clause-latest : goal.returns-clause-latest
+returns-clause-latest g c =
     let b = c.self.inside in
     let P : List Account → Type 0 = λ accounts. c.args.tenant < length accounts in
     let there : P b.book = subst P (sym (ap (λ (t : Tracing). t.accounts) c.self.view_is)) c.requires in
-    let Q : Tracing → Type 0 = λ t. IfOk c.cut.result (λ epoch. IsStretch t.seen t.partition c.args.tenant epoch.base epoch.events.items) in
-    subst Q c.self.view_is (stretch_or_not b.front b.partition c.args.tenant b.book c.cut.new.self c.cut.result there c.cut.ensures.cut c.self.invariant.0)
+    let Q : Tracing → Type 0 = λ t. IfOk c.cut.result (λ epoch. IsLatestEpoch t.seen t.partition c.args.tenant epoch) in
+    subst Q c.self.view_is (latest_or_not b.front b.partition c.args.tenant b.book c.cut.new.self c.cut.result there c.cut.ensures.cut c.self.invariant.0)
