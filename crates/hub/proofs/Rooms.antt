@@ -38,6 +38,14 @@ module _ {G : Type 0} {naming : Ghosts G} where
     ends = omega (arith, has.ends, fewer);
   }
 
+  -- nor of what they need but boxes anything is used where these stay
+  pub places_with : (old new : Dispatcher G naming) → new.sent ≡ old.sent → new.calls ≡ old.calls → new.served ≡ old.served → new.spare ≡ old.spare → (n : ℕ) → HasPlaces n old → HasPlaces n new
+  places_with old new sent calls served spare n has = record {
+    numbers = omega (arith, has.numbers, sent);
+    places = omega (arith, has.places, ap deque_len calls, ap deque_capacity calls);
+    ends = omega (arith, has.ends, ap deque_len calls, served, ap vec_len spare);
+  }
+
   pub room_for_fewer : (m n : ℕ) (queues : Dispatcher G naming) → m ≤ n → HasRoom n queues → HasRoom m queues
   room_for_fewer m n queues fewer has = record {
     boxes = omega (arith, has.boxes, fewer);
@@ -51,7 +59,7 @@ module _ {G : Type 0} {naming : Ghosts G} where
       subst P (sym is) (room_for_fewer m n queues fewer has)
 
   -- where no more are sent or staged, and none of it is used, there is no less
-  pub room_kept : (old new : Dispatcher G naming) → deque_len old.boxes ≤ deque_len new.boxes → vec_len old.spare ≤ vec_len new.spare → deque_capacity new.calls ≡ deque_capacity old.calls → new.sent ≤ old.sent
+  pub room_kept : (old new : Dispatcher G naming) → deque_len old.pool.boxes ≤ deque_len new.pool.boxes → vec_len old.spare ≤ vec_len new.spare → deque_capacity new.calls ≡ deque_capacity old.calls → new.sent ≤ old.sent
       → deque_len new.calls ≤ deque_len old.calls → deque_len new.calls - new.served ≤ deque_len old.calls - old.served → (n : ℕ) → HasRoom n old → HasRoom n new
   room_kept old new boxes ends places sent calls staged n has = record {
     boxes = omega (arith, has.boxes, boxes);
@@ -65,7 +73,7 @@ module _ {G : Type 0} {naming : Ghosts G} where
   -- so where as many are sent and staged
   pub same_room : (old new : Dispatcher G naming) → SameRoom old new → new.sent ≡ old.sent → deque_len new.calls ≡ deque_len old.calls → new.served ≡ old.served → (n : ℕ) → HasRoom n old → HasRoom n new
   same_room old new same sent calls served =
-      let boxes : deque_len new.boxes ≡ deque_len old.boxes = ap deque_len same.boxes in
+      let boxes : deque_len new.pool.boxes ≡ deque_len old.pool.boxes = ap (λ p. deque_len p.boxes) same.pool in
       let ends : vec_len new.spare ≡ vec_len old.spare = ap vec_len same.ends in
       room_kept old new (omega (arith, boxes)) (omega (arith, ends)) same.places (omega (arith, sent)) (omega (arith, calls)) (omega (arith, calls, served))
 

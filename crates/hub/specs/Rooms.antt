@@ -18,13 +18,13 @@ pub record HasPlaces {G : Type 0} {naming : Ghosts G} (calls : ℕ) (queues : Di
 
 -- and boxes as well
 pub record HasRoom {G : Type 0} {naming : Ghosts G} (calls : ℕ) (queues : Dispatcher G naming) : Type 0 where
-  pub boxes : calls ≤ deque_len queues.boxes
+  pub boxes : calls ≤ deque_len queues.pool.boxes
   pub there : HasPlaces calls queues
 
 -- no place, box or end is used, and none is made
 pub record SameRoom {G : Type 0} {naming : Ghosts G} (old new : Dispatcher G naming) : Type 0 where
   pub places : deque_capacity new.calls ≡ deque_capacity old.calls
-  pub boxes : new.boxes ≡ old.boxes
+  pub pool : new.pool ≡ old.pool
   pub ends : new.spare ≡ old.spare
 
 -- Calls are served where they wait: each is still there and asks what it asked, and none was sent or handed over.

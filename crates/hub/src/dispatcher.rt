@@ -10,6 +10,7 @@ ghost use Rattle.hub.specs.Limits.{max_calls};
 ghost use Rattle.shard.specs.declared.shard.Staged.{Staged as Waiting};
 ghost use Rattle.hub.specs.Staging.{HasSentAt, is_unserved, place_if_open, unserved, IfFirst, IsFirstOf, IsReplyOf, IsStagedNext};
 
+use crate::call_pool::CallPool;
 use crossbeam_channel::{Receiver, RecvError, Sender};
 use history::{Front, Mark, Naming};
 use plain_store::{Call, Message};
@@ -18,7 +19,7 @@ use shard::{
     Staged, Task, collect_at, replied,
 };
 use stamps::limits::{MAX_KEYS, MAX_PARTS};
-use stamps::{Client, Stamp, home};
+use stamps::{Client, home};
 use std::alloc::{AllocError, Global};
 use std::collections::VecDeque;
 use std::sync::{Arc, Wait};
@@ -29,8 +30,6 @@ pub const MOST_CALLS: usize = MAX_PARTS as usize + 2 * MAX_KEYS;
 
 /// What has a seat's calls served at their partitions, with the calls of the operation that runs.
 pub struct Dispatcher<'a, G: Naming> {
-    alloc: Global,
-    client: Client,
     parts: u32,
     /// What shows that the store has so many partitions.
     opening: Front<G>,
@@ -41,9 +40,8 @@ pub struct Dispatcher<'a, G: Naming> {
     replies: Receiver<SeatReply<G>>,
     /// Ends for the jobs to come.
     spare: Vec<Sender<SeatReply<G>>>,
-    /// Boxes for the calls to come. Each comes back with its reply: one that held a COMMIT to the front, any other to the back. So a
-    /// call and a reply are mostly written over others of their kind: each has some 750 bytes.
-    boxes: VecDeque<Box<Message>>,
+    /// The boxes for the calls to come, which `stage` takes back.
+    pub(crate) pool: CallPool,
     /// The calls whose replies are to be taken, and then those that are staged.
     calls: VecDeque<Staged<G>>,
     /// How many of them are no longer staged.
@@ -61,8 +59,6 @@ pub struct Dispatcher<'a, G: Naming> {
 impl<'a, G: Naming> Drop for Dispatcher<'a, G> {
     fn drop(self) {
         let Dispatcher {
-            alloc: _,
-            client: _,
             parts: _,
             opening: _,
             shards: _,
@@ -71,7 +67,7 @@ impl<'a, G: Naming> Drop for Dispatcher<'a, G> {
             reply_to: _,
             replies: _,
             spare: _,
-            boxes: _,
+            pool: _,
             calls: _,
             served: _,
             queued: _,
@@ -95,7 +91,7 @@ impl<'a, G: Naming> Dispatcher<'a, G> {
     ) -> Result<Dispatcher<'a, G>, AllocError>
         requires parts { IsParts parts }
         requires opening { ∥ HasParts opening parts ∥₁ }
-        ensures given { IfOk result (λ queues. (queues.client ≡ client) × (queues.parts ≡ parts)
+        ensures given { IfOk result (λ queues. (queues.pool.client ≡ client) × (queues.parts ≡ parts)
             × (queues.jobs ≡ jobs) × (queues.shards.now ≡ shards.now)) }
         ensures none_staged { IfOk result (λ queues. (queues.calls.items ≡ []) × (queues.served ≡ 0)
             × (queues.queued ≡ 0) × (queues.sent ≡ 0)) }
@@ -104,8 +100,6 @@ impl<'a, G: Naming> Dispatcher<'a, G> {
         let (reply_to, replies) = crossbeam_channel::unbounded(alloc)?;
         let calls = VecDeque::with_capacity(alloc, MOST_CALLS)?;
         Ok(Dispatcher {
-            alloc,
-            client,
             parts,
             opening,
             shards,
@@ -114,7 +108,7 @@ impl<'a, G: Naming> Dispatcher<'a, G> {
             reply_to,
             replies,
             spare: Vec::new(alloc),
-            boxes: VecDeque::new(alloc),
+            pool: CallPool::new(alloc, client),
             calls,
             served: 0,
             queued: 0,
@@ -132,32 +126,13 @@ impl<'a, G: Naming> Dispatcher<'a, G> {
             × (self.new.served ≡ self.old.served) × (self.new.queued ≡ self.old.queued) }
     {
         self.sent = 0;
-        self.reserve_boxes(most)?;
+        self.pool.reserve(most)?;
         self.calls.reserve(most)?;
         let staged = self.calls.len().saturating_sub(self.served);
         let missing = (staged + most).saturating_sub(self.spare.len());
         self.spare.reserve(missing)?;
         for _made in 0..missing {
             self.spare.push(self.reply_to.clone()?)?;
-        }
-        Ok(())
-    }
-
-    /// Makes the boxes that are missing of so many.
-    fn reserve_boxes(&mut self, most: usize) -> Result<(), AllocError>
-        ensures boxes { OnOk result (most ≤ deque_len self.new.boxes) }
-        ensures sent { self.new.sent ≡ self.old.sent }
-        ensures ends { self.new.spare ≡ self.old.spare }
-        ensures calls { (self.new.calls ≡ self.old.calls) × (self.new.served ≡ self.old.served)
-            × (self.new.queued ≡ self.old.queued) }
-    {
-        let missing = most.saturating_sub(self.boxes.len());
-        self.boxes.reserve(missing)?;
-        for _made in 0..missing {
-            let Ok(place) = Box::new(self.alloc, blank(self.client)) else {
-                return Err(AllocError);
-            };
-            self.boxes.push_back(place)?;
         }
         Ok(())
     }
@@ -175,38 +150,6 @@ impl<'a, G: Naming> Dispatcher<'a, G> {
         ensures { IsTrue result ↔ (0 < self.now.served + self.now.queued) }
     {
         self.served > 0 || self.queued > 0
-    }
-
-    /// Keeps the box of a reply that was taken, for another call.
-    pub fn keep(&mut self, message: Box<Message>)
-        ensures kept { deque_len self.old.boxes < deque_capacity self.old.boxes
-            → deque_len self.new.boxes ≡ deque_len self.old.boxes + 1 }
-        ensures room { (calls : ℕ) → HasRoom calls self.old → HasRoom calls self.new }
-        ensures sent { self.new.sent ≡ self.old.sent }
-        ensures calls { (self.new.calls ≡ self.old.calls) × (self.new.queued ≡ self.old.queued)
-            × (self.new.served ≡ self.old.served) }
-    {
-        if matches!(message.call, Call::Commit(_)) {
-            let _ = self.boxes.push_front(message);
-        } else {
-            let _ = self.boxes.push_back(message);
-        }
-    }
-
-    /// A box for a call, which `stage` takes back: for a COMMIT, or for another call. Either serves for any call.
-    pub fn take_box(&mut self, commits: bool) -> Box<Message>
-        requires { 0 < deque_len self.old.boxes }
-        ensures boxes { deque_len self.old.boxes ≡ deque_len self.new.boxes + 1 }
-        ensures room { (calls : ℕ) → HasPlaces calls self.old → HasPlaces calls self.new }
-        ensures sent { self.new.sent ≡ self.old.sent }
-        ensures calls { (self.new.calls ≡ self.old.calls) × (self.new.served ≡ self.old.served)
-            × (self.new.queued ≡ self.old.queued) × (self.new.parts ≡ self.old.parts) }
-    {
-        if commits {
-            self.boxes.pop_front().unwrap()
-        } else {
-            self.boxes.pop_back().unwrap()
-        }
     }
 
     /// A reply that is there, or else waits for one. It fails where none can come.
@@ -333,7 +276,7 @@ impl<'a, G: Naming> Dispatcher<'a, G> {
         ensures moved { IsTrue result
             → HasSentAt call.partition self.old.jobs.items self.new.jobs.items }
         ensures ends { vec_len self.old.spare ≡ vec_len self.new.spare + 1 }
-        ensures boxes { self.new.boxes ≡ self.old.boxes }
+        ensures pool { self.new.pool ≡ self.old.pool }
     {
         let reply_to = self.spare.pop().unwrap();
         let Some(queue) = self.jobs.get_mut(call.partition as usize) else {
@@ -412,7 +355,7 @@ impl<'a, G: Gate + Naming> Dispatcher<'a, G> {
         ensures staged { IsStagedNext name.now self.old.parts number
             (Some (without_reply message.value)) self.old.calls.items self.new.calls.items }
         ensures parts { self.new.parts ≡ self.old.parts }
-        ensures boxes { self.new.boxes ≡ self.old.boxes }
+        ensures pool { self.new.pool ≡ self.old.pool }
         ensures room { (calls : ℕ) → HasPlaces (1 + calls) self.old → HasPlaces calls self.new }
         ensures queued { self.new.queued ≡ self.old.queued }
     {
@@ -567,19 +510,6 @@ fn is_own<G: Naming>(
     let is_of_seat = reply.tenant == name.tenant && reply.seat == name.seat;
     let is_numbered = before < reply.number && reply.number <= last;
     is_of_seat && is_numbered && reply.mark == mark
-}
-
-/// What lies in a box that holds no call yet.
-fn blank(client: Client) -> Message
-    ensures { result.reply ≡ None }
-{
-    Message {
-        client,
-        ticket: 0,
-        partition: 0,
-        call: Call::Commit(Stamp::ZERO),
-        reply: None,
-    }
 }
 
 /// The partition that a call goes to: the home of its key, if it has one, and else the one that it names.

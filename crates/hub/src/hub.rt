@@ -318,7 +318,7 @@ impl<G: Gate + Naming> Hub<G> {
         counter: Counter,
     ) -> Result<Ends<'_, G>, AllocError>
         ensures counter { IfOk result (λ ends. ends.session.counter ≡ counter) }
-        ensures queues { IfOk result (λ ends. (ends.dispatcher.client ≡ client)
+        ensures queues { IfOk result (λ ends. (ends.dispatcher.pool.client ≡ client)
             × (ends.dispatcher.parts ≡ self.now.parts)) }
     {
         let parts = self.config.parts;

@@ -1,6 +1,7 @@
 //! The running store: seats that have their calls served at partitions behind locks, and a worker for each partition.
 #![tactic(auto)]
 
+mod call_pool;
 mod closing;
 mod dispatcher;
 mod hub;

@@ -507,7 +507,8 @@ impl<'a, G: Gate + Naming> RunningOperation<'a, G> {
             self.seen.learn(&reply.front);
             self.enter_reply(rt, own, &reply, answer);
             let SeatReply { message, .. } = reply;
-            self.dispatcher.keep(message);
+            let dispatcher = &mut self.dispatcher;
+            dispatcher.pool.keep(message);
         }
         if self.dispatcher.awaits() {
             self.fault = Some(self.fault.unwrap_or(Fault::NoTenant));
@@ -859,7 +860,8 @@ impl<'a, G: Gate + Naming> RunningOperation<'a, G> {
             self.old.dispatcher.calls.items self.new.dispatcher.calls.items }
         ensures rest { OnlySends self.old self.new }
     {
-        let mut message = self.dispatcher.take_box(commits);
+        let dispatcher = &mut self.dispatcher;
+        let mut message = dispatcher.pool.take(commits);
         let is_made = self.session.call_over(self.name.client, nth, &mut message);
         prove!(is_made);
         self.stage(message);
@@ -944,7 +946,8 @@ impl<'a, G: Gate + Naming> RunningOperation<'a, G> {
             self.old.dispatcher.calls.items self.new.dispatcher.calls.items }
         ensures rest { OnlySends self.old self.new }
     {
-        let mut message = self.dispatcher.take_box(false);
+        let dispatcher = &mut self.dispatcher;
+        let mut message = dispatcher.pool.take(false);
         let is_made = taken.ending_into(self.name.client, ticket, nth, &mut message);
         prove!(is_made);
         self.stage(message);
@@ -956,7 +959,7 @@ impl<'a, G: Gate + Naming> RunningOperation<'a, G> {
         requires put { ∥ IsOfPut self.old.seen self.old.name.tenant message.value.call ∥₁ }
         ensures room { (calls : ℕ) → HasPlaces (1 + calls) self.old.dispatcher
             → HasPlaces calls self.new.dispatcher }
-        ensures boxes { self.new.dispatcher.boxes ≡ self.old.dispatcher.boxes }
+        ensures pool { self.new.dispatcher.pool ≡ self.old.dispatcher.pool }
         ensures counted { self.new.dispatcher.sent ≡ self.old.dispatcher.sent + 1 }
         ensures parts { self.new.dispatcher.parts ≡ self.old.dispatcher.parts }
         ensures staged { IsStagedNext self.old.name self.old.dispatcher.parts

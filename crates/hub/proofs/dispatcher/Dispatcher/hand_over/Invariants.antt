@@ -18,5 +18,5 @@ invariant-loop-taken g l = record {
   places : deque_capacity l.self.calls ≡ deque_capacity l.fn.self.calls;
   fewer : deque_len l.self.calls ≤ deque_len l.fn.self.calls;
   here : unserved l.fn.self.served l.fn.self.calls.items ≡ 0 → l.self.calls ≡ l.fn.self.calls;
-  boxes : l.self.boxes ≡ l.fn.self.boxes;
+  pool : l.self.pool ≡ l.fn.self.pool;
 }

@@ -6,7 +6,7 @@ use Rattle.hub.proofs.dispatcher.Dispatcher.reserve.Given as goal
 abbrev pub invariant-loop-made : goal.invariant-loop-made
 invariant-loop-made g l =
     (vec_len l.fn.self.spare + l._made ≤ vec_len l.self.spare)
-    × (l.most ≤ deque_len l.self.boxes)
+    × (l.most ≤ deque_len l.self.pool.boxes)
     × (l.self.sent ≡ 0)
     × (deque_len l.self.calls ≡ deque_len l.fn.self.calls)
     × (deque_len l.self.calls + l.most ≤ deque_capacity l.self.calls)

@@ -10,6 +10,6 @@ invariant-loop-at g l =
     × (l.self.queued ≡ l.fn.self.queued)
     × (deque_capacity l.self.calls ≡ deque_capacity l.fn.self.calls)
     × (l.self.served ≡ l.fn.self.served)
-    × (l.self.boxes ≡ l.fn.self.boxes)
+    × (l.self.pool ≡ l.fn.self.pool)
     × (l.self.spare ≡ l.fn.self.spare)
     × (map asked_by l.self.calls.items ≡ map asked_by l.fn.self.calls.items)

@@ -35,7 +35,7 @@ loop-at-preserved g c =
       calls = c.loop-at.invariant.calls;
       served = c.loop-at.invariant.served;
       queued = c.loop-at.invariant.queued;
-      boxes = c.loop-at.invariant.boxes;
+      pool = c.loop-at.invariant.pool;
       ends = c.loop-at.invariant.ends;
       passed = passed-one now.items c.loop-at.at within (λ other. sym (c.is_left.ensures other inside) ∙ c.if-is_left.false) ∙ c.loop-at.invariant.passed;
     }

@@ -9,7 +9,7 @@ invariant-loop-at g l = record {
   calls : l.self.calls ≡ l.fn.self.calls;
   served : l.self.served ≡ l.fn.self.served;
   queued : l.self.queued ≡ l.fn.self.queued;
-  boxes : l.self.boxes ≡ l.fn.self.boxes;
+  pool : l.self.pool ≡ l.fn.self.pool;
   ends : l.self.spare ≡ l.fn.self.spare;
   passed : unserved l.at l.self.calls.items ≡ unserved l.self.served l.self.calls.items;
 }

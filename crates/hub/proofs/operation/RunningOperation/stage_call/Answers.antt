@@ -9,10 +9,11 @@ use Rattle.tenant_sessions.specs.Parts.{outgoing_of}
 use Rattle.tenant_sessions.specs.Sending.{waiting_of}
 use Rattle.hub.proofs.Evidence.{all_got}
 use Rattle.hub.proofs.Behind.{next-same}
+use Rattle.hub.proofs.Rooms.{places_with}
 use Rattle.hub.proofs.operation.RunningOperation.stage_call.Goals as goal
 
 pub stage-requires-clause-places : goal.stage-requires-clause-places
-stage-requires-clause-places g c = c.take_box-message.ensures.room 1 c.requires.room.there
+stage-requires-clause-places g c = places_with _ _ refl refl refl refl 1 c.requires.room.there
 
 -- it is one of those that the session waits for
 pub stage-requires-clause-put : goal.stage-requires-clause-put
@@ -25,8 +26,8 @@ stage-requires-clause-put g c =
 
 pub returns-clause-room : goal.returns-clause-room
 returns-clause-room g c calls room = record {
-  boxes = omega (arith, room.boxes, c.take_box-message.ensures.boxes, ap deque_len c.stage.ensures.boxes);
-  there = c.stage.ensures.room calls (c.take_box-message.ensures.room (1 + calls) room.there);
+  boxes = omega (arith, room.boxes, c.take-message.ensures, ap (λ p. deque_len p.boxes) c.stage.ensures.pool);
+  there = c.stage.ensures.room calls (places_with _ _ refl refl refl refl (1 + calls) room.there);
 }
 
 -- it is the one that the session waits for at this place
@@ -34,5 +35,5 @@ pub returns-clause-staged : goal.returns-clause-staged
 returns-clause-staged g c setup asked taken running is stands =
     let made = c.call_over-is_made.ensures in
     let told = ap (λ b. if b then Some (without_reply c.call_over-is_made.new.place) else None) c.if-prove.false in
-    next-same _ _ _ _ _ _ _ _ _ _ _ refl c.take_box-message.ensures.calls.3 (omega (arith, c.take_box-message.ensures.sent)) (sym told ∙ made.told setup asked taken running is stands)
-    (ap (λ q. q.items) c.take_box-message.ensures.calls.0) c.stage.ensures.staged
+    next-same _ _ _ _ _ _ _ _ _ _ _ refl refl refl (sym told ∙ made.told setup asked taken running is stands)
+    refl c.stage.ensures.staged

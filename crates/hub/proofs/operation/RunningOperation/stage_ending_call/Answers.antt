@@ -4,10 +4,11 @@ use Rattle.std.specs.VecDeque.{deque_len}
 use Rattle.tenant_sessions.specs.Moves.{ending, moved}
 use Rattle.hub.proofs.Evidence.{put_at}
 use Rattle.hub.proofs.Behind.{next-same}
+use Rattle.hub.proofs.Rooms.{places_with}
 use Rattle.hub.proofs.operation.RunningOperation.stage_ending_call.Goals as goal
 
 pub stage-requires-clause-places : goal.stage-requires-clause-places
-stage-requires-clause-places g c = c.take_box-message.ensures.room 1 c.requires.room.there
+stage-requires-clause-places g c = places_with _ _ refl refl refl refl 1 c.requires.room.there
 
 -- it is one of those that are sent at the end
 pub stage-requires-clause-put : goal.stage-requires-clause-put
@@ -20,8 +21,8 @@ stage-requires-clause-put g c =
 
 pub returns-clause-room : goal.returns-clause-room
 returns-clause-room g c calls room = record {
-  boxes = omega (arith, room.boxes, c.take_box-message.ensures.boxes, ap deque_len c.stage.ensures.boxes);
-  there = c.stage.ensures.room calls (c.take_box-message.ensures.room (1 + calls) room.there);
+  boxes = omega (arith, room.boxes, c.take-message.ensures, ap (λ p. deque_len p.boxes) c.stage.ensures.pool);
+  there = c.stage.ensures.room calls (places_with _ _ refl refl refl refl (1 + calls) room.there);
 }
 
 -- it is the one at this place
@@ -30,5 +31,5 @@ returns-clause-staged g c told =
     let message = c.ending_into-is_made.new.place in
     let made = ap (λ b. if b then Some message else None) c.if-prove.false in
     let bare = ap (λ reply. Some (record message { reply = reply })) (sym (c.ending_into-is_made.ensures.reply c.if-prove.false)) in
-    next-same _ _ _ _ _ _ _ _ _ _ _ refl c.take_box-message.ensures.calls.3 (omega (arith, c.take_box-message.ensures.sent)) (bare ∙ sym made ∙ c.ending_into-is_made.ensures.told told)
-    (ap (λ q. q.items) c.take_box-message.ensures.calls.0) c.stage.ensures.staged
+    next-same _ _ _ _ _ _ _ _ _ _ _ refl refl refl (bare ∙ sym made ∙ c.ending_into-is_made.ensures.told told)
+    refl c.stage.ensures.staged

@@ -7,6 +7,7 @@ use Rattle.shard.specs.declared.jobs.Fault.TheVariants.{NoTenant}
 use Rattle.hub.proofs.Entries.{fault_kept}
 use Rattle.hub.proofs.Given.{IsLaterOperation, IsLaterSight, operations, served-later, served-same, sights}
 use Rattle.hub.proofs.Replies.{reads-later}
+use Rattle.hub.proofs.Rooms.{places_with}
 use Rattle.hub.proofs.operation.RunningOperation.take_replies.Goals as goal
 use Rattle.hub.proofs.operation.RunningOperation.take_replies.Goals.{else-loop-taken-test, then-loop-taken-test+then-taken-takes, then-loop-taken-test+else-taken-takes+else-not-awaits+in_default}
 
@@ -40,11 +41,11 @@ loop-taken-preserved g c =
     let reads_on : IsLaterOperation reading read = record { tenant = refl; seat = refl; mark = refl; seen = c.learn.ensures.this } in
     let ends : IsLaterOperation read last = record { tenant = refl; seat = refl; mark = refl; seen = entered.goes_on.seen } in
     let first = c.args.self.now.first in
-    let later : before.dispatcher.sent ≤ c.keep.new.self.sent = omega (arith, c.next_reply.ensures.sent, entered.sent, c.keep.ensures.sent) in
-    let all = first + c.keep.new.self.sent in
+    let later : before.dispatcher.sent ≤ after.dispatcher.sent = omega (arith, c.next_reply.ensures.sent, entered.sent) in
+    let all = first + after.dispatcher.sent in
     record {
       room = omega (arith, entered.room, so_far.room);
-      calls = c.keep.ensures.room _ entered.calls;
+      calls = record { boxes = omega (arith, entered.calls.boxes, c.keep.ensures.no_fewer); there = places_with _ _ refl refl refl refl _ entered.calls.there };
       over = λ some.
           let was = so_far.over some in
           let is = entered.over (ap is_some was.0 ∙ some) in
