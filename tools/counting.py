@@ -26,7 +26,7 @@ WALK = """
 server_sessions/src/line_session.rt: answer_lines answer_piece answer_waiting answer_next answer answer_request
 server_sessions/src/given.rt: ask_seat
 hub/src/seat.rt: put_all_into run
-hub/src/operation.rt: perform exchange send_calls
+hub/src/operation.rt: perform exchange
 hub/src/dispatcher.rt: dispatch serve_free serve_under
 shard/src/shard.rt: serve_round serve_staged serve serve_message
 traced_book/src/traced.rt: serve_into

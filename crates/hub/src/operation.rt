@@ -457,7 +457,8 @@ impl<'a, G: Gate + Naming> RunningOperation<'a, G> {
         ensures counter { self.old.session.counter ≤ self.new.session.counter }
         ensures goes_on { GoesOnAs self.old self.new }
     {
-        if !self.send_calls(rt, false) {
+        self.stage_calls(false);
+        if !self.dispatcher.dispatch(rt) {
             self.fault = Some(Fault::NoTenant);
         }
         self.take_replies(rt, own, takes, answer);
@@ -730,7 +731,8 @@ impl<'a, G: Gate + Naming> RunningOperation<'a, G> {
         if !enter_decided(&mut self.client, &mut self.seen, tenant, taken) {
             return false;
         }
-        self.send_calls(rt, sends_commits(taken))
+        self.stage_calls(sends_commits(taken));
+        self.dispatcher.dispatch(rt)
     }
 
     /// Enters the answer that a move ends the operation with, once.
@@ -796,22 +798,6 @@ impl<'a, G: Gate + Naming> RunningOperation<'a, G> {
         ensures place { self.new.place ≡ self.old.place }
     {
         self.entries.push_took(number, partition, place, reply);
-    }
-
-    /// Sends the calls that the session waits for, COMMITs or others, and says whether all went out.
-    fn send_calls<R: Wait>(&mut self, rt: &R, commits: bool) -> bool
-        requires room { HasRoom (calls_waiting self.old.session.running) self.old.dispatcher }
-        requires puts { ∥ AreOfPuts self.old.seen self.old.name.tenant
-            (waiting_of self.old.session.running) ∥₁ }
-        ensures room { (calls : ℕ)
-            → HasRoom (calls_waiting self.old.session.running + calls) self.old.dispatcher
-            → HasRoom calls self.new.dispatcher }
-        ensures sent { self.new.dispatcher.sent
-            ≡ self.old.dispatcher.sent + calls_waiting self.old.session.running }
-        ensures rest { OnlySends self.old self.new }
-    {
-        self.stage_calls(commits);
-        self.dispatcher.dispatch(rt)
     }
 
     /// Stages the calls that the session waits for, in boxes for COMMITs or for others.

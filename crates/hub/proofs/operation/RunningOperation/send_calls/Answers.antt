@@ -1,4 +1,0 @@
-use Rattle.hub.proofs.operation.RunningOperation.send_calls.Goals as goal
-
-pub returns-clause-room : goal.returns-clause-room
-returns-clause-room g c calls room = c.dispatch.ensures.room calls (c.stage_calls.ensures.room calls room)
