@@ -27,7 +27,7 @@ server_sessions/src/line_session.rt: answer_lines answer_piece answer_waiting an
 server_sessions/src/given.rt: ask_seat
 hub/src/seat.rt: put_all_into run
 hub/src/operation.rt: perform exchange
-hub/src/dispatcher.rt: dispatch serve_free serve_under
+hub/src/dispatcher.rt: dispatch serve_free
 shard/src/shard.rt: serve_round serve_staged serve serve_message
 traced_book/src/traced.rt: serve_into
 partition/src/book.rt: serve_admitted

@@ -15,8 +15,8 @@ use crossbeam_channel::{Receiver, RecvError, Sender};
 use history::{Front, Mark, Naming};
 use plain_store::{Call, Message};
 use shard::{
-    CallState, FollowUp, Gate, Job, JobSender, SeatCall, SeatName, SeatReply, Shard, ShardState,
-    Staged, Task, collect_at, replied,
+    CallState, FollowUp, Gate, Job, JobSender, SeatCall, SeatName, SeatReply, Shard, Staged, Task,
+    collect_at, replied,
 };
 use stamps::limits::{MAX_KEYS, MAX_PARTS};
 use stamps::{Client, home};
@@ -459,7 +459,11 @@ impl<'a, G: Gate + Naming> Dispatcher<'a, G> {
                 match shard.try_lock() {
                     Some(guard) => {
                         let mut guard = guard;
-                        let follow_up = self.serve_under(shard, &mut guard);
+                        let follow_up = guard.serve_round(
+                            &shard.config,
+                            self.gate,
+                            &mut self.calls,
+                        );
                         drop(guard);
                         self.follow_up(rt, shard, follow_up);
                     }
@@ -480,18 +484,11 @@ impl<'a, G: Gate + Naming> Dispatcher<'a, G> {
                 && let Some(shard) = shards.get(partition as usize)
             {
                 let mut guard = shard.lock_soon(rt);
-                let follow_up = self.serve_under(shard, &mut guard);
+                let follow_up = guard.serve_round(&shard.config, self.gate, &mut self.calls);
                 drop(guard);
                 self.follow_up(rt, shard, follow_up);
             }
         }
-    }
-
-    /// Serves the staged calls of a partition whose lock is held.
-    fn serve_under(&mut self, shard: &Shard<G>, state: &mut ShardState<G>) -> FollowUp
-        ensures { ServesHere self.old self.new }
-    {
-        state.serve_round(&shard.config, self.gate, &mut self.calls)
     }
 }
 
