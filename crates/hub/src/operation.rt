@@ -395,6 +395,20 @@ impl<'a, G: Gate + Naming> RunningOperation<'a, G> {
         Stamp::new(counter, self.name.client.get()).unwrap_or(Stamp::ZERO)
     }
 
+    /// From now on it has seen what the other has.
+    pub(crate) fn learn(&mut self, other: &Front<G>)
+        ensures learned { IsPrefix other.now self.new.seen }
+        ensures later { IsPrefix self.old.seen self.new.seen }
+        ensures rest { (self.new.name ≡ self.old.name)
+            × (self.new.dispatcher ≡ self.old.dispatcher)
+            × (self.new.session ≡ self.old.session) × (self.new.first ≡ self.old.first)
+            × (self.new.place ≡ self.old.place) × (self.new.fault ≡ self.old.fault)
+            × (self.new.readings ≡ self.old.readings) × (self.new.entries ≡ self.old.entries)
+            × (self.new.mark ≡ self.old.mark) }
+    {
+        self.seen.learn(other);
+    }
+
     /// Hands out the entries so far.
     pub(crate) fn drain(&mut self) -> EntryList
         ensures handed { result.items ≡ self.old.entries.items }

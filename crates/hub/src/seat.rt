@@ -1,6 +1,7 @@
 //! A client's session.
 ghost use Rattle.std.specs.Prelude.{◌≡◌, ◌<◌, ◌≤◌, ◌+◌, ◌-◌, ◌^◌, ◌↔◌, ◌⊎◌, [], true, false, Some, OnOk, IfErr, IfSome, IfNone};
 ghost use Rattle.plain_store.specs.declared.step.Act.TheVariants.{Put, Get as GetAll, Find};
+ghost use mathlib.Core.List.{IsPrefix};
 ghost use Rattle.history.specs.Legal.{HasParts, IsLegal};
 ghost use Rattle.hub.specs.Rooms.{awaited};
 ghost use Rattle.hub.specs.Limits.{max_calls};
@@ -44,8 +45,9 @@ pub(crate) struct Ends<'a, G: Naming> {
     ghost none_sent: { awaited dispatcher ≡ 0 },
 }
 
-/// A client's session. Contracts see its name, whether it was stopped, how many calls it has sent, how many partitions there
-/// are, and its entries. Of one that goes on, each call was answered.
+/// A client's session. Contracts see its name, whether it was stopped, how many calls it has sent, its counter, how many partitions
+/// there are, the mark of its last operation, its entries, and what it has seen of the store's history. Of one that goes on, each
+/// call was answered.
 ///
 /// A Seat that is dropped without `end` or `abandon` leaves its client's session open, and gives no transcript.
 #[derive(Drop)]
@@ -118,6 +120,16 @@ impl<'a, G: Gate + Naming> Seat<'a, G> {
         ensures legal { IsLegal result }
     {
         self.operation.seen.again()
+    }
+
+    /// From now on it has seen what another has, such as a seat of another client: a read that begins then misses nothing that was
+    /// committed by that.
+    pub fn learn(&mut self, other: &Front<G>)
+        ensures learned { IsPrefix other.now self.new.seen }
+        ensures later { IsPrefix self.old.seen self.new.seen }
+        ensures rest { self.new ≡ record self.old { seen = self.new.seen } }
+    {
+        self.operation.learn(other);
     }
 
     /// Hands out the entries so far. What it does from then on is entered after them, in a list that begins with nothing.

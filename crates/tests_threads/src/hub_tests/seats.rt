@@ -10,29 +10,36 @@ use std::marker::Brand;
 use std::sync::Wait;
 use std::thread::Threads;
 
-/// A write of two keys, a search, and a write of no key: how many items are found, whether the last one is refused, and how many
-/// entries there are.
-fn write_and_search<G: Gate + Naming, R: Wait>(rt: &R, hub: &Hub<G>) -> Option<(u32, bool, usize)> {
-    let items = two_items("1")?;
+/// A write of two keys, a read by a seat that had begun and learned of the write, a search, and a write of no key: how many items are
+/// read and found, whether the last write is refused, and how many entries the writer has.
+fn write_and_search<G: Gate + Naming, R: Wait>(
+    rt: &R,
+    hub: &Hub<G>,
+) -> Option<([u32; 2], bool, usize)> {
+    let (keys, items) = (two_keys()?, two_items("1")?);
     let mut seat = seated(rt, hub, 0, 1)?;
+    let mut other = seated(rt, hub, 0, 2)?;
     let _ = seat.put_all(rt, &items);
+    other.learn(&seat.seen());
+    let read = told(&other.get_all(rt, &keys), 1, 1);
+    let _ = other.end(rt);
     let found = told(&seat.find(rt, items[0].tag), 1, 1);
     let is_bad = seat.put_all(rt, &[]) == Answer::Refused(Refusal::BadItems);
-    Some((found, is_bad, seat.end(rt).entries.len()))
+    Some(([read, found], is_bad, seat.end(rt).entries.len()))
 }
 
-/// What the session saw, and how many events of seats each partition has.
+/// What the sessions saw, and how many events of seats each partition has.
 fn searched<R: Threads + Wait + Clone + Send + Drop + 'static>(
     rt: &R,
     alloc: Global,
-) -> Option<((u32, bool, usize), [u128; 2])> {
+) -> Option<(([u32; 2], bool, usize), [u128; 2])> {
     searched_in::<Brand, R>(rt, alloc, store(alloc, 16, 64)?)
 }
 
 fn searched_in<
     J: Naming + Send + Sync + Drop + 'static,
     R: Threads + Wait + Clone + Send + Drop + 'static,
->(rt: &R, alloc: Global, store: NewStore) -> Option<((u32, bool, usize), [u128; 2])>
+>(rt: &R, alloc: Global, store: NewStore) -> Option<(([u32; 2], bool, usize), [u128; 2])>
     requires { store.history.seen.book ≡ J.book }
 {
     let hub = opened::<J, R>(rt, alloc, store)?;
@@ -45,8 +52,8 @@ fn searched_in<
 }
 
 #[test]
-fn a_search_finds_what_was_put(rt: HostRuntime) {
-    assert!(rt; searched(&rt, rt.alloc()) == Some(((2, true, 14), [4, 4])));
+fn a_search_and_a_seat_that_learned_find_what_was_put(rt: HostRuntime) {
+    assert!(rt; searched(&rt, rt.alloc()) == Some((([2, 2], true, 14), [5, 5])));
 }
 
 /// Whether the answer stands where the reply was taken that it came with, and behind it the replies that are then ignored: to the
