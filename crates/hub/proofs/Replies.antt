@@ -30,8 +30,9 @@ use Rattle.hub.specs.declared.seat_request.SeatRequest.TheVariants as ask
 use Rattle.history.specs.declared.entry.Mark.{Mark}
 use mathlib.Core.List.{IsPrefix}
 use Rattle.history.specs.declared.entry.HistoryEntry.{HistoryEntry}
+use Rattle.history.specs.declared.entry.HistoryEntry.TheVariants.{ReadBegan}
 use Rattle.history.proofs.Lists.{prefix_has, prefix_join}
-use Rattle.traced_client.specs.Clients.{HasWith}
+use Rattle.traced_client.specs.Clients.{HasReadEntry}
 use Rattle.hub.specs.Evidence.{HasBegunIn, IsMarkedSince}
 use Rattle.hub.specs.Sights.{OperationSight}
 use Rattle.hub.proofs.Given.{IsLaterOperation, operation-later}
@@ -493,21 +494,27 @@ reads-later old new setup asked start entries running told later reads =
 
 -- ---- what has the mark of a read or a search
 
-with_later : (mark after : Mark) (before seen now : List HistoryEntry) → HasWith mark seen before → IsPrefix seen now → after ≡ mark → HasWith after now before
+with_later : (mark after : Mark) (before seen now : List HistoryEntry) → HasReadEntry mark seen before → IsPrefix seen now → after ≡ mark → HasReadEntry after now before
 with_later mark after before seen now has pre same =
-    let P : Mark → Type 0 = λ m. HasWith m now before in
-    let later : P mark = λ log all this that many. has log all (prefix_join seen now all pre this) that many in
+    let P : Mark → Type 0 = λ m. HasReadEntry m now before in
+    let later : P mark = record {
+      before = has.before;
+      after = has.after ++ pre.0;
+      stands = sym pre.1 ∙ ap (λ (l : List HistoryEntry). l ++ pre.0) has.stands ∙ append_assoc has.before (ReadBegan mark.word ∷ has.after) pre.0;
+      behind = has.behind;
+      marked = λ log all this that many. has.marked log all (prefix_join seen now all pre this) that many;
+    } in
     subst P (sym same) later
 
 -- it has what was seen before that, and so where what was seen has grown
 pub shows_since : (name : OperationSight) (parts : ℕ) (Drawn : Stamp → Type 0) (request : SeatRequest) (answer : Answer) (start entries : List Entry) (mark after : Mark) (before seen now : List HistoryEntry)
-    → IsMarkedSince request mark seen before → IsPrefix seen now → after ≡ mark → IsToldFor name parts Drawn request answer start entries → IfShows request answer (HasWith after now before)
+    → IsMarkedSince request mark seen before → IsPrefix seen now → after ≡ mark → IsToldFor name parts Drawn request answer start entries → IfShows request answer (HasReadEntry after now before)
 shows_since name parts Drawn (ask.Put items) answer start entries mark after before seen now since pre same told = tt
 shows_since name parts Drawn (ask.Get keys) answer start entries mark after before seen now since pre same told =
-    if_read answer (IsReadOf name keys.now start entries) (λ readings. HasWith after now before) (λ readings is. with_later mark after before seen now since pre same) told
+    if_read answer (IsReadOf name keys.now start entries) (λ readings. HasReadEntry after now before) (λ readings is. with_later mark after before seen now since pre same) told
 shows_since name parts Drawn (ask.Find tag) answer start entries mark after before seen now since pre same told =
     let setup : Setup = record { partitions = parts; room = record { slots = 0; items = 0; clients = 0 }; keep = 0 } in
-    if_listed answer (IsListOf name setup tag start entries) (λ readings. HasWith after now before) (λ readings is. with_later mark after before seen now since pre same) (told setup refl)
+    if_listed answer (IsListOf name setup tag start entries) (λ readings. HasReadEntry after now before) (λ readings is. with_later mark after before seen now since pre same) (told setup refl)
 
 -- a refusal shows nothing
 pub shows_refused : (request : SeatRequest) (refusal : Refusal) (answer : Answer) (P : Type 0) → answer ≡ says.Refused refusal → IfShows request answer P

@@ -11,7 +11,7 @@ use Rattle.history.specs.Legal.{IsOfPut, MayDecide}
 use Rattle.tenant_sessions.specs.Running.{MayBegin}
 use Rattle.tenant_sessions.specs.declared.running.Running.{Running}
 use Rattle.history.specs.declared.entry.Mark.{Mark}
-use Rattle.traced_client.specs.Clients.{ClientTrace, HasWith}
+use Rattle.traced_client.specs.Clients.{ClientTrace, HasReadEntry}
 use Rattle.hub.specs.declared.seat_request.SeatRequest.{SeatRequest}
 use Rattle.hub.specs.declared.seat_request.SeatRequest.TheVariants.{Put, Get, Find}
 use Rattle.hub.specs.Replies.{IsStampOf, Reads}
@@ -38,11 +38,11 @@ pub record IsUnderWay (sight : OperationSight) (own : Stamp) (entries : List Ent
 abbrev pub no_mark : Mark
 no_mark = record { word = 0; entries = 0 }
 
--- what has the mark of a read or a search has all that was seen before it; nothing is said of a put
+-- a read or a search has its entry, behind all that was seen before; nothing is said of a put
 abbrev pub IsMarkedSince : SeatRequest → Mark → (seen before : List HistoryEntry) → Type 0
 IsMarkedSince (Put items) mark seen before = Unit {0}
-IsMarkedSince (Get keys) mark seen before = HasWith mark seen before
-IsMarkedSince (Find tag) mark seen before = HasWith mark seen before
+IsMarkedSince (Get keys) mark seen before = HasReadEntry mark seen before
+IsMarkedSince (Find tag) mark seen before = HasReadEntry mark seen before
 
 -- a client's word, where it is here, is of the tenant
 abbrev pub tenant_or : ℕ → Option ClientTrace → ℕ

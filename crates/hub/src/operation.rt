@@ -117,7 +117,7 @@ fn tell_end(taken: &MoveKind, readings: &Readings, answer: &mut Answer)
 }
 
 /// Enters what has begun: a put of this tenant's client under this stamp, or a read or a search, and answers its mark. What has the mark
-/// of a read or a search has all that was seen before. A put has that of no entries. None where the word is not here, or has other
+/// of a read or a search has all that stands before its entry. A put has that of no entries. None where the word is not here, or has other
 /// entries than were seen: nothing was entered then.
 fn enter_begun<G: Naming>(
     client: &mut Option<TracedClient<G>>,
@@ -242,7 +242,7 @@ impl<'a, G: Gate + Naming> RunningOperation<'a, G> {
     ghost use Rattle.hub.specs.Sights.{OperationSight, operation_of, sight_of};
     ghost use mathlib.Core.List.{IsPrefix};
     ghost use Rattle.hub.specs.Replies.{AreServed, IsDrawn, IsStampOf, IfShows, IsToldFor, IsToldOf, IsUnder};
-    ghost use Rattle.traced_client.specs.Clients.{HasWith};
+    ghost use Rattle.traced_client.specs.Clients.{HasReadEntry};
     ghost use Rattle.hub.specs.Evidence.{no_mark};
     ghost use Rattle.stamps.specs.Stamp.{stamp};
     ghost use Rattle.hub.specs.Seats.{at_seat, is_final, is_unrecorded, outcome_of, spare, EndsSo, Follows, Extends};
@@ -357,10 +357,10 @@ impl<'a, G: Gate + Naming> RunningOperation<'a, G> {
         ensures outcome { result ≡ outcome_of self.new.fault self.new.place }
         ensures entered { (told : Option Said)
             × Follows self.old.entries.items told self.new.entries.items }
-        // What has the mark of a read has all that was seen before.
+        // A read has its entry behind all that was seen before.
         ensures since { OnOk result
             (IfShows request.now answer.new
-            (HasWith self.new.mark self.new.seen self.old.seen)) }
+            (HasReadEntry self.new.mark self.new.seen self.old.seen)) }
         ensures goes_on { IsSameSeat self.old self.new }
     {
         let client = self.name.client;

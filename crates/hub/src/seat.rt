@@ -7,10 +7,10 @@ ghost use Rattle.hub.specs.Rooms.{awaited};
 ghost use Rattle.hub.specs.Limits.{max_calls};
 ghost use Rattle.hub.specs.Operations.{IsLater, IsOperation, ReportsList, ReportsRead, ReportsWrite};
 ghost use Rattle.hub.specs.Atomic.{IsReadAtomic};
-ghost use Rattle.hub.specs.Fresh.{AreCommittedIn, IsReadFresh};
+ghost use Rattle.hub.specs.Fresh.{AreCommittedIn, IsFreshByEntry};
 ghost use Rattle.hub.specs.Evidence.{no_mark};
 ghost use Rattle.hub.specs.Replies.{IfDone, IfListed, IfRead, IfShows, IsDrawn, IsToldFor};
-ghost use Rattle.traced_client.specs.Clients.{HasWith};
+ghost use Rattle.traced_client.specs.Clients.{HasReadEntry};
 ghost use Rattle.hub.specs.Requests.{act_of};
 ghost use Rattle.hub.specs.Seats.{SeatView, Extends, IsEntered, IsNamed, begun_entries, is_unbegun, last_operation};
 ghost use Rattle.hub.specs.Taken.{replies_in};
@@ -182,8 +182,8 @@ impl<'a, G: Gate + Naming> Seat<'a, G> {
     /// What it reports is the reader's answer to replies that this operation entered, whatever they are, each given to just the
     /// call that was answered by it: each version that it reports was in one of them, and it shows no write in part among those
     /// whose write sets they told. So it is read atomic, by the puts of the store's one history: what it reports is what decided puts
-    /// wrote, and none of them is shown in part. And it is fresh: no key is reported below a version that was committed, by what this
-    /// seat had seen as the read began.
+    /// wrote, and none of them is shown in part. And it is fresh: no key is reported below a version that was committed before the
+    /// read's entry in that history, whichever client had been told of it. All that this seat had seen stands before that entry.
     pub fn get_all<R: Wait>(&mut self, rt: &R, keys: &[Key]) -> Answer
         ensures operated { IsOperation
             (GetAll self.old.name.client keys.now) self.old result self.new }
@@ -191,7 +191,7 @@ impl<'a, G: Gate + Naming> Seat<'a, G> {
         ensures atomic { IfRead result
             (λ told. ∥ IsReadAtomic self.new.seen self.new.name.tenant told ∥₁) }
         ensures fresh { IfRead result
-            (λ told. IsReadFresh self.old.seen self.new.name.tenant told) }
+            (λ told. IsFreshByEntry self.old.seen self.new.seen self.new.name.tenant told) }
     {
         let mut answer = Answer::Ignored;
         self.get_all_into(rt, keys, &mut answer);
@@ -206,7 +206,7 @@ impl<'a, G: Gate + Naming> Seat<'a, G> {
         ensures atomic { IfRead answer.new
             (λ told. ∥ IsReadAtomic self.new.seen self.new.name.tenant told ∥₁) }
         ensures fresh { IfRead answer.new
-            (λ told. IsReadFresh self.old.seen self.new.name.tenant told) }
+            (λ told. IsFreshByEntry self.old.seen self.new.seen self.new.name.tenant told) }
     {
         self.run(rt, &SeatRequest::Get(keys), usize::MAX, answer);
     }
@@ -222,7 +222,7 @@ impl<'a, G: Gate + Naming> Seat<'a, G> {
         ensures atomic { IfListed result
             (λ told. ∥ IsReadAtomic self.new.seen self.new.name.tenant told ∥₁) }
         ensures fresh { IfListed result
-            (λ told. IsReadFresh self.old.seen self.new.name.tenant told) }
+            (λ told. IsFreshByEntry self.old.seen self.new.seen self.new.name.tenant told) }
     {
         let mut answer = Answer::Ignored;
         self.find_into(rt, tag, &mut answer);
@@ -237,7 +237,7 @@ impl<'a, G: Gate + Naming> Seat<'a, G> {
         ensures atomic { IfListed answer.new
             (λ told. ∥ IsReadAtomic self.new.seen self.new.name.tenant told ∥₁) }
         ensures fresh { IfListed answer.new
-            (λ told. IsReadFresh self.old.seen self.new.name.tenant told) }
+            (λ told. IsFreshByEntry self.old.seen self.new.seen self.new.name.tenant told) }
     {
         self.run(rt, &SeatRequest::Find(tag), usize::MAX, answer);
     }
@@ -293,9 +293,9 @@ impl<'a, G: Gate + Naming> Seat<'a, G> {
             (IsDrawn self.old.name.client self.old.counter self.new.counter) request.now answer.new
             (begun_entries self.old (act_of self.old.name.client request.now)) self.new.entries }
         ensures few { replies_in self.new.entries ≤ replies_in self.old.entries + takes }
-        // What has the mark of a read has all that was seen before.
+        // A read has its entry behind all that was seen before.
         ensures since { IfShows request.now answer.new
-            (HasWith self.new.mark self.new.seen self.old.seen) }
+            (HasReadEntry self.new.mark self.new.seen self.old.seen) }
         ensures legal { ∥ IsLegal self.new.seen ∥₁ }
         ensures of_store { ∥ HasParts self.new.seen self.old.parts ∥₁ }
     {

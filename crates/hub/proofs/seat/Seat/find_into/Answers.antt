@@ -18,14 +18,20 @@ returns-clause-atomic g c =
     let setup : Setup = record { partitions = c.args.self.now.parts; room = record { slots = 0; items = 0; clients = 0 }; keep = 0 } in
     if_listed c.run.new.answer _ _ (λ told is. ∥∥₁_map c.run.ensures.legal (λ legal. lists_atomic (last_operation now) setup c.args.tag _ now.entries told legal is)) (c.run.ensures.told setup refl)
 
--- what had been committed is not missed
+-- what had been committed before its entry is not missed
 pub returns-clause-fresh : goal.returns-clause-fresh
 returns-clause-fresh g c =
     let before = c.args.self.now in
     let now = c.run.new.self in
     let setup : Setup = record { partitions = before.parts; room = record { slots = 0; items = 0; clients = 0 }; keep = 0 } in
     both_listed c.run.new.answer _ _ _
-    (λ told since is reading stamp has committed.
-    ∥∥₁_elim c.run.ensures.legal le_prop (λ legal.
-    lists_fresh (last_operation now) before.seen setup c.args.tag _ now.entries told legal since is reading stamp has committed))
+    (λ told since is. record {
+      word = now.mark.word;
+      before = since.before;
+      after = since.after;
+      stands = since.stands;
+      behind = since.behind;
+      fresh = λ reading stamp has committed. ∥∥₁_elim c.run.ensures.legal le_prop (λ legal.
+          lists_fresh (last_operation now) since.before setup c.args.tag _ now.entries told legal since.marked is reading stamp has committed);
+    })
     c.run.ensures.since (c.run.ensures.told setup refl)

@@ -15,13 +15,18 @@ returns-clause-atomic g c =
     let now = c.run.new.self in
     if_read c.run.new.answer _ _ (λ told is. ∥∥₁_map c.run.ensures.legal (λ legal. reads_atomic (last_operation now) c.args.keys.now _ now.entries told legal is)) c.run.ensures.told
 
--- what had been committed is not missed
+-- what had been committed before its entry is not missed
 pub returns-clause-fresh : goal.returns-clause-fresh
 returns-clause-fresh g c =
-    let before = c.args.self.now in
     let now = c.run.new.self in
     both_read c.run.new.answer _ _ _
-    (λ told since is reading stamp has committed.
-    ∥∥₁_elim c.run.ensures.legal le_prop (λ legal.
-    reads_fresh (last_operation now) before.seen c.args.keys.now _ now.entries told legal since is reading stamp has committed))
+    (λ told since is. record {
+      word = now.mark.word;
+      before = since.before;
+      after = since.after;
+      stands = since.stands;
+      behind = since.behind;
+      fresh = λ reading stamp has committed. ∥∥₁_elim c.run.ensures.legal le_prop (λ legal.
+          reads_fresh (last_operation now) since.before c.args.keys.now _ now.entries told legal since.marked is reading stamp has committed);
+    })
     c.run.ensures.since c.run.ensures.told
