@@ -10,6 +10,7 @@ use Rattle.plain_store.specs.declared.step.Act.TheVariants.{Put as PutAct, Get a
 use Rattle.plain_store.specs.declared.answer.Answer.{Answer}
 use Rattle.plain_store.specs.declared.answer.Answer.TheVariants.{Refused, Ready, Keeps}
 use Rattle.hub.specs.Atomic.{IsReadAtomic}
+use Rattle.hub.specs.Fresh.{AreCommittedIn, IsFreshByEntry}
 use Rattle.hub.specs.Limits.{max_calls}
 use Rattle.hub.specs.Operations.{IsLater, IsOperation, ReportsList, ReportsRead, ReportsWrite}
 use Rattle.hub.specs.ReadsFirst.{IsReadAndWritten}
@@ -26,25 +27,32 @@ pub record IsServedWith (act : Act) (Reports : SeatView → Answer → SeatView 
   pub operated : IsOperation act old answer new
   pub reports : Reports old answer new
 
+-- a write that is done has committed each of its keys, in the history
+abbrev pub HasCommitted : List Item → Answer → SeatView → Type 0
+HasCommitted items answer new = IfDone answer (AreCommittedIn new.seen new.name.tenant items)
+
 -- that a write is done, under the next stamp, answers replies that this operation entered
 abbrev pub ReportsPut : List Item → SeatView → Answer → SeatView → Type 0
 ReportsPut items old answer new =
-    IfDone answer (IsDrawn old.name.client old.counter new.counter) × ReportsWrite items old answer new
+    IfDone answer (IsDrawn old.name.client old.counter new.counter) × ReportsWrite items old answer new × HasCommitted items answer new
 
--- what a read reports was in replies that this operation entered, and is read atomic, by the puts of the history
+-- what a read reports was in replies that this operation entered. It is read atomic, by the puts of the history, and fresh, by all
+-- that stands there before the read's entry
 abbrev pub ReportsGet : List Key → SeatView → Answer → SeatView → Type 0
 ReportsGet keys old answer new =
     ReportsRead keys old answer new × IfRead answer (λ told. ∥ IsReadAtomic new.seen new.name.tenant told ∥₁)
+    × IfRead answer (λ told. IsFreshByEntry old.seen new.seen new.name.tenant told)
 
 -- and so is what a search reports
 abbrev pub ReportsFind : Tag → SeatView → Answer → SeatView → Type 0
 ReportsFind tag old answer new =
     ReportsList tag old answer new × IfListed answer (λ told. ∥ IsReadAtomic new.seen new.name.tenant told ∥₁)
+    × IfListed answer (λ told. IsFreshByEntry old.seen new.seen new.name.tenant told)
 
 -- a put is served; or, where puts read first, its keys are read and then it is
 abbrev pub IsPut : Bool → List Item → SeatView → Answer → SeatView → Type 0
 IsPut false items old answer new = IsServedWith (PutAct old.name.client items) (ReportsPut items) old answer new
-IsPut true items old answer new = IsReadAndWritten items old answer new × IsLater (2 * max_calls) old new
+IsPut true items old answer new = IsReadAndWritten items old answer new × IsLater (2 * max_calls) old new × HasCommitted items answer new
 
 -- What a seat of a store of so many tenants answers to a request: `hello` is refused 12; a put, a get and a find are
 -- served; `keep` is answered by its number, and refused 10 where the seat's tenant is not there. `bye` is not answered.
