@@ -14,10 +14,10 @@ use Rattle.line_protocol.specs.AnswerSpelling.{answer_line}
 use Rattle.line_protocol.specs.Held.{EndsAs}
 use Rattle.line_protocol.specs.declared.request.Request.{Request}
 use Rattle.line_protocol.specs.Stream.{HasNoLineFeed, IsLine, IsTooLong, lines_of, terminated}
-use Rattle.line_runs.specs.RunAnswers.{Gathers}
+use Rattle.line_runs.specs.RunAnswers.{Gathers, end_of}
 use Rattle.line_runs.proofs.Fronts.{begins_behind_gathered, AnswersFront-line, AnswersFront-refl, AnswersFront-trans}
 use Rattle.line_runs.proofs.Gathering.{Gathers-end, Gathers-none, Gathers-text, Gathers-trans}
-use Rattle.line_runs.proofs.Lines.{lines_of-none}
+use Rattle.line_runs.proofs.Lines.{end_of-nil, lines_of-none}
 use Rattle.line_runs.proofs.Steps.{IsTooLong-append}
 use Rattle.server_sessions.specs.declared.session_options.SessionOptions.{SessionOptions}
 use Rattle.server_sessions.specs.declared.line_session.SessionEnd.{SessionEnd}
@@ -329,6 +329,7 @@ answered_whole options hub names ending last its input a b c gathered h adds end
       front = f.front;
       left = h.left;
       whole = f.whole;
+      lines = ap end_of (sym (append-nil f.front)) ∙ ((f.passes []).ending ∙ end_of-nil);
       seat = h.seat;
       text = h.text;
       answers = subst (AnswersLines options hub names h.seat None (lines_of f.front)) (append-nil h.text)

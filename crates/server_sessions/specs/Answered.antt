@@ -11,7 +11,8 @@ use Rattle.line_protocol.specs.Held.{EndsAs}
 use Rattle.line_protocol.specs.ServeSpelling.{IsNoServeLine, IsServeLine}
 use Rattle.line_protocol.specs.Stream.{lines_of, terminated}
 use Rattle.line_protocol.specs.declared.request.Request.TheVariants.{Bye}
-use Rattle.line_runs.specs.RunAnswers.{AnswersFront, Gathers}
+use Rattle.line_runs.specs.RunAnswers.{AnswersFront, Gathers, end_of}
+use Rattle.line_runs.specs.declared.fault.End.TheVariants.{Whole}
 use Rattle.server_sessions.specs.declared.session_options.SessionOptions.{SessionOptions}
 use Rattle.server_sessions.specs.declared.line_session.SessionEnd.{SessionEnd}
 use Rattle.server_sessions.specs.declared.line_session.SessionEnd.TheVariants.{Silent, Bye as SaysBye, Unread}
@@ -115,13 +116,14 @@ IsOfSeat epoch (Some seat) left =
     (its : SessionLeft) × (left ≡ Some its) × IsNamed its.0 seat.name
     × (epoch ≡ 0 → its.0.entries.items ≡ seat.entries) × (its.1 ≡ seat.seen)
 
--- What a session over this input wrote that left this, or opened no seat: each line of a prefix of the input was
--- answered in its turn, by the tenant that its hello named; and then comes the last line.
+-- What a session over this input wrote that left this, or opened no seat: each line of a prefix of the input, which has whole lines
+-- alone, was answered in its turn, by the tenant that its hello named; and then comes the last line.
 pub record HasAnswered (options : SessionOptions) (hub : ConfigView) (names : List (List ℕ)) (input : List ℕ)
     (its : Option SessionLeft) (old new : Option (List ℕ)) : Type 0 where
   pub front : List ℕ
   pub left : List ℕ
   pub whole : input ≡ front ++ left
+  pub lines : end_of front ≡ Whole
   pub seat : Option SeatView
   pub text : List ℕ
   pub answers : AnswersLines options hub names seat None (lines_of front) text
