@@ -3,6 +3,7 @@ use Rattle.std.proofs.Common.{◌≡◌, ℕ, List, [], ◌∷◌, ◌++◌, Boo
 use Rattle.std.specs.Prelude.{nat_lt}
 use Rattle.std.specs.List.{list_any}
 use Rattle.stamps.specs.Key.{sorted_keys}
+use Rattle.stamps.specs.Limits.{max_found}
 use Rattle.plain_store.specs.Words.{◌∈◌, Key, Tag, Stamp, Setup, home, Item}
 use Rattle.plain_store.specs.declared.calls.Call.TheVariants.{Get, Found}
 use Rattle.plain_store.specs.declared.calls.Call.{Call}
@@ -185,7 +186,7 @@ find_made : (setup : Setup) (tag : Tag) (taken : List Message) (partition : ℕ)
 find_made setup tag taken partition (Found g) (Some (ToFound told)) out ready h = go (list_any (λ key. not (home setup key == partition)) told.keys) h
   where
     whole : (b : Bool) → out ∈ calls_made (cond b (search_move setup (total_found taken) (all_keys_found taken)) Waits) → out ∈ (found_calls setup tag ++ cond b (read_so_far setup (all_keys_found taken) taken) [])
-    whole true k = in_right (found_calls setup tag) (read_so_far setup (all_keys_found taken) taken) out (search_made setup (all_keys_found taken) taken out (nat_lt 16 (total_found taken)) (total_found taken == 0) k)
+    whole true k = in_right (found_calls setup tag) (read_so_far setup (all_keys_found taken) taken) out (search_made setup (all_keys_found taken) taken out (nat_lt max_found (total_found taken)) (total_found taken == 0) k)
     whole false k = absurd k
 
     go : (b : Bool) → out ∈ calls_made (cond b (Fails Torn []) (cond (all_found setup taken) (search_move setup (total_found taken) (all_keys_found taken)) Waits)) → out ∈ calls_so_far setup (Finds tag) taken

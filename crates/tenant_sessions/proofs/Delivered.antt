@@ -16,6 +16,7 @@ use Rattle.plain_store.proofs.KeptLogs.{is_of_wanted}
 use Rattle.plain_store.proofs.Sound.{of_transaction}
 use Rattle.plain_store.proofs.StepEffects.{moves_is_move, moves_took}
 use Rattle.std.proofs.lemmas.Bool.{and_from}
+use Rattle.stamps.specs.Limits.{max_keys}
 use Rattle.tenant_sessions.specs.Moves.{Move, Ask, Ignored, answer_of, sends_calls, is_last, is_ignored, told, calls_out, ending}
 use Rattle.tenant_sessions.specs.declared.running.Running.{Running}
 use Rattle.tenant_sessions.specs.declared.session.ClientSession.{ClientSession}
@@ -35,7 +36,7 @@ use Rattle.tenant_sessions.proofs.Resending.{waiting_some}
 record TakenAs (setup : Setup) (history : History) (message : Message) (move : Move) (new : SessionsContent) (m : Moment) : Type 0 where
   answer : m.answer ≡ answer_of move (next_rows history (length m.sent))
   sent : m.sent ≡ cond (sends_calls move) (waiting setup (m ∷ history) message.client) (map (call_message message.client message.ticket) (ending move))
-  few : length m.sent ≤ 16
+  few : length m.sent ≤ max_keys
   stands : StandsFor setup (m ∷ history) new
 
 taken_from : (setup : Setup) (history : History) (row : ℕ) (message : Message) (move : Move) (new : SessionsContent) → TakenAs setup history message move new (effect setup history (Deliver row)) → IsTaken setup history row message move new
@@ -233,7 +234,7 @@ module _ (setup : Setup) (history : History) (row : ℕ) (message : Message) (re
           as_moved = record {
             answer = by.answer ∙ (λ i. answer_of (sym answer_is i) (next_rows history (sym count i)));
             sent = by.sent ∙ ap (map (call_message transaction.client transaction.ticket)) (takes.takes.sent new_reply) ∙ sent_so (sends_calls result) refl;
-            few = subst (λ n. n ≤ 16) (sym count) (takes.takes.few new_reply);
+            few = subst (λ n. n ≤ max_keys) (sym count) (takes.takes.few new_reply);
             stands = stands_after setup m history old new message.client after stands holds (delivered_known m history row message by.own at ∙ stands.count ∙ sym same) (delivered_others m history row message by.own at) know;
           }
 

@@ -5,6 +5,7 @@ use Rattle.std.specs.List.{list_any, list_all}
 use Rattle.std.proofs.lemmas.Bool.{lt-ltb, ltb-false, and_parts}
 use Rattle.std.proofs.lemmas.List.{length-map}
 use Rattle.stamps.specs.Key.{sorted_keys}
+use Rattle.stamps.specs.Limits.{max_keys, max_found, max_parts}
 use Rattle.plain_store.specs.FoundKeys.{Findings}
 use Rattle.plain_store.specs.declared.calls.Call.{Call}
 use Rattle.plain_store.specs.declared.calls.Call.TheVariants.{Get, Found}
@@ -64,20 +65,20 @@ not_shown (key ∷ keys) replies none incomplete = ap (λ b. b && round_one_comp
 
 -- ---- what a move of a search reports
 
--- where some partition has not told, it waits; a search that begins to read counted 16 keys at most, and one that lists none
+-- where some partition has not told, it waits; a search that begins to read counted `max_found` keys at most, and one that lists none
 abbrev pub SearchTells : Setup → Bool → ℕ → List Key → PlainMove → Type 0
 SearchTells setup all total keys Waits = all ≡ false
 SearchTells setup all total keys (Asks calls) = ⊥
-SearchTells setup all total keys (Begins calls) = (all ≡ true) × (nat_lt 16 total ≡ false) × (first_calls setup keys ≡ calls)
+SearchTells setup all total keys (Begins calls) = (all ≡ true) × (nat_lt max_found total ≡ false) × (first_calls setup keys ≡ calls)
 SearchTells setup all total keys (Lists told) = ((total == 0) ≡ true) × (told ≡ [])
 SearchTells setup all total keys move = Unit {0}
 
 pub search_tells : (setup : Setup) (stray all : Bool) (total : ℕ) (keys : List Key) → SearchTells setup all total keys (cond stray (Fails IsTorn []) (cond all (search_move setup total keys) Waits))
 search_tells setup true all total keys = tt
 search_tells setup false false total keys = refl
-search_tells setup false true total keys = go (nat_lt 16 total) (total == 0) refl refl
+search_tells setup false true total keys = go (nat_lt max_found total) (total == 0) refl refl
   where
-    go : (b c : Bool) → nat_lt 16 total ≡ b → (total == 0) ≡ c → SearchTells setup true total keys (cond b (Fails AreTooMany []) (cond c (Lists []) (Begins (first_calls setup keys))))
+    go : (b c : Bool) → nat_lt max_found total ≡ b → (total == 0) ≡ c → SearchTells setup true total keys (cond b (Fails AreTooMany []) (cond c (Lists []) (Begins (first_calls setup keys))))
     go true c e z = tt
     go false true e z = (z, refl)
     go false false e z = (refl, e, refl)
@@ -146,9 +147,9 @@ module _ (setup : Setup) (tag : Tag) (taken : List Message) (message : Message) 
     -- what is read where it is not ended and each partition told
     reads_on : (replies : List Message) → all_found setup replies ≡ true → has_ended setup replies ≡ false → has_read (all_keys_found replies) replies ≡ false
     reads_on replies all goes =
-        (or_parts (nat_lt 16 (total_found replies)) (has_read (all_keys_found replies) replies)
-        (ap (λ b. b && (nat_lt 16 (total_found replies) || has_read (all_keys_found replies) replies)) (sym all)
-        ∙ (or_parts (any_stray setup replies) (all_found setup replies && (nat_lt 16 (total_found replies) || has_read (all_keys_found replies) replies)) goes).1)).1
+        (or_parts (nat_lt max_found (total_found replies)) (has_read (all_keys_found replies) replies)
+        (ap (λ b. b && (nat_lt max_found (total_found replies) || has_read (all_keys_found replies) replies)) (sym all)
+        ∙ (or_parts (any_stray setup replies) (all_found setup replies && (nat_lt max_found (total_found replies) || has_read (all_keys_found replies) replies)) goes).1)).1
 
     -- what the reader of the search took is in order
     orderly : all_found setup taken ≡ true → IsOrderly (all_keys_found taken) taken
@@ -166,7 +167,7 @@ module _ (setup : Setup) (tag : Tag) (taken : List Message) (message : Message) 
         moves_on setup (Finds tag) taken message _ Waits got.0 got.1
         (λ _. record { stands = got.2; goes_on = got.3 refl; few = stay.0; of_kind = kinds_more; waits = waits_less setup (Finds tag) taken message left waiting left_is s.waits stay.1 }) refl (omega arith)
       where
-        stays : move ≡ Waits → answered ≡ false → (all_found setup more ≡ true → length (all_keys_found more) ≤ 16) × (part_with (all_found setup more) (all_keys_found more) more ≡ part_with (all_found setup taken) (all_keys_found taken) taken)
+        stays : move ≡ Waits → answered ≡ false → (all_found setup more ≡ true → length (all_keys_found more) ≤ max_found) × (part_with (all_found setup more) (all_keys_found more) more ≡ part_with (all_found setup taken) (all_keys_found taken) taken)
         stays waits fresh =
             elim (find_asked setup taken message tag is) [
               | inl k ↦
@@ -179,7 +180,7 @@ module _ (setup : Setup) (tag : Tag) (taken : List Message) (message : Message) 
                   (λ all. omega (arith, ap length keys, few), (λ i. part_with (found_stays k.0 i) (keys i) more) ∙ same ∙ sym (ap (λ b. part_with b (all_keys_found taken) taken) k.0))
             ]
 
-    pub find_asks : (parts : ℕ) (left : List Outgoing) (late : List Late) → setup.partitions ≡ parts → TakesFind setup tag taken message (AskFind late) after reader → (length (late_outs parts late) ≤ 64 → left ≡ late_outs parts late)
+    pub find_asks : (parts : ℕ) (left : List Outgoing) (late : List Late) → setup.partitions ≡ parts → TakesFind setup tag taken message (AskFind late) after reader → (length (late_outs parts late) ≤ max_parts → left ≡ late_outs parts late)
         → TakesMessage setup (Finds tag) taken message Ask (λ replies. IsFinding setup tag replies after reader left)
     find_asks parts left late parts_are t new =
         let got = turn (AskFind late) t in
@@ -195,8 +196,8 @@ module _ (setup : Setup) (tag : Tag) (taken : List Message) (message : Message) 
         ]
 
     pub find_begins : (parts : ℕ) (left : List Outgoing) (keys own : List Key) (parts_are : setup.partitions ≡ parts) → TakesFind setup tag taken message (BeginFind keys) after reader
-        → length (keys_found message.reply) ≤ count_found message.reply → (length keys ≤ 16 → own ≡ keys)
-        → (length (map (first_at setup parts parts_are) own) ≤ 64 → left ≡ map (first_at setup parts parts_are) own)
+        → length (keys_found message.reply) ≤ count_found message.reply → (length keys ≤ max_keys → own ≡ keys)
+        → (length (map (first_at setup parts parts_are) own) ≤ max_parts → left ≡ map (first_at setup parts parts_are) own)
         → TakesMessage setup (Finds tag) taken message BeginsRead (λ replies. IsFinding setup tag replies after reader left)
     find_begins parts left keys own parts_are t counts are new =
         let calls = first_calls setup keys in
@@ -207,13 +208,13 @@ module _ (setup : Setup) (tag : Tag) (taken : List Message) (message : Message) 
               let begins = searches_so k (Begins calls) got.1 in
               let a = (s.stands.holds s.goes_on).asking (asking_so got.0 k) in
               let total = total_push taken message in
-              let few_found : total_found more ≤ 16 = ltb-false 16 (total_found more) begins.1 in
+              let few_found : total_found more ≤ max_found = ltb-false max_found (total_found more) begins.1 in
               let counted = a.counted (omega (arith, total, few_found)) in
               let told = keys_push taken message in
-              let few_keys : length found ≤ 16 =
+              let few_keys : length found ≤ max_keys =
               omega (arith, length_permutation (keys_told more) (sorted_keys (keys_told more)) (sorted_keys-IsPermutation (keys_told more)), ap length told, length-append (keys_told taken) (keys_found message.reply), counted, counts, total, few_found) in
               let first : Key → Outgoing = λ key. record { partition = home setup key; call = Get key None } in
-              let few : length calls ≤ 16 = omega (arith, ap length begins.2, length-map found first, few_keys) in
+              let few : length calls ≤ max_keys = omega (arith, ap length begins.2, length-map found first, few_keys) in
               let own_is : own ≡ keys = are (omega (arith, length-map keys first, few)) in
               let made : map (first_at setup parts parts_are) own ≡ calls = ap (map (first_at setup parts parts_are)) own_is ∙ firsts_are setup parts parts_are keys in
               let left_is : left ≡ calls = new (omega (arith, ap length made, few)) ∙ made in

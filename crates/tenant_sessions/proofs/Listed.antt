@@ -3,6 +3,7 @@ use Rattle.std.proofs.Common.{◌≡◌, ◌+◌, ◌≤◌, List, [], ◌∷◌
 use Rattle.std.specs.Prelude.{nat_lt}
 use Rattle.std.specs.List.{list_any}
 use Rattle.std.proofs.lemmas.Bool.{and_parts, eqb-true, not-true}
+use Rattle.stamps.specs.Limits.{max_found}
 use Rattle.plain_store.specs.FoundKeys.{Findings}
 use Rattle.plain_store.specs.declared.calls.Call.{Call}
 use Rattle.plain_store.specs.declared.calls.Call.TheVariants.{Get, Found}
@@ -63,8 +64,8 @@ module _ (setup : Setup) (tag : Tag) (taken : List Message) (message : Message) 
       let both = and_parts (all_found setup taken) (is_of_read keys taken (Get key at) (Some (ToGet reply))) of_search in
       let reading = h.reading both.0 in
       let open_read : has_read keys taken ≡ false =
-      sym (ap (λ b. b || (all_found setup taken && (nat_lt 16 (total_found taken) || has_read keys taken))) h.at_home
-      ∙ ap (λ b. b && (nat_lt 16 (total_found taken) || has_read keys taken)) both.0
+      sym (ap (λ b. b || (all_found setup taken && (nat_lt max_found (total_found taken) || has_read keys taken))) h.at_home
+      ∙ ap (λ b. b && (nat_lt max_found (total_found taken) || has_read keys taken)) both.0
       ∙ ap (λ b. b || has_read keys taken) reading.few) ∙ open_yet in
       let same : all_keys_found after ≡ keys = keys_same taken message (ap keys_found f) in
       let whole = read_told keys taken message (reading.stands.holds open_read).orderly setup (λ rs. Lists (carrying tag rs)) (Lists told) tt (Get key at) (Some (ToGet reply)) e f

@@ -19,6 +19,7 @@ use Rattle.tenant_sessions.specs.Parts.{Founds, batch_calls, is_search_at, searc
 use Rattle.plain_store.proofs.ListTests.{all_push, all-filter}
 use Rattle.plain_store.proofs.Members.{all_more}
 use Rattle.std.proofs.Math.Bool.{or-true}
+use Rattle.stamps.specs.Limits.{max_parts}
 
 -- ---- the numbers below another
 
@@ -144,18 +145,18 @@ made_at f xs all place x y is at same = ap Some same ∙ sym (slice_get-map f xs
 
 -- ---- what a part that begins waits for
 
--- the first 64 places, or all, are within it
-pub first_within : (calls : List Outgoing) (count : ℕ) (places : List ℕ) → places ≡ below (min count 64) → count ≡ length calls → list_all (λ place. nat_lt place (length calls)) places ≡ true
-first_within calls count places is all = ap (list_all (λ place. nat_lt place (length calls))) is ∙ below_within (length calls) (min count 64) (omega (arith, all))
+-- the first `max_parts` places, or all, are within it
+pub first_within : (calls : List Outgoing) (count : ℕ) (places : List ℕ) → places ≡ below (min count max_parts) → count ≡ length calls → list_all (λ place. nat_lt place (length calls)) places ≡ true
+first_within calls count places is all = ap (list_all (λ place. nat_lt place (length calls))) is ∙ below_within (length calls) (min count max_parts) (omega (arith, all))
 
 -- and they are all of its calls
-pub first_all : (calls : List Outgoing) (count : ℕ) (places : List ℕ) → places ≡ below (min count 64) → count ≡ length calls → length calls ≤ 64 → filter_map (slice_get calls) places ≡ calls
-first_all calls count places is all few = ap (filter_map (slice_get calls)) is ∙ every_place calls (min count 64) (omega (arith, all, few))
+pub first_all : (calls : List Outgoing) (count : ℕ) (places : List ℕ) → places ≡ below (min count max_parts) → count ≡ length calls → length calls ≤ max_parts → filter_map (slice_get calls) places ≡ calls
+first_all calls count places is all few = ap (filter_map (slice_get calls)) is ∙ every_place calls (min count max_parts) (omega (arith, all, few))
 
 -- and no more
-pub first_few : (calls : List Outgoing) (count : ℕ) (places : List ℕ) → places ≡ below (min count 64) → count ≡ length calls → length (filter_map (slice_get calls) places) ≤ length calls
+pub first_few : (calls : List Outgoing) (count : ℕ) (places : List ℕ) → places ≡ below (min count max_parts) → count ≡ length calls → length (filter_map (slice_get calls) places) ≤ length calls
 first_few calls count places is all =
-    omega (arith, length-placed calls places (first_within calls count places is all), ap length is, length-below (min count 64), all)
+    omega (arith, length-placed calls places (first_within calls count places is all), ap length is, length-below (min count max_parts), all)
 
 -- there is an element at a place where it lies within the list
 pub made_so : {X : Type 0} (xs : List X) (place : ℕ) (made : Bool) (x : X) → cond made (Some x) None ≡ slice_get xs place → made ≡ nat_lt place (length xs)

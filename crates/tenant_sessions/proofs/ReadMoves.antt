@@ -5,6 +5,7 @@ use Rattle.std.proofs.lemmas.Bool.{eq-eqb, cases_Bool}
 use Rattle.std.proofs.lemmas.List.{length-map}
 use Rattle.std.proofs.lemmas.List.Sums.{length-filter, count_by-le-length}
 use Rattle.stamps.specs.Key.{home_of}
+use Rattle.stamps.specs.Limits.{max_keys, max_parts}
 use Rattle.plain_store.specs.declared.calls.Call.{Call}
 use Rattle.plain_store.specs.declared.calls.Call.TheVariants.{Get}
 use Rattle.plain_store.specs.declared.calls.ReadReply.TheVariants.{Version, Collected}
@@ -169,12 +170,12 @@ late_made setup parts late parts_are = ap (λ n. late_outs n late) (sym parts_ar
 
 -- what a transaction then waits for that asks for round two
 pub late_asked : (setup : Setup) (request : Intent) (keys : List Key) (taken : List Message) (message : Message) (parts : ℕ) (left : List Outgoing) (late : List Late) → setup.partitions ≡ parts
-    → (length (late_outs parts late) ≤ 64 → left ≡ late_outs parts late) → length keys ≤ 16 → calls_of setup (is_past request (taken ++ message ∷ [])) request (taken ++ message ∷ []) ≡ map (ask_for setup) late
+    → (length (late_outs parts late) ≤ max_parts → left ≡ late_outs parts late) → length keys ≤ max_keys → calls_of setup (is_past request (taken ++ message ∷ [])) request (taken ++ message ∷ []) ≡ map (ask_for setup) late
     → second_calls setup keys (taken ++ message ∷ []) ≡ map (ask_for setup) late → ((out : Outgoing) → out ∈ map (ask_for setup) late → is_answered (taken ++ message ∷ []) out.partition out.call ≡ false)
-    → (map (ask_for setup) late ≡ waiting_calls setup request (taken ++ message ∷ [])) × (left ≡ waiting_calls setup request (taken ++ message ∷ [])) × (length (map (ask_for setup) late) ≤ 16)
+    → (map (ask_for setup) late ≡ waiting_calls setup request (taken ++ message ∷ [])) × (left ≡ waiting_calls setup request (taken ++ message ∷ [])) × (length (map (ask_for setup) late) ≤ max_keys)
 late_asked setup request keys taken message parts left late parts_are new few_keys calls second none =
     let made = late_made setup parts late parts_are in
-    let few : length (map (ask_for setup) late) ≤ 16 = omega (arith, ap length second, length-second_calls setup keys (taken ++ message ∷ []), few_keys) in
+    let few : length (map (ask_for setup) late) ≤ max_keys = omega (arith, ap length second, length-second_calls setup keys (taken ++ message ∷ []), few_keys) in
     let all = sym (waits_all setup request taken message (map (ask_for setup) late) calls none) in
     (all, new (omega (arith, ap length made, few)) ∙ made ∙ all, few)
 
@@ -202,7 +203,7 @@ module _ (setup : Setup) (keys : List Key) (taken : List Message) (message : Mes
       moves_on setup (Gets keys) taken message _ Waits got.0 got.1
       (λ _. record { stands = got.2; goes_on = got.3 refl; few = s.few; waits = waits_less setup (Gets keys) taken message left waiting left_is s.waits same }) refl (omega arith)
 
-  pub read_asks : (parts : ℕ) (left : List Outgoing) (late : List Late) → setup.partitions ≡ parts → TakesRead keys taken message (AskRead late) after → (length (late_outs parts late) ≤ 64 → left ≡ late_outs parts late)
+  pub read_asks : (parts : ℕ) (left : List Outgoing) (late : List Late) → setup.partitions ≡ parts → TakesRead keys taken message (AskRead late) after → (length (late_outs parts late) ≤ max_parts → left ≡ late_outs parts late)
       → TakesMessage setup (Gets keys) taken message Ask (λ replies. IsReading setup keys replies after left)
   read_asks parts left late parts_are t new =
       let got = turn (AskRead late) t in

@@ -3,6 +3,7 @@ use Rattle.std.proofs.Common.{◌≡◌, ℕ, ◌+◌, ◌≤◌, ◌-◌, max, 
 use Rattle.std.proofs.lemmas.Bool.{ltb-false}
 use Rattle.std.proofs.lemmas.List.{length-map}
 use Rattle.stamps.specs.Bounds.{IsClient, IsParts}
+use Rattle.stamps.specs.Limits.{max_parts, max_rows}
 use Rattle.stamps.specs.Stamp.{counter_of}
 use Rattle.plain_store.specs.declared.answer.Answer.{Answer}
 use Rattle.plain_store.specs.declared.answer.Answer.TheVariants.{PutBegun, GetBegun, FindBegun}
@@ -108,9 +109,9 @@ first_running setup history client request =
 
 -- a ticket that a machine's number holds
 few_tickets : (history : History) (n : ℕ) → rows_are_used history ≡ false → n ≤ length (messages history) → next_ticket n ≡ n + 1
-few_tickets history n rows few = let l = ltb-false (4611686018427387904 - 64) (length (messages history)) rows in small n (length (messages history)) few l
+few_tickets history n rows few = let l = ltb-false (max_rows - max_parts) (length (messages history)) rows in small n (length (messages history)) few l
   where
-    small : (n k : ℕ) → n ≤ k → k ≤ 4611686018427387904 - 64 → next_ticket n ≡ n + 1
+    small : (n k : ℕ) → n ≤ k → k ≤ max_rows - max_parts → next_ticket n ≡ n + 1
     small n k few l = omega arith
 
 module _ (setup : Setup) (history : History) (act : Act) (old new : SessionsContent) (begin : Begin) (held : ClientSession) (ran : IsRun setup history) (stands : StandsFor setup history old) (rows : rows_are_used history ≡ false)

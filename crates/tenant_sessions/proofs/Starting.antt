@@ -5,6 +5,7 @@ use Rattle.std.specs.List.{list_all}
 use Rattle.std.proofs.lemmas.List.{length-map}
 use Rattle.stamps.specs.Bounds.{IsParts}
 use Rattle.stamps.specs.Key.{IsTransactionKeys, home_of}
+use Rattle.stamps.specs.Limits.{max_keys, max_found, max_parts}
 use Rattle.plain_store.specs.Words.{Record, Item, Key, Tag, Stamp, Setup, home}
 use Rattle.plain_store.specs.declared.calls.Call.TheVariants.{Prepare, Get, Found}
 use Rattle.plain_store.specs.declared.message.Message.{Message}
@@ -79,34 +80,34 @@ module _ (setup : Setup) (parts : ℕ) (is : setup.partitions ≡ parts) where
       (λ key. ap (λ n. let out : Outgoing = record { partition = n; call = Get key None } in out) (at_home key))
 
   pub write_starts : (stamp : Stamp) (items : List Item) (w : Writer) (left : List Outgoing) → IsTransactionKeys (keys_written items) → StandsForWrite setup stamp items w []
-      → (length (map prepare_at (map (record_for stamp items) items)) ≤ 64 → left ≡ map prepare_at (map (record_for stamp items) items))
+      → (length (map prepare_at (map (record_for stamp items) items)) ≤ max_parts → left ≡ map prepare_at (map (record_for stamp items) items))
       → IsWriting setup stamp items [] w left × (waiting_calls setup (Writes stamp items) [] ≡ calls_of setup false (Writes stamp items) [])
   write_starts stamp items w left good stands new =
-      let few : length items ≤ 16 = omega (arith, good.at_most, length-map items (λ (item : Item). item.key)) in
+      let few : length items ≤ max_keys = omega (arith, good.at_most, length-map items (λ (item : Item). item.key)) in
       let made = prepares_are stamp items in
-      let room : length (map prepare_at (map (record_for stamp items) items)) ≤ 64 = omega (arith, ap length made, length-map items (prepare_call setup stamp items), few) in
+      let room : length (map prepare_at (map (record_for stamp items) items)) ≤ max_parts = omega (arith, ap length made, length-map items (prepare_call setup stamp items), few) in
       let all = waits_first setup (Writes stamp items) (prepare_calls setup stamp items)
       (ap (λ b. cond b (commit_calls setup stamp items) (prepare_calls setup stamp items)) (none_prepared stamp items good.not_empty)) in
       (record { stands = stands; goes_on = sym (not_ended setup stamp items good); few = few; in_order = λ _ p s. refl; waits = new room ∙ made ∙ sym all }, all)
 
   pub read_starts : (keys : List Key) (r : Reader) (left : List Outgoing) → IsTransactionKeys keys → ((taken : List Message) → IsTrue (list_all is_no_read taken) → StandsForRead keys r taken)
-      → (length (map first_at keys) ≤ 64 → left ≡ map first_at keys) → IsReading setup keys [] r left × (waiting_calls setup (Gets keys) [] ≡ calls_of setup false (Gets keys) [])
+      → (length (map first_at keys) ≤ max_parts → left ≡ map first_at keys) → IsReading setup keys [] r left × (waiting_calls setup (Gets keys) [] ≡ calls_of setup false (Gets keys) [])
   read_starts keys r left good stands new =
-      let room : length (map first_at keys) ≤ 64 = omega (arith, length-map keys first_at, good.at_most) in
+      let room : length (map first_at keys) ≤ max_parts = omega (arith, length-map keys first_at, good.at_most) in
       let all = waits_first setup (Gets keys) (calls_of setup false (Gets keys) []) refl in
       (record { stands = stands [] refl; goes_on = not_read [] refl keys good.not_empty; few = good.at_most; waits = new room ∙ firsts_are keys ∙ sym (reads_first setup keys good.not_empty) ∙ sym all }, all)
 
   pub find_starts : (tag : Tag) (f : TagSearch) (r : Reader) (left : List Outgoing) → IsParts parts → StandsForFind setup tag f r []
-      → (length (map (found_at tag) (below parts)) ≤ 64 → left ≡ map (found_at tag) (below parts))
+      → (length (map (found_at tag) (below parts)) ≤ max_parts → left ≡ map (found_at tag) (below parts))
       → IsFinding setup tag [] f r left × (waiting_calls setup (Finds tag) [] ≡ calls_of setup false (Finds tag) [])
   find_starts tag f r left range stands new =
       let some : 0 < setup.partitions = omega (arith, is, range.positive) in
       let none : all_found setup [] ≡ false = none_told setup.partitions some in
-      let room : length (map (found_at tag) (below parts)) ≤ 64 = omega (arith, length-map (below parts) (found_at tag), length-below parts, range.small) in
+      let room : length (map (found_at tag) (below parts)) ≤ max_parts = omega (arith, length-map (below parts) (found_at tag), length-below parts, range.small) in
       let all = waits_first setup (Finds tag) (calls_of setup false (Finds tag) []) refl in (
         record {
           stands = stands;
-          goes_on = ap (λ b. b && (nat_lt 16 (total_found []) || has_read (all_keys_found []) [])) none;
+          goes_on = ap (λ b. b && (nat_lt max_found (total_found []) || has_read (all_keys_found []) [])) none;
           few = λ found. not_both (all_found setup []) found none;
           of_kind = refl;
           waits = new room ∙ ap (λ n. map (found_at tag) (below n)) (sym is) ∙ sym (finds_first setup tag some) ∙ sym all;

@@ -1,6 +1,7 @@
 -- How a transaction takes a reply, whatever it is: for `take_written`, `take_read` and `take_found`.
 use Rattle.std.proofs.Common.{◌≡◌, ℕ, ◌≤◌, List, [], ◌∷◌, ◌++◌, Bool, true, false, ◌&&◌, ◌||◌, not, filter, ap, sym, ◌∙◌, refl, subst, cond, length, Option, Some, None, inl, inr}
 use Rattle.std.proofs.lemmas.Bool.{both_ways, not-true, not-false}
+use Rattle.stamps.specs.Limits.{max_keys}
 use Rattle.plain_store.specs.declared.calls.Call.{Call}
 use Rattle.plain_store.specs.declared.message.Message.{Message}
 use Rattle.plain_store.specs.Words.{◌∈◌, Setup}
@@ -78,19 +79,19 @@ module _ (setup : Setup) (request : Intent) (taken : List Message) (message : Me
   }
 
   pub moves_on : (Stands : List Message → Type 0) (move : PlainMove) → is_answered taken message.partition message.call ≡ false → move_of setup request more message ≡ move
-      → (is_last (told move) ≡ false → Stands more) → calls_out move ≡ cond (sends_calls (told move)) (waiting_calls setup request more) (ending (told move)) → length (calls_out move) ≤ 16
+      → (is_last (told move) ≡ false → Stands more) → calls_out move ≡ cond (sends_calls (told move)) (waiting_calls setup request more) (ending (told move)) → length (calls_out move) ≤ max_keys
       → TakesMessage setup request taken message (told move) Stands
   moves_on Stands move new is goes sent few = record {
     repeated = λ before. not_both _ before new;
     answered = λ _. ap told (sym is);
     goes_on = λ _ last. goes last;
     sent = λ _. ap calls_out is ∙ sent;
-    few = λ _. let P : PlainMove → Type 0 = λ m. length (calls_out m) ≤ 16 in subst P (sym is) few;
+    few = λ _. let P : PlainMove → Type 0 = λ m. length (calls_out m) ≤ max_keys in subst P (sym is) few;
   }
 
   -- an end with calls
   pub ends_so : (Stands : List Message → Type 0) (why : Refusal) (ends calls : List Outgoing) → is_answered taken message.partition message.call ≡ false → move_of setup request more message ≡ Fails why ends
-      → calls ≡ ends → length ends ≤ 16 → TakesMessage setup request taken message (Ended why calls) Stands
+      → calls ≡ ends → length ends ≤ max_keys → TakesMessage setup request taken message (Ended why calls) Stands
   ends_so Stands why ends calls new is same few =
       subst (λ (cs : List Outgoing). TakesMessage setup request taken message (Ended why cs) Stands) (sym same) (moves_on Stands (Fails why ends) new is (λ last. cc) refl few)
 

@@ -4,6 +4,7 @@ use Rattle.std.specs.Prelude.{nat_eq, nat_lt}
 use Rattle.std.specs.List.{list_any}
 use Rattle.std.proofs.lemmas.Bool.{eq-eqb, cases_Bool}
 use Rattle.std.proofs.lemmas.List.{length-map}
+use Rattle.stamps.specs.Limits.{max_keys, max_parts}
 use Rattle.plain_store.specs.declared.calls.Call.{Call}
 use Rattle.plain_store.specs.declared.calls.Call.TheVariants.{Prepare, Commit, Discard}
 use Rattle.plain_store.specs.declared.calls.PrepareReply.TheVariants.{Prepared}
@@ -151,7 +152,7 @@ module _ (setup : Setup) (stamp : Stamp) (items : List Item) (taken : List Messa
 
       pub write_decides : (left : List Outgoing) (partitions : List ℕ) → TakesWrite setup stamp items taken message DecideWrite after
           → ((replies : List Message) → StandsFor setup stamp items after replies → partitions ≡ partitions_written setup items)
-          → (length (map (λ (partition : ℕ). let out : Outgoing = record { partition = partition; call = Commit stamp } in out) partitions) ≤ 64
+          → (length (map (λ (partition : ℕ). let out : Outgoing = record { partition = partition; call = Commit stamp } in out) partitions) ≤ max_parts
           → left ≡ map (λ (partition : ℕ). let out : Outgoing = record { partition = partition; call = Commit stamp } in out) partitions)
           → TakesMessage setup (Writes stamp items) taken message (Decided stamp) (λ replies. IsWriting setup stamp items replies after left)
       write_decides left partitions t told_so new =
@@ -161,7 +162,7 @@ module _ (setup : Setup) (stamp : Stamp) (items : List Item) (taken : List Messa
           let by = subst (λ (m : PlainMove). WriteTells setup stamp items more message.call m) got.1 tells in
           let before = undecided by.0 by.1 got.0 in
           let are = told_so more got.2 in
-          let few : length commits ≤ 16 = omega (arith, length-map (partitions_written setup items) commit, length-partitions setup items, s.few) in
+          let few : length commits ≤ max_keys = omega (arith, length-map (partitions_written setup items) commit, length-partitions setup items, s.few) in
           let left_is : left ≡ commits = new (omega (arith, ap (λ ps. length (map commit ps)) are, few)) ∙ ap (map commit) are in
           let all : waiting_calls setup (Writes stamp items) more ≡ commits =
           waits_all setup (Writes stamp items) taken message commits (ap (λ b. cond b commits (prepare_calls setup stamp items)) by.2)
@@ -203,12 +204,12 @@ module _ (setup : Setup) (stamp : Stamp) (items : List Item) (taken : List Messa
           let got = turn (RefusedWrite refusal) t in
           ends_so setup (Writes stamp items) taken message _ refusal (ending_calls setup stamp items refusal) calls got.0 got.1 (told_so more got.2) (ends_few refusal)
         where
-          discards_few : length (discard_calls setup stamp items) ≤ 16
+          discards_few : length (discard_calls setup stamp items) ≤ max_keys
           discards_few =
               let discard : ℕ → Outgoing = λ partition. record { partition = partition; call = Discard stamp } in
               omega (arith, length-map (partitions_written setup items) discard, length-partitions setup items, s.few)
 
-          ends_few : (why : Refusal) → length (ending_calls setup stamp items why) ≤ 16
+          ends_few : (why : Refusal) → length (ending_calls setup stamp items why) ≤ max_keys
           ends_few NoSlot = discards_few
           ends_few NoItem = discards_few
           ends_few why = omega arith

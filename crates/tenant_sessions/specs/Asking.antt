@@ -2,6 +2,7 @@
 use Rattle.std.specs.Prelude.{◌≡◌, ◌≢◌, ℕ, ◌+◌, ◌<◌, ◌≤◌, Bool, false, List, [], Option, Some, None, Result, Ok, Err, IfOk, IfErr, OnOk, OnErr, IsSome}
 use Rattle.std.specs.Prelude.{cond, length, slice_get}
 use Rattle.stamps.specs.Key.{IsTransactionKeys, sorted_keys}
+use Rattle.stamps.specs.Limits.{max_parts}
 use Rattle.stamps.specs.declared.record.Item.{Item}
 use Rattle.plain_store.specs.declared.answer.Answer.TheVariants.{Refused}
 use Rattle.plain_store.specs.declared.message.Message.{Message}
@@ -47,7 +48,7 @@ pub record PutsCall (calls : List Outgoing) (place : ℕ) (is_put : Bool) (old n
 
 -- These calls are waited for, where they are as many as there may be; whatever they are, no more than so many.
 pub record Awaits (sent : List Outgoing) (most : ℕ) (waiting : List Outgoing) : Type 0 where
-  pub calls : length sent ≤ 64 → waiting ≡ sent
+  pub calls : length sent ≤ max_parts → waiting ≡ sent
   pub few : length waiting ≤ most
 
 -- what may begin is this request's transaction, which sends so many calls first; it is refused for what the test reports

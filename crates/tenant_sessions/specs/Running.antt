@@ -2,6 +2,7 @@
 use Rattle.std.specs.Prelude.{◌≡◌, ℕ, ◌≤◌, List, [], ◌∷◌, ◌++◌, Bool, true, false, cond, not, filter, length, Option}
 use Rattle.std.specs.Prelude.{Some}
 use Rattle.std.specs.List.{list_all}
+use Rattle.stamps.specs.Limits.{max_keys, max_found}
 use Rattle.stamps.specs.declared.record.Item.{Item}
 use Rattle.plain_store.specs.declared.calls.Call.{Call}
 use Rattle.plain_store.specs.declared.calls.Call.TheVariants.{Prepare, Commit, Get, Found, Collect, Discard}
@@ -86,7 +87,7 @@ pub record IsWriting (setup : Setup) (stamp : Stamp) (items : List Item) (taken 
     (waiting : List Outgoing) : Type 0 where
   pub stands : StandsForWrite setup stamp items writer taken
   pub goes_on : has_written setup stamp items taken ≡ false
-  pub few : length items ≤ 16
+  pub few : length items ≤ max_keys
   pub in_order : all_prepared stamp items taken ≡ false → (p : ℕ) (s : Stamp) → is_answered taken p (Commit s) ≡ false
   pub waits : waiting ≡ waiting_calls setup (Writes stamp items) taken
 
@@ -95,15 +96,15 @@ pub record IsReading (setup : Setup) (keys : List Key) (taken : List Message) (r
     (waiting : List Outgoing) : Type 0 where
   pub stands : StandsForRead keys reader taken
   pub goes_on : has_read keys taken ≡ false
-  pub few : length keys ≤ 16
+  pub few : length keys ≤ max_keys
   pub waits : waiting ≡ waiting_calls setup (Gets keys) taken
 
--- a search. It reads no more than 16 keys
+-- a search. It reads no more than `max_found` keys
 pub record IsFinding (setup : Setup) (tag : Tag) (taken : List Message) (search : TagSearch) (reader : Reader)
     (waiting : List Outgoing) : Type 0 where
   pub stands : StandsForFind setup tag search reader taken
   pub goes_on : has_found setup taken ≡ false
-  pub few : all_found setup taken ≡ true → length (all_keys_found taken) ≤ 16
+  pub few : all_found setup taken ≡ true → length (all_keys_found taken) ≤ max_found
   pub of_kind : list_all (λ message. is_reply_of message.call message.reply) taken ≡ true
   pub waits : waiting ≡ waiting_calls setup (Finds tag) taken
 
@@ -118,7 +119,7 @@ pub record RunningStands (setup : Setup) (request : Intent) (taken : List Messag
   pub parts : running.parts ≡ setup.partitions
   pub runs : RunsAs setup request taken running.machine running.waiting
 
--- a write may have such items and a read such keys: 1 to 16, and none twice
+-- a write may have such items and a read such keys: 1 to `max_keys`, and none twice
 abbrev pub MayBegin : Intent → Type 0
 MayBegin (Writes stamp items) = are_bad (keys_written items) ≡ false
 MayBegin (Gets keys) = are_bad keys ≡ false
@@ -132,7 +133,7 @@ pub record Starts (setup : Setup) (request : Intent) (running : Running) : Type 
 -- ---- what it does when a reply comes
 
 -- A reply in whose place one was taken is ignored. Any other is taken, and the answer reports the plain store's move:
--- unless this ends the transaction it then stands for the replies with this one, and where calls are sent, at most 16,
+-- unless this ends the transaction it then stands for the replies with this one, and where calls are sent, at most `max_keys`,
 -- they are all that it waits for, or those of its end. Stands: for which replies it then stands
 pub record TakesMessage (setup : Setup) (request : Intent) (taken : List Message) (message : Message) (answer : Move)
     (Stands : List Message → Type 0) : Type 0 where
@@ -145,4 +146,4 @@ pub record TakesMessage (setup : Setup) (request : Intent) (taken : List Message
       → calls_out (move_of setup request (taken ++ message ∷ []) message)
       ≡ cond (sends_calls answer) (waiting_calls setup request (taken ++ message ∷ [])) (ending answer)
   pub few : is_answered taken message.partition message.call ≡ false
-      → length (calls_out (move_of setup request (taken ++ message ∷ []) message)) ≤ 16
+      → length (calls_out (move_of setup request (taken ++ message ∷ []) message)) ≤ max_keys

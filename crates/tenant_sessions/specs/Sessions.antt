@@ -2,6 +2,7 @@
 use Rattle.std.specs.Prelude.{◌≡◌, ℕ, ◌≤◌, ◌==◌, List, [], ◌∷◌, Bool, true, false, cond, map, length, All, Option, Some}
 use Rattle.std.specs.Prelude.{None, Result, Ok, Err}
 use Rattle.stamps.specs.Bounds.{IsClient}
+use Rattle.stamps.specs.Limits.{max_keys}
 use Rattle.plain_store.specs.declared.answer.Rows.{Rows}
 use Rattle.plain_store.specs.declared.answer.Answer.{Answer}
 use Rattle.plain_store.specs.declared.answer.Answer.TheVariants.{Refused, Ready, PutBegun, GetBegun, FindBegun, Replied}
@@ -188,5 +189,5 @@ pub record IsTaken (setup : Setup) (history : History) (row : ℕ) (message : Me
   pub sent : (effect setup history (Deliver row)).sent
       ≡ cond (sends_calls move) (waiting setup (effect setup history (Deliver row) ∷ history) message.client)
       (map (call_message message.client message.ticket) (ending move))
-  pub few : length (effect setup history (Deliver row)).sent ≤ 16
+  pub few : length (effect setup history (Deliver row)).sent ≤ max_keys
   pub stands : StandsFor setup (effect setup history (Deliver row) ∷ history) new

@@ -1,5 +1,6 @@
 //! Transactions that may begin.
 ghost use Rattle.std.specs.Prelude.{◌≡◌, ◌<◌, ◌≤◌, ◌^◌};
+ghost use Rattle.stamps.specs.Limits.{max_parts};
 ghost use Rattle.tenant_sessions.specs.Held.{IsTested, request_begun, drawn_counter};
 
 use plain_store::{Answer, Rows};
@@ -25,7 +26,7 @@ pub struct Begin<'a> {
     /// How many calls it sends as it begins.
     pub(crate) calls: u32,
     ghost tested: { IsTested kind },
-    ghost few_calls: { calls ≤ 64 },
+    ghost few_calls: { calls ≤ max_parts },
 }
 
 impl Beginning<'_> {
@@ -61,7 +62,7 @@ impl Begin<'_> {
         ensures sent { (setup : Setup) (history : History) (act : Asked)
             → IsBegin setup history act self.now
             → result ≡ length (effect setup history act).sent }
-        ensures few { result ≤ 64 }
+        ensures few { result ≤ max_parts }
     {
         self.calls
     }

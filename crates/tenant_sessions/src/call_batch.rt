@@ -2,6 +2,7 @@
 ghost use Rattle.std.specs.Prelude.{◌≡◌, ◌<◌, ◌≤◌, false, length, map, slice_get};
 ghost use Rattle.std.specs.Option.{option_map_or};
 ghost use Rattle.stamps.specs.Bounds.{IsParts};
+ghost use Rattle.stamps.specs.Limits.{max_keys};
 ghost use Rattle.tenant_sessions.specs.Asking.{MayWrite, PutsCall};
 ghost use Rattle.plain_store.specs.Writing.{record_for};
 ghost use Rattle.tenant_sessions.specs.Parts.{Prepares, Commits, First, Second, Founds, reads_first, reads_second, is_commit_message, searches};
@@ -238,7 +239,7 @@ impl CallBatch {
 
     /// Makes of it the GETs of the latest versions of these keys, up to 16.
     pub(crate) fn read(&mut self, keys: &[Key])
-        requires { length keys.now ≤ 16 }
+        requires { length keys.now ≤ max_keys }
         ensures { self.new ≡ First keys.now }
     {
         self.keys.clear();

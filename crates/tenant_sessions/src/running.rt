@@ -1,6 +1,7 @@
 //! A client's running transaction.
 ghost use Rattle.std.specs.Prelude.{◌≡◌, ◌<◌};
 ghost use Rattle.stamps.specs.Bounds.{IsParts};
+ghost use Rattle.stamps.specs.Limits.{max_parts};
 ghost use Rattle.tenant_sessions.specs.Asking.{MayWrite};
 
 use crate::MoveKind;
@@ -184,7 +185,7 @@ impl Running {
             → RunningStands setup request taken self.now
             → result ≡ length (waiting_calls setup request taken) }
         ensures waiting { result ≡ length self.now.waiting }
-        ensures few { result ≤ 64 }
+        ensures few { result ≤ max_parts }
     {
         self.waiting.len()
     }

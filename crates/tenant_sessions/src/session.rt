@@ -1,5 +1,6 @@
 //! One client's session.
 ghost use Rattle.std.specs.Prelude.{◌≡◌, ◌+◌, ◌<◌, ◌≤◌, ◌^◌, true, nat_le, not, length, IfSome, is_none};
+ghost use Rattle.stamps.specs.Limits.{max_keys, max_parts};
 ghost use Rattle.stamps.specs.Stamp.{stamp};
 ghost use Rattle.plain_store.specs.History.{counter_in};
 ghost use Rattle.plain_store.specs.Run.{are_bad, counter_limit};
@@ -30,7 +31,7 @@ pub struct ClientSession {
 /// Whether a read may have these keys: 1 to 16, and none twice.
 fn are_readable(keys: &[Key]) -> bool
     ensures exact { result ≡ not (are_bad keys.now) }
-    ensures few { result ≡ true → length keys.now ≤ 16 }
+    ensures few { result ≡ true → length keys.now ≤ max_keys }
 {
     WriteSet::are_keys(keys)
 }
@@ -292,7 +293,7 @@ impl ClientSession {
             → RunningStands setup request taken running
             → IfOk result (λ count. count ≡ length (waiting_calls setup request taken)) }
         ensures waiting { IfOk result (λ count. count ≡ calls_waiting self.now.running) }
-        ensures few { IfOk result (λ count. count ≤ 64) }
+        ensures few { IfOk result (λ count. count ≤ max_parts) }
     {
         if let Err(refusal) = self.test_open() {
             return Err(refusal);

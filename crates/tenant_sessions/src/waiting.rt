@@ -2,6 +2,7 @@
 ghost use Rattle.std.specs.Prelude.{◌≡◌, ◌<◌, ◌≤◌, [], ◌∷◌, ◌++◌, true, nat_lt, min, map, not, filter, length, slice_get};
 ghost use Rattle.std.specs.List.{filter_map, list_all};
 ghost use Rattle.stamps.specs.Bounds.{IsParts};
+ghost use Rattle.stamps.specs.Limits.{max_keys, max_parts};
 ghost use Rattle.tenant_sessions.specs.Asking.{Awaits, MayWrite, PutsCall};
 ghost use Rattle.plain_store.specs.Finding.{below};
 ghost use Rattle.plain_store.specs.Writing.{record_for};
@@ -48,7 +49,7 @@ impl PendingSet {
 
     /// Makes of them the first so many places, up to 64.
     fn fill(&mut self, count: usize)
-        ensures { self.new ≡ below (min count 64) }
+        ensures { self.new ≡ below (min count max_parts) }
     {
         self.clear();
         for place in 0..count.min(PendingSet::MAX_LEN) {
@@ -57,7 +58,7 @@ impl PendingSet {
     }
 
     fn push(&mut self, place: u8)
-        requires { length self.old < 64 }
+        requires { length self.old < max_parts }
         ensures { self.new ≡ self.old ++ place ∷ [] }
     {
         self.0.push(place);
@@ -74,7 +75,7 @@ impl PendingSet {
 
     fn as_slice(&self) -> &[u8]
         ensures places { result.now ≡ self.now }
-        ensures few { length result.now ≤ 64 }
+        ensures few { length result.now ≤ max_parts }
     {
         self.0.as_slice()
     }
@@ -106,7 +107,7 @@ fn fill_all(places: &mut PendingSet, part: &CallBatch, parts: u32)
     requires { IsParts parts }
     ensures within { list_all
         (λ place. nat_lt place (length (batch_calls parts part.now))) places.new ≡ true }
-    ensures all { length (batch_calls parts part.now) ≤ 64
+    ensures all { length (batch_calls parts part.now) ≤ max_parts
         → filter_map (slice_get (batch_calls parts part.now)) places.new
         ≡ batch_calls parts part.now }
     ensures few { length (filter_map (slice_get (batch_calls parts part.now)) places.new)
@@ -158,7 +159,7 @@ impl Waiting {
         requires write { MayWrite stamp items.now writes.now }
         requires parts { IsParts parts }
         ensures { length (batch_calls parts (Prepares (map (record_for stamp items.now) items.now)))
-            ≤ 64 → self.new
+            ≤ max_parts → self.new
             ≡ batch_calls parts (Prepares (map (record_for stamp items.now) items.now)) }
     {
         self.part.prepare(stamp, items, writes);
@@ -179,7 +180,7 @@ impl Waiting {
 
     /// The GETs of the latest versions of these keys, up to 16.
     pub(crate) fn read(&mut self, keys: &[Key], parts: u32)
-        requires few { length keys.now ≤ 16 }
+        requires few { length keys.now ≤ max_keys }
         requires parts { IsParts parts }
         ensures awaits { Awaits (batch_calls parts (First keys.now)) (length keys.now) self.new }
         ensures gets { All (λ out. IsGet out.call) self.new }
@@ -203,7 +204,7 @@ impl Waiting {
     /// The searches by this tag.
     pub(crate) fn search(&mut self, tag: Tag, parts: u32)
         requires parts { IsParts parts }
-        ensures { length (batch_calls parts (Founds tag)) ≤ 64
+        ensures { length (batch_calls parts (Founds tag)) ≤ max_parts
             → self.new ≡ batch_calls parts (Founds tag) }
     {
         self.part.search(tag);
@@ -214,7 +215,7 @@ impl Waiting {
     /// How many there are.
     pub(crate) fn len(&self) -> u32
         ensures value { result ≡ length self.now }
-        ensures few { result ≤ 64 }
+        ensures few { result ≤ max_parts }
     {
         self.places.as_slice().len() as u32
     }

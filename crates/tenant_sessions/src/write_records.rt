@@ -22,6 +22,7 @@ pub(crate) struct WriteRecords {
 impl Model for WriteRecords {
     ghost use Rattle.std.specs.Prelude.{◌≡◌, ◌<◌, ◌≤◌, List, true, map, length, take};
     ghost use Rattle.std.specs.List.{list_all};
+    ghost use Rattle.stamps.specs.Limits.{max_keys};
     ghost use Rattle.stamps.specs.Record.{Record as Fields};
     ghost use Rattle.stamps.specs.WriteSet.{contains_key};
     ghost use Rattle.tenant_sessions.specs.Parts.{record_of};
@@ -30,7 +31,7 @@ impl Model for WriteRecords {
 
     ghost view = { λ v. map (record_of v.stamp v.writes) (take v.len v.items) };
 
-    ghost invariant = { λ v. (0 < v.stamp) × (list_all (λ item. contains_key v.writes item.key) (take v.len v.items) ≡ true) × (v.len ≤ 16) × (length v.items ≡ 16) };
+    ghost invariant = { λ v. (0 < v.stamp) × (list_all (λ item. contains_key v.writes item.key) (take v.len v.items) ≡ true) × (v.len ≤ max_keys) × (length v.items ≡ max_keys) };
 }
 
 /// Whether the call prepares a record of this key.

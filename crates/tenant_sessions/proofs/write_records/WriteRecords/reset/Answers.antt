@@ -2,6 +2,7 @@ use Rattle.std.proofs.Common.{◌≡◌, ◌≤◌, List, length, take, ◌++◌
 use Rattle.std.specs.List.{list_all}
 use Rattle.std.proofs.lemmas.Grind.{common_steps}
 use Rattle.std.proofs.lemmas.List.{length-map}
+use Rattle.stamps.specs.Limits.{max_keys}
 use Rattle.stamps.specs.WriteSet.{contains_key}
 use Rattle.plain_store.specs.Words.{Item}
 use Rattle.tenant_sessions.proofs.Made.{all_written}
@@ -13,7 +14,7 @@ begins new items rest is = grind (arith, common_steps)
 
 pub invariant_of-self : goal.invariant_of-self
 invariant_of-self c =
-    let few : length c.args.items.now ≤ 16 = omega (arith, c.requires.keys.at_most, length-map c.args.items.now (λ (item : Item). item.key)) in (
+    let few : length c.args.items.now ≤ max_keys = omega (arith, c.requires.keys.at_most, length-map c.args.items.now (λ (item : Item). item.key)) in (
       c.requires.written,
       ap (list_all (λ (item : Item). contains_key c.args.writes.now item.key)) (begins c.copy_from_slice.new.self c.args.items.now _ c.copy_from_slice.ensures.after)
           ∙ all_written c.args.items.now c.args.writes.now c.requires.writes,
