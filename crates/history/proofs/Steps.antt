@@ -248,19 +248,19 @@ arrives_moves v k old cells log kept pre away =
       ),
     )
 
-opened_word : (setting : StoreOpening) (k : ℕ) → IsHome k (Opened setting ∷ []) → Counts (replicate 65 (0, true)) (Opened setting ∷ []) k
+opened_word : (setting : StoreOpening) (k : ℕ) → IsHome k (Opened setting ∷ []) → Counts (replicate first_client (0, true)) (Opened setting ∷ []) k
 opened_word setting k (inl low) =
     let c : Cell = (0, true) in
-    let size : length (replicate 65 c) ≡ 65 = length-replicate 65 c in
-    (omega (arith, low, size), get_or-replicate 65 k c (0, false) low)
+    let size : length (replicate first_client c) ≡ first_client = length-replicate first_client c in
+    (omega (arith, low, size), get_or-replicate first_client k c (0, false) low)
 opened_word setting k (inr some) = absurd (omega (arith, some))
 
 -- a book that was opened for a store keeps the rule
-pub opened_kept : (setting : StoreOpening) → IsRuleKept (replicate 65 (0, true)) (Opened setting ∷ [])
+pub opened_kept : (setting : StoreOpening) → IsRuleKept (replicate first_client (0, true)) (Opened setting ∷ [])
 opened_kept setting =
     let c : Cell = (0, true) in
     record {
-      size = length-replicate 65 c;
+      size = length-replicate first_client c;
       words = opened_word setting;
       legal = opening_legal (Opened setting ∷ []) refl;
     }

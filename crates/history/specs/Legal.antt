@@ -1,6 +1,7 @@
 -- Which histories are legal: each entry may follow those before it.
 use Rattle.std.specs.Prelude.{◌≡◌, ◌⊎◌, ℕ, ◌+◌, ◌<◌, List, [], ◌∷◌, ◌++◌, length, Option, None}
 use Rattle.stamps.specs.Key.{home_of}
+use Rattle.stamps.specs.Limits.{max_parts}
 use Rattle.stamps.specs.Stamp.{client_of}
 use Rattle.plain_store.specs.Words.{◌∈◌, Key, Item, Record, Stamp}
 use Rattle.plain_store.specs.declared.calls.Call.{Call}
@@ -18,9 +19,9 @@ use Rattle.history.specs.declared.entry.StoreOpening.{StoreOpening}
 use Rattle.history.specs.declared.entry.Write.{Write}
 use Rattle.history.specs.Entries.{own, parts_of, StandsInHistory}
 
--- the words 0 to 64 are the register's and the partitions', and each client that joins has the next word
+-- the words 0 to `max_parts` are the register's and the partitions', and each client that joins has the next word
 abbrev pub first_client : ℕ
-first_client = 65
+first_client = max_parts + 1
 
 -- a client joins once, and has a word of its own; `joined` are the clients so far
 pub record MayJoin (joined : List HistoryEntry) (member : JoinedClient) : Type 0 where

@@ -1,25 +1,27 @@
 //! Beginnings of the history that were seen.
 ghost use Rattle.std.specs.Prelude.{◌≡◌, ◌≢◌, ◌+◌, ◌<◌, ◌^◌, [], ◌∷◌, MatchBool, IfSome, IsTrue, None, true};
 ghost use mathlib.Core.List.{IsPrefix};
+ghost use Rattle.stamps.specs.Limits.{max_parts};
 ghost use Rattle.plain_store.specs.Words.{◌∈◌};
 ghost use Rattle.history.specs.declared.entry.HistoryEntry.TheVariants.{Joined, Arrived, Decided, GivenUp, ReadBegan};
 ghost use Rattle.history.specs.declared.entry.JoinedClient.{JoinedClient as WhoJoined};
 ghost use Rattle.history.specs.Asking.{began_by, served_by};
 ghost use Rattle.history.specs.Entries.{but_last, is_of, own, count};
-ghost use Rattle.history.specs.Legal.{IsLegal, MayFollow, MayBegin, MayDecide, MayEnd, MayServe};
+ghost use Rattle.history.specs.Legal.{first_client, IsLegal, MayFollow, MayBegin, MayDecide, MayEnd, MayServe};
 ghost use Rattle.history.specs.Rules.{IsHome, IsAdded, is_opening};
 
 use crate::entry::{CallToServe, Decision, HistoryEntry, JoinedClient, WriteToBegin};
 use crate::rule::{Add, Arrive, GiveUp, Join, Law, Look, Naming, Nothing};
 use crate::tallies::Tally;
 use logbook::{Offer, Plain, Seen, Word};
+use stamps::limits::MAX_PARTS;
 use std::marker::{Model, PhantomData};
 
 /// A step's report, which trades nothing.
 type Report = Offer<HistoryEntry, u64, Law, Nothing>;
 
 /// How many words stand before those of the clients.
-const FIRST_CLIENT: u64 = 65;
+const FIRST_CLIENT: u64 = MAX_PARTS as u64 + 1;
 
 /// A beginning of the history that was seen, which contracts see as its entries. It takes no bytes, and can be copied, sent and
 /// kept: it is evidence of what was entered.
@@ -133,7 +135,7 @@ impl<J: Naming> Front<J> {
     ) -> bool
         requires room { entries < 2 ^ 62 }
         requires partition { (tally.now.key ≡ asked.now.partition + 1)
-            × (asked.now.partition < 64) }
+            × (asked.now.partition < max_parts) }
         requires counted { count tally.now.key self.old ≡ entries }
         requires may { ∥ MayServe evidence.now asked.now.partition asked.now.tenant asked.now.call.now ∥₁ }
         ensures later { IsPrefix self.old self.new }
@@ -151,7 +153,7 @@ impl<J: Naming> Front<J> {
     /// here.
     pub fn begin(&mut self, tally: &Tally<J>, entries: u64, begun: &WriteToBegin<'_>) -> bool
         requires room { entries < 2 ^ 62 }
-        requires client { (tally.now.key ≡ begun.now.word) × (64 < begun.now.word) × (0 < entries) }
+        requires client { (tally.now.key ≡ begun.now.word) × (max_parts < begun.now.word) × (0 < entries) }
         requires counted { count tally.now.key self.old ≡ entries }
         requires may { ∥ MayFollow self.old self.old (began_by begun.now) ∥₁ }
         ensures later { IsPrefix self.old self.new }
@@ -173,7 +175,7 @@ impl<J: Naming> Front<J> {
         decision: &Decision,
     ) -> bool
         requires room { entries < 2 ^ 62 }
-        requires client { (tally.now.key ≡ decision.now.word) × (64 < decision.now.word)
+        requires client { (tally.now.key ≡ decision.now.word) × (max_parts < decision.now.word)
             × (0 < entries) }
         requires counted { count tally.now.key self.old ≡ entries }
         requires unended { MayEnd (own decision.now.word self.old) decision.now }
@@ -191,7 +193,7 @@ impl<J: Naming> Front<J> {
     /// seen here.
     pub fn give_up(&mut self, tally: &Tally<J>, entries: u64, decision: &Decision) -> bool
         requires room { entries < 2 ^ 62 }
-        requires client { (tally.now.key ≡ decision.now.word) × (64 < decision.now.word)
+        requires client { (tally.now.key ≡ decision.now.word) × (max_parts < decision.now.word)
             × (0 < entries) }
         requires counted { count tally.now.key self.old ≡ entries }
         requires unended { MayEnd (own decision.now.word self.old) decision.now }
@@ -214,7 +216,7 @@ impl<J: Naming> Front<J> {
         word: &u64,
     ) -> bool
         requires room { entries < 2 ^ 62 }
-        requires client { (tally.now.key ≡ word.now) × (64 < word.now) × (0 < entries) }
+        requires client { (tally.now.key ≡ word.now) × (max_parts < word.now) × (0 < entries) }
         requires counted { count tally.now.key self.old ≡ entries }
         ensures later { IsPrefix self.old self.new }
         ensures evidence { IsPrefix evidence.now self.new }
@@ -242,7 +244,7 @@ impl<J: Naming> Front<J> {
             → other.client ≡ client → ⊥ }
         ensures later { IsPrefix self.old self.new }
         ensures legal { IsLegal self.new }
-        ensures key { IfSome result (λ tally. tally.key ≡ joined + 65) }
+        ensures key { IfSome result (λ tally. tally.key ≡ joined + first_client) }
         ensures joined { IfSome result
             (λ tally.
             Joined (record { word = tally.key; tenant = tenant; client = client }) ∈ self.new) }

@@ -1,5 +1,6 @@
 //! A history that was opened, and its words.
 ghost use Rattle.std.specs.Prelude.{◌≡◌, ◌+◌, ◌<◌, ◌↔◌, [], ◌∷◌, IsSome, IfSome, true};
+ghost use Rattle.stamps.specs.Limits.{max_parts};
 ghost use Rattle.history.specs.declared.entry.HistoryEntry.TheVariants.{Opened as WasOpened};
 ghost use Rattle.history.specs.Rules.{is_opening, word_of};
 
@@ -8,12 +9,11 @@ use crate::front::Front;
 use crate::rule::{Law, Naming};
 use logbook::{Pens, Seen, Start, Word};
 use stamps::Limits;
+use stamps::limits::MAX_PARTS;
 use std::marker::PhantomData;
 
 /// The words of the register and of the partitions.
-const WORDS: usize = 65;
-
-const PARTITIONS: u32 = 64;
+const WORDS: usize = MAX_PARTS as usize + 1;
 
 /// The history of a store that was just opened, which has no name yet.
 #[derive(Drop)]
@@ -25,7 +25,7 @@ pub struct NewHistory {
     pub ghost register_is: { register ≡ word_of 0 seen.book },
     pub ghost book_is: { partitions.book ≡ seen.book },
     pub ghost next_is: { partitions.next ≡ 1 },
-    pub ghost left_is: { partitions.left ≡ 64 },
+    pub ghost left_is: { partitions.left ≡ max_parts },
 }
 
 impl NewHistory {
@@ -81,7 +81,7 @@ impl NewHistory {
 /// A word of the history: how many entries it has. Who holds it adds them; nobody else has the same.
 #[derive(Drop)]
 pub struct Tally<J: Naming> {
-    /// 0 of the register, p + 1 of partition p, from 65 on of a client.
+    /// 0 of the register, p + 1 of partition p, and of a client one past those of the partitions.
     pub key: u64,
     pub(crate) word: Word<HistoryEntry, u64, Law>,
     pub(crate) of: PhantomData<J>,
@@ -97,17 +97,17 @@ pub struct PartitionWords<J: Naming> {
     of: PhantomData<J>,
     ghost book_is: { pens.book ≡ J.book },
     ghost next_is: { pens.next ≡ next + 1 },
-    ghost left_is: { pens.left + next ≡ 64 },
+    ghost left_is: { pens.left + next ≡ max_parts },
 }
 
 impl<J: Naming> PartitionWords<J> {
-    /// The next partition's word. None after 64.
+    /// The next partition's word. None after the last partition that a store can have.
     pub fn take(&mut self) -> Option<Tally<J>>
-        ensures exact { IsSome result ↔ (self.old.next < 64) }
+        ensures exact { IsSome result ↔ (self.old.next < max_parts) }
         ensures key { IfSome result (λ tally. tally.key ≡ self.old.next + 1) }
         ensures next { IfSome result (λ _. self.new.next ≡ self.old.next + 1) }
     {
-        if self.next >= PARTITIONS {
+        if self.next >= MAX_PARTS {
             return None;
         }
         let mut pen = self.pens.take();

@@ -1,6 +1,7 @@
 //! The threads of a hub, and how they are started.
 ghost use Rattle.std.specs.Prelude.{◌≡◌, ◌≤◌, ◌<◌, ◌+◌, ◌-◌, ◌^◌, vec_len, vec_capacity, IfErr, IfOk, OnOk};
 ghost use Rattle.std.specs.Arc.{arc_value};
+ghost use Rattle.stamps.specs.Limits.{max_parts};
 ghost use Rattle.hub.specs.Shards.{IsConfigOf, IsOpeningOf, partition_of};
 ghost use Rattle.hub.specs.Starting.{AreEmptyFor, AreStarted};
 
@@ -174,7 +175,7 @@ fn shard_of<G: Naming>(
     tally: Tally<G>,
     seen: &Front<G>,
 ) -> Result<Arc<Shard<G>>, HubFault>
-    requires tally { (tally.key ≡ partition + 1) × (partition < 64) }
+    requires tally { (tally.key ≡ partition + 1) × (partition < max_parts) }
     requires opened { IsOpeningOf config.now seen.now }
     ensures config { IfOk result
         (λ shard. IsConfigOf config.now partition (arc_value shard).config) }

@@ -1,5 +1,6 @@
 //! The step at which a call is entered into the history.
 ghost use Rattle.std.specs.Prelude.{◌≡◌, ◌+◌, ◌<◌};
+ghost use Rattle.stamps.specs.Limits.{max_parts};
 ghost use Rattle.history.specs.Entries.{count};
 ghost use Rattle.history.specs.Legal.{MayServe};
 
@@ -22,7 +23,7 @@ pub(crate) struct Entering<'t, 'm, 'e, 'c, J: Naming> {
     /// What was seen once it was entered.
     pub now: Front<J>,
     ghost key: { tally.now.key ≡ asked.partition + 1 },
-    ghost here: { asked.partition < 64 },
+    ghost here: { asked.partition < max_parts },
     ghost counted: { count tally.now.key mine.now ≡ entries },
     ghost may: { ∥ MayServe evidence.now asked.partition asked.tenant asked.call.now ∥₁ },
 }

@@ -1,6 +1,7 @@
 //! A partition's book beside what it has seen of the history.
 ghost use Rattle.std.specs.Prelude.{◌≡◌, ◌⊎◌, ◌+◌, ◌<◌, ◌↔◌, map, length, true, IfOk, IfErr, OnErr, IsErrOf, IsSomeAnd};
 ghost use mathlib.Core.List.{IsPrefix};
+ghost use Rattle.stamps.specs.Limits.{max_parts};
 ghost use Rattle.partition.specs.Accounts.{events_at, new_account, IsCut, IsPastAt};
 ghost use Rattle.partition.specs.Journals.{IsLate};
 ghost use Rattle.partition.specs.Serving.{EntersCall};
@@ -28,6 +29,7 @@ pub struct TracedBook<J: Naming> {
 
 impl<J: Naming> Model for TracedBook<J> {
     ghost use Rattle.std.specs.Prelude.{◌≡◌, ◌+◌, ◌<◌};
+    ghost use Rattle.stamps.specs.Limits.{max_parts};
     ghost use Rattle.history.specs.Entries.{count};
     ghost use Rattle.traced_book.specs.Traced.{AreTraced, Tracing};
 
@@ -35,13 +37,13 @@ impl<J: Naming> Model for TracedBook<J> {
 
     ghost view = { λ b. record { partition = b.partition; accounts = b.book; seen = b.front } };
 
-    ghost invariant = { λ b. AreTraced b.front b.partition b.book × (count b.tally.key b.front ≡ b.entries) × (b.tally.key ≡ b.partition + 1) × (b.partition < 64) };
+    ghost invariant = { λ b. AreTraced b.front b.partition b.book × (count b.tally.key b.front ≡ b.entries) × (b.tally.key ≡ b.partition + 1) × (b.partition < max_parts) };
 }
 
 impl<J: Naming> TracedBook<J> {
     /// A book without events, of a store that was just opened: its word, and what was seen of the history.
     pub fn new(book: Book, partition: u32, tally: Tally<J>, front: Front<J>) -> TracedBook<J>
-        requires few { partition < 64 }
+        requires few { partition < max_parts }
         requires tally { tally.key ≡ partition + 1 }
         requires opened { is_opening front ≡ true }
         requires book { book ≡ map new_account (limits_of front) }

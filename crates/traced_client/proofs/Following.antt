@@ -1,6 +1,7 @@
 -- What a client has of the history, from one step to the next.
 use Rattle.std.proofs.Common.{◌≡◌, ◌∙◌, ℕ, ◌+◌, ◌<◌, ◌≤◌, ◌⊎◌, Bool, true, false, List, [], ◌∷◌, ◌++◌, length, length-append, inl, inr, refl, ap, sym, subst, arith, append_assoc}
 use mathlib.Core.List.{IsPrefix}
+use Rattle.stamps.specs.Limits.{max_parts}
 use Rattle.stamps.specs.Stamp.{client_of}
 use Rattle.plain_store.specs.Words.{◌∈◌}
 use Rattle.plain_store.proofs.Members.{in_cases, in_left}
@@ -158,7 +159,7 @@ traced_ended d client last was entries e seen now which at its one counted a =
     low o (inr same) (inr is) = let both : GivenUp o ≡ GivenUp d = same ∙ is in let eq : o ≡ d = cc in omega (arith, ap (λ (x : Decision). x.stamp) eq, at)
 
 -- a client that has just arrived wrote nothing
-pub traced_new : (word tenant client : ℕ) (seen : List HistoryEntry) → 64 < word → Joined (record { word = word; tenant = tenant; client = client }) ∈ seen
+pub traced_new : (word tenant client : ℕ) (seen : List HistoryEntry) → max_parts < word → Joined (record { word = word; tenant = tenant; client = client }) ∈ seen
     → own word seen ≡ Arrived word ∷ [] → IsTracedClient word tenant client 0 false seen
 traced_new word tenant client seen high joined alone = record {
   high = high;

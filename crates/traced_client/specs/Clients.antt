@@ -1,6 +1,7 @@
 -- What a client has of the history.
 use Rattle.std.specs.Prelude.{ℕ, ◌≡◌, ◌⊎◌, ◌<◌, ◌≤◌, ◌+◌, ◌*◌, Bool, true, false, List, [], ◌∷◌, ◌++◌, Option, Some, IsSome, nat_eq}
 use mathlib.Core.List.{IsPrefix}
+use Rattle.stamps.specs.Limits.{max_parts}
 use Rattle.indexmap.specs.IndexMap.{IndexMap, get}
 use Rattle.plain_store.specs.declared.refusal.Refusal.{Refusal}
 use Rattle.plain_store.specs.declared.refusal.Refusal.TheVariants.{Busy, RowsUsed, OutOfMemory}
@@ -25,7 +26,7 @@ pub record ClientTrace : Type 0 where
 -- The client joined under the word, and what was seen has each of its writes, none above this stamp. One that is open, which is the last
 -- one, may end.
 pub record IsTracedClient (word tenant client last : ℕ) (is_open : Bool) (seen : List HistoryEntry) : Type 0 where
-  pub high : 64 < word
+  pub high : max_parts < word
   pub some : 0 < count word seen
   pub joined : Joined (record { word = word; tenant = tenant; client = client }) ∈ seen
   pub above : (write : Write) → Began write ∈ own word seen → write.stamp ≤ last

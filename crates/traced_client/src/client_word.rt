@@ -1,6 +1,7 @@
 //! A client's word beside what the client has seen of the history.
 ghost use Rattle.std.specs.Prelude.{◌≡◌, ◌<◌, ◌↔◌, [], ◌∷◌, cond, IfNone, IfSome, IsTrue, false};
 ghost use mathlib.Core.List.{IsPrefix};
+ghost use Rattle.stamps.specs.Limits.{max_parts};
 ghost use Rattle.plain_store.specs.Words.{◌∈◌};
 ghost use Rattle.history.specs.declared.entry.HistoryEntry.TheVariants.{Joined, Arrived, Began, Decided, GivenUp, ReadBegan};
 ghost use Rattle.history.specs.Entries.{HasMark, own};
@@ -43,7 +44,7 @@ impl<J: Naming> Model for TracedClient<J> {
 impl<J: Naming> TracedClient<J> {
     /// A client that has just come for the first time: its word, and what was seen of the history then.
     pub fn new(tenant: u32, client: Client, tally: Tally<J>, front: Front<J>) -> TracedClient<J>
-        requires word { 64 < tally.key }
+        requires word { max_parts < tally.key }
         requires joined { Joined
             (record { word = tally.key; tenant = tenant; client = client }) ∈ front }
         requires alone { own tally.key front ≡ Arrived tally.key ∷ [] }

@@ -20,7 +20,7 @@ compare_exchange-found-requires g c =
     let log = c.self.inside.seen.log in
     let book = c.self.invariant.0 ∙ sym (ap (λ w. w.book) word) in
     let counted : count 0 log ≡ c.args.joined = rw c.self.view_is c.requires.counted in
-    let member : JoinedClient = record { word = c.args.joined + 65; tenant = c.args.tenant; client = c.args.client } in
+    let member : JoinedClient = record { word = c.args.joined + first_client; tenant = c.args.tenant; client = c.args.client } in
     let new : (other : JoinedClient) → Joined other ∈ log → other.tenant ≡ c.args.tenant → other.client ≡ c.args.client → ⊥ = rw c.self.view_is c.requires.new in
     let may : MayJoin (own 0 log) member = record {
       word = omega (arith, counted);
@@ -45,13 +45,13 @@ compare_exchange-found-requires-2 g c =
     let is : (c.compare_exchange-found.result == c.args.joined) ≡ true = grind (arith, nat_tests, c.if-found-joined.false) in
     let P = (c.compare_exchange-found.new.pen.nib ≡ nib may_make (first_client + c.args.joined) 0) × (c.plain-offer.result.ask ∈ log) × IsLegal log in
     let told : P = subst (λ b. MatchBool b P (IsLegal log)) is one.7 in
-    let nib_is : c.tracked-word.new.pen.nib ≡ nib may_write (c.args.joined + 65) 1 =
+    let nib_is : c.tracked-word.new.pen.nib ≡ nib may_write (c.args.joined + first_client) 1 =
     made.2 ∙ ap (λ p. inked p 1) told.0 ∙ ap (λ (n : ℕ). nib may_write n 1) (omega arith) in (
       ap (λ w. w.tracked) word,
       one.0 ∙ book,
       made.1 ∙ (one.5 ∙ (pen.0 ∙ book)),
       offer.0,
-      rw (ap (λ w. w.key) word, c.requires.register, nib_is, offer.1, offer.3) (arrives_moves log (c.args.joined + 65) (c.args.joined + 1)),
+      rw (ap (λ w. w.key) word, c.requires.register, nib_is, offer.1, offer.3) (arrives_moves log (c.args.joined + first_client) (c.args.joined + 1)),
     )
 
 pub returns-clause-joined : goal.returns-clause-joined
@@ -61,6 +61,6 @@ returns-clause-joined g c =
     let is : (c.compare_exchange-found.result == c.args.joined) ≡ true = grind (arith, nat_tests, c.if-found-joined.false) in
     let P = (c.compare_exchange-found.new.pen.nib ≡ nib may_make (first_client + c.args.joined) 0) × (c.plain-offer.result.ask ∈ log) × IsLegal log in
     let told : P = subst (λ b. MatchBool b P (IsLegal log)) is one.7 in
-    let member : JoinedClient = record { word = c.args.joined + 65; tenant = c.args.tenant; client = c.args.client } in
+    let member : JoinedClient = record { word = c.args.joined + first_client; tenant = c.args.tenant; client = c.args.client } in
     let has : Joined member ∈ log = subst (λ (e : HistoryEntry). e ∈ log) c.plain-offer.ensures.1 told.1 in
     prefix_has log c.compare_exchange-found-2.new.seen.log (Joined member) c.compare_exchange-found-2.ensures.6 has
