@@ -1,5 +1,5 @@
 -- What each operation of a seat leaves, whatever it was asked for.
-use Rattle.std.specs.Prelude.{◌≡◌, ◌↔◌, ◌<◌, ◌≤◌, ◌+◌, ◌-◌, ◌^◌, ℕ, true, false, List}
+use Rattle.std.specs.Prelude.{◌≡◌, ◌↔◌, ◌<◌, ◌≤◌, ◌+◌, ℕ, true, false, List}
 use mathlib.Core.List.{IsPrefix}
 use Rattle.stamps.specs.declared.record.Item.{Item}
 use Rattle.plain_store.specs.declared.answer.Answer.{Answer}
@@ -8,7 +8,7 @@ use Rattle.plain_store.specs.declared.refusal.Refusal.TheVariants.{Stopped, Rows
 use Rattle.plain_store.specs.declared.step.Act.{Act}
 use Rattle.plain_store.specs.declared.step.Act.TheVariants.{Put, Get, Find}
 use Rattle.plain_store.specs.Words.{Key, Tag, Setup}
-use Rattle.hub.specs.Limits.{max_calls}
+use Rattle.hub.specs.Limits.{last_call, max_calls}
 use Rattle.hub.specs.Replies.{AreServed, IfDone, IfListed, IfRead, IsListOf, IsReadOf, IsWriteOf}
 use Rattle.hub.specs.Seats.{SeatView, Extends, IsEntered, begun_entries, last_operation, sight}
 
@@ -27,7 +27,7 @@ pub record IsLater (most : ℕ) (old new : SeatView) : Type 0 where
 pub record IsOperation (act : Act) (old : SeatView) (answer : Answer) (new : SeatView) : Type 0 where
   pub entered : IsEntered act old answer new
   pub stopped : (answer ≡ Refused Stopped) ↔ (old.stopped ≡ true)
-  pub past : (answer ≡ Refused RowsUsed) ↔ ((old.stopped ≡ false) × (2 ^ 62 - 128 < old.sent))
+  pub past : (answer ≡ Refused RowsUsed) ↔ ((old.stopped ≡ false) × (last_call < old.sent))
   pub later : IsLater max_calls old new
 
 -- ---- what is reported answers replies that the operation entered

@@ -1,5 +1,5 @@
 -- What a seat does that reads the keys of items before it writes them.
-use Rattle.std.specs.Prelude.{◌≡◌, ◌⊎◌, ◌↔◌, ◌<◌, ◌-◌, ◌*◌, ◌^◌, true, false, List, Some}
+use Rattle.std.specs.Prelude.{◌≡◌, ◌⊎◌, ◌↔◌, ◌<◌, ◌*◌, true, false, List, Some}
 use Rattle.stamps.specs.declared.record.Item.{Item}
 use Rattle.plain_store.specs.declared.answer.Answer.{Answer}
 use Rattle.plain_store.specs.declared.answer.Answer.TheVariants.{Refused}
@@ -8,7 +8,7 @@ use Rattle.plain_store.specs.declared.step.Act.TheVariants.{Put, Get}
 use Rattle.plain_store.specs.Words.{Key}
 use Rattle.plain_store.specs.Writing.{keys_written}
 use Rattle.hub.specs.Fresh.{AreCommittedIn}
-use Rattle.hub.specs.Limits.{max_calls}
+use Rattle.hub.specs.Limits.{last_call, max_calls}
 use Rattle.hub.specs.Operations.{IsLater, ReportsRead, ReportsWrite}
 use Rattle.hub.specs.Replies.{IfDone, IsDrawn}
 use Rattle.hub.specs.Seats.{SeatView, IsEntered, is_unrecorded, last_answer}
@@ -43,7 +43,7 @@ pub record PutsNewest (items : List Item) (old : SeatView) (answer : Answer) (ne
   pub both : IsReadAndWritten items old answer new
   pub goes_on : is_unrecorded answer ≡ false → new.stopped ≡ false
   pub stopped : (answer ≡ Refused Stopped) ↔ (old.stopped ≡ true)
-  pub past : answer ≡ Refused RowsUsed → 2 ^ 62 - 128 < new.sent
-  pub used_up : (old.stopped ≡ false) × (2 ^ 62 - 128 < old.sent) → answer ≡ Refused RowsUsed
+  pub past : answer ≡ Refused RowsUsed → last_call < new.sent
+  pub used_up : (old.stopped ≡ false) × (last_call < old.sent) → answer ≡ Refused RowsUsed
   pub later : IsLater (2 * max_calls) old new
   pub committed : IfDone answer (AreCommittedIn new.seen new.name.tenant items)

@@ -13,8 +13,8 @@ use std::alloc::{AllocError, Global};
 use std::sync::Wait;
 
 impl<'a, G: Gate + Naming> Seat<'a, G> {
-    ghost use Rattle.std.specs.Prelude.{◌≡◌, ◌<◌, ◌-◌, ◌^◌, ◌↔◌, true, false, Some};
-    ghost use Rattle.hub.specs.Limits.{max_calls};
+    ghost use Rattle.std.specs.Prelude.{◌≡◌, ◌<◌, ◌↔◌, true, false, Some};
+    ghost use Rattle.hub.specs.Limits.{last_call, max_calls};
     ghost use Rattle.hub.specs.ReadsFirst.{IsReadBy, PutsNewest};
     ghost use Rattle.hub.specs.Operations.{IsLater};
     ghost use Rattle.plain_store.specs.Writing.{keys_written};
@@ -51,7 +51,7 @@ impl<'a, G: Gate + Naming> Seat<'a, G> {
         ensures stopped { (answer.new ≡ Answer.Refused Refusal.Stopped)
             ↔ (self.old.stopped ≡ true) }
         ensures past { (answer.new ≡ Answer.Refused Refusal.RowsUsed)
-            ↔ ((self.old.stopped ≡ false) × (2 ^ 62 - 128 < self.old.sent)) }
+            ↔ ((self.old.stopped ≡ false) × (last_call < self.old.sent)) }
         ensures later { IsLater max_calls self.old self.new }
     {
         if let Some(refusal) = self.refuses() {

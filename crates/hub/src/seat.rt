@@ -1,10 +1,10 @@
 //! A client's session.
-ghost use Rattle.std.specs.Prelude.{◌≡◌, ◌<◌, ◌≤◌, ◌+◌, ◌-◌, ◌^◌, ◌↔◌, ◌⊎◌, [], true, false, Some, OnOk, IfErr, IfSome, IfNone};
+ghost use Rattle.std.specs.Prelude.{◌≡◌, ◌<◌, ◌≤◌, ◌+◌, ◌↔◌, ◌⊎◌, [], true, false, Some, OnOk, IfErr, IfSome, IfNone};
 ghost use Rattle.plain_store.specs.declared.step.Act.TheVariants.{Put, Get as GetAll, Find};
 ghost use mathlib.Core.List.{IsPrefix};
 ghost use Rattle.history.specs.Legal.{HasParts, IsLegal};
 ghost use Rattle.hub.specs.Rooms.{awaited};
-ghost use Rattle.hub.specs.Limits.{max_calls};
+ghost use Rattle.hub.specs.Limits.{last_call, max_calls};
 ghost use Rattle.hub.specs.Operations.{IsLater, IsOperation, ReportsList, ReportsRead, ReportsWrite};
 ghost use Rattle.hub.specs.Atomic.{IsReadAtomic};
 ghost use Rattle.hub.specs.Fresh.{AreCommittedIn, IsFreshByEntry};
@@ -16,7 +16,7 @@ ghost use Rattle.hub.specs.Seats.{SeatView, Extends, IsEntered, IsNamed, begun_e
 ghost use Rattle.hub.specs.Taken.{replies_in};
 ghost use Rattle.shard.specs.Jobs.{refusal_of};
 
-use crate::dispatcher::Dispatcher;
+use crate::dispatcher::{Dispatcher, MOST_CALLS};
 use crate::hub::Hub;
 use crate::operation::{RunningOperation, tell_refusal};
 use crate::register::Departure;
@@ -33,7 +33,7 @@ use tenant_sessions::ClientSession;
 use traced_client::TracedClient;
 
 /// A seat that has sent more calls begins no operation.
-const LAST_CALL: u64 = (1 << 62) - 128;
+const LAST_CALL: u64 = (1 << 62) - MOST_CALLS as u64;
 
 /// The resources of a seat: its queue endpoints, its client's open session, and a buffer for what is read.
 #[derive(Drop)]
@@ -287,7 +287,7 @@ impl<'a, G: Gate + Naming> Seat<'a, G> {
         ensures stopped { (answer.new ≡ Answer.Refused Refusal.Stopped)
             ↔ (self.old.stopped ≡ true) }
         ensures past { (answer.new ≡ Answer.Refused Refusal.RowsUsed)
-            ↔ ((self.old.stopped ≡ false) × (2 ^ 62 - 128 < self.old.sent)) }
+            ↔ ((self.old.stopped ≡ false) × (last_call < self.old.sent)) }
         ensures later { IsLater max_calls self.old self.new }
         ensures told { IsToldFor (last_operation self.new) self.old.parts
             (IsDrawn self.old.name.client self.old.counter self.new.counter) request.now answer.new
@@ -319,8 +319,8 @@ impl<'a, G: Gate + Naming> Seat<'a, G> {
     pub(crate) fn refuses(&self) -> Option<Refusal>
         ensures stopped { (result ≡ Some Refusal.Stopped) ↔ (self.now.stopped ≡ true) }
         ensures past { (result ≡ Some Refusal.RowsUsed)
-            ↔ ((self.now.stopped ≡ false) × (2 ^ 62 - 128 < self.now.sent)) }
-        ensures open { IfNone result ((self.now.stopped ≡ false) × (self.now.sent ≤ 2 ^ 62 - 128)) }
+            ↔ ((self.now.stopped ≡ false) × (last_call < self.now.sent)) }
+        ensures open { IfNone result ((self.now.stopped ≡ false) × (self.now.sent ≤ last_call)) }
         ensures unbegun { IfSome result (λ refusal. is_unbegun refusal ≡ true) }
     {
         if self.stopped {
