@@ -1,6 +1,7 @@
 //! How a hub is made.
 ghost use Rattle.std.specs.Prelude.{◌≤◌, ◌<◌, vec_len};
 ghost use Rattle.stamps.specs.Bounds.{IsParts};
+ghost use Rattle.stamps.specs.Limits.{max_tenants};
 
 use stamps::Limits;
 
@@ -19,7 +20,7 @@ pub struct Config {
     pub epoch: u32,
     pub ghost parts_in_range: { IsParts parts },
     pub ghost some_tenants: { 0 < vec_len limits },
-    pub ghost few_tenants: { vec_len limits ≤ 64 },
+    pub ghost few_tenants: { vec_len limits ≤ max_tenants },
     pub ghost some_room: { 0 < queue },
     pub ghost little_room: { queue ≤ 1024 },
     pub ghost some_events: { 0 < every },

@@ -3,6 +3,7 @@ use Rattle.std.proofs.Common.{◌≡◌, ℕ, zero, suc, ◌<◌, List, [], Bool
 use Rattle.std.specs.Prelude.{nat_lt}
 use Rattle.std.specs.List.{list_all}
 use Rattle.std.proofs.lemmas.Bool.{both_ways}
+use Rattle.stamps.specs.Limits.{max_found}
 use Rattle.stamps.specs.WriteSet.{IsWriteSet}
 use Rattle.stamps.proofs.KeyLemmas.{IsAscending-distinct}
 use Rattle.plain_store.proofs.BadKeys.{good_keys}
@@ -25,7 +26,7 @@ pub new_search : (setup : Setup) (tag : Tag) (f : TagSearch) (reader : Reader) �
     → f.keys ≡ [] → f.reads ≡ false → f.has_ended ≡ false → StandsFor setup tag f reader []
 new_search setup tag f reader some tagged parts asked total keys unread going =
     let not_all : all_found setup [] ≡ false = untold setup.partitions some in
-    let open_now : has_ended setup [] ≡ false = ap (λ b. b && (nat_lt 16 (total_found []) || has_read (all_keys_found []) [])) not_all in
+    let open_now : has_ended setup [] ≡ false = ap (λ b. b && (nat_lt max_found (total_found []) || has_read (all_keys_found []) [])) not_all in
     record {
       tagged = tagged;
       parts = parts;

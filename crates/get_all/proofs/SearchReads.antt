@@ -6,6 +6,7 @@ use Rattle.std.proofs.lemmas.List.{append-nil}
 use Rattle.std.proofs.lemmas.List.Sums.{sum_by-append}
 use Rattle.std.proofs.lemmas.Grind.{flat_map-append}
 use Rattle.stamps.specs.Key.{sorted_keys}
+use Rattle.stamps.specs.Limits.{max_found}
 use Rattle.plain_store.specs.declared.calls.Call.TheVariants.{Get}
 use Rattle.plain_store.specs.declared.calls.ReadReply.{ReadReply}
 use Rattle.plain_store.specs.declared.calls.Reply.TheVariants.{Get as ToGet}
@@ -79,8 +80,8 @@ module _ (setup : Setup) (tag : Tag) (taken : List Message) (message : Message) 
 
           open_read : has_read (all_keys_found taken) taken ≡ false
           open_read =
-              sym (ap (λ b. b || (all_found setup taken && (nat_lt 16 (total_found taken) || has_read (all_keys_found taken) taken))) (s.holds open_get).at_home
-              ∙ ap (λ b. b && (nat_lt 16 (total_found taken) || has_read (all_keys_found taken) taken)) all_in_get
+              sym (ap (λ b. b || (all_found setup taken && (nat_lt max_found (total_found taken) || has_read (all_keys_found taken) taken))) (s.holds open_get).at_home
+              ∙ ap (λ b. b && (nat_lt max_found (total_found taken) || has_read (all_keys_found taken) taken)) all_in_get
               ∙ ap (λ b. b || has_read (all_keys_found taken) taken) reading.few) ∙ open_get
 
           wanted_same : is_wanted setup taken message ≡ is_wanted_read (all_keys_found taken) taken message
@@ -133,13 +134,13 @@ module _ (setup : Setup) (tag : Tag) (taken : List Message) (message : Message) 
                     ∙ sym (ap (λ b. b || is_last answer) open_get);
               }
             where
-              at_list : (T : List Message) → map (asked_after taken) (below setup.partitions) ≡ map (asked_after T) (below setup.partitions) → any_stray setup T ≡ false → all_found setup T ≡ true → nat_lt 16 (total_found T) ≡ false
+              at_list : (T : List Message) → map (asked_after taken) (below setup.partitions) ≡ map (asked_after T) (below setup.partitions) → any_stray setup T ≡ false → all_found setup T ≡ true → nat_lt max_found (total_found T) ≡ false
                   → all_keys_found T ≡ all_keys_found taken → StandsForRead (all_keys_found taken) next T → has_read (all_keys_found taken) T ≡ is_last_read a
                   → StandsFor setup tag after next T × (has_ended setup T ≡ is_last_read a)
               at_list T same home_all all few keys stands closes =
                   let ended : has_ended setup T ≡ is_last_read a =
-                  ap (λ b. b || (all_found setup T && (nat_lt 16 (total_found T) || has_read (all_keys_found T) T))) home_all
-                  ∙ ap (λ b. b && (nat_lt 16 (total_found T) || has_read (all_keys_found T) T)) all
+                  ap (λ b. b || (all_found setup T && (nat_lt max_found (total_found T) || has_read (all_keys_found T) T))) home_all
+                  ∙ ap (λ b. b && (nat_lt max_found (total_found T) || has_read (all_keys_found T) T)) all
                   ∙ ap (λ b. b || has_read (all_keys_found T) T) few ∙ ap (λ ks. has_read ks T) keys ∙ closes in
                   let P : List Key → Type 0 = λ ks. StandsForRead ks next T in (
                     record {
@@ -159,5 +160,5 @@ module _ (setup : Setup) (tag : Tag) (taken : List Message) (message : Message) 
               stands_with : (b : Bool) → StandsForRead (all_keys_found taken) next (cond b more taken) → has_read (all_keys_found taken) (cond b more taken) ≡ is_last_read a
                   → StandsFor setup tag after next (cond b more taken) × (has_ended setup (cond b more taken) ≡ is_last_read a)
               stands_with true stands closes =
-                  at_list more asked_same (stray_same ∙ (s.holds open_get).at_home) (all_same ∙ all_in_get) (ap (nat_lt 16) total_same ∙ reading.few) keys_same stands closes
+                  at_list more asked_same (stray_same ∙ (s.holds open_get).at_home) (all_same ∙ all_in_get) (ap (nat_lt max_found) total_same ∙ reading.few) keys_same stands closes
               stands_with false stands closes = at_list taken refl (s.holds open_get).at_home all_in_get reading.few refl stands closes

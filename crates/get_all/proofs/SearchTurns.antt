@@ -8,6 +8,7 @@ use Rattle.std.proofs.lemmas.List.{append-nil}
 use Rattle.std.proofs.lemmas.List.Sums.{sum_by-append}
 use Rattle.std.proofs.lemmas.Grind.{flat_map-append}
 use Rattle.stamps.specs.Key.{IsTransactionKeys, sorted_keys, home_of}
+use Rattle.stamps.specs.Limits.{max_keys, max_found}
 use Rattle.stamps.specs.WriteSet.{contains_key}
 use Rattle.stamps.proofs.KeyLemmas.{IsAscending-distinct}
 use Rattle.plain_store.specs.FoundKeys.{Findings, IsFound}
@@ -136,7 +137,7 @@ module _ (setup : Setup) (tag : Tag) (taken : List Message) (message : Message) 
             → (answer : FindMove) → answer ≡ Torn → TakesFind setup tag taken message answer after r
         tears after awaited stray tagged parts over answer torn =
             let ended : has_ended setup more ≡ true =
-            ap (λ b. b || (all_found setup more && (nat_lt 16 (total_found more) || has_read (all_keys_found more) more)))
+            ap (λ b. b || (all_found setup more && (nat_lt max_found (total_found more) || has_read (all_keys_found more) more)))
             (stray_more ∙ ap (λ b. any_stray setup taken || b) stray ∙ or_right (any_stray setup taken) true refl) in
             takes answer after r (wanted_told ∙ awaited)
             (ap (told setup) torn ∙ ap Some (sym (move_is ∙ ap (λ b. cond b (Fails IsTorn []) (cond (all_found setup more) (search_move setup (total_found more) (all_keys_found more)) Waits)) stray)))
@@ -145,8 +146,8 @@ module _ (setup : Setup) (tag : Tag) (taken : List Message) (message : Message) 
 
         -- what is added to what was reported
         module _ (awaited : list_any (awaits p) f.asked ≡ true) (fits : IsFound found) (honest : strays ≡ false) (added : TagSearch)
-            (asked : added.asked ≡ map (with_told p) f.asked) (total : added.total ≡ min (f.total + found.count) 17)
-            (keys : added.total ≤ 16 → added.keys ≡ f.keys ++ found.keys) (unread : added.reads ≡ f.reads) where
+            (asked : added.asked ≡ map (with_told p) f.asked) (total : added.total ≡ min (f.total + found.count) (max_found + 1))
+            (keys : added.total ≤ max_found → added.keys ≡ f.keys ++ found.keys) (unread : added.reads ≡ f.reads) where
           before : IsAsking setup f taken
           before = (s.holds unended).asking (still_asking awaited)
 
@@ -156,7 +157,7 @@ module _ (setup : Setup) (tag : Tag) (taken : List Message) (message : Message) 
           at_home_now : any_stray setup more ≡ false
           at_home_now = stray_more ∙ ap (λ b. b || strays) (s.holds unended).at_home ∙ honest
 
-          pub total_now : added.total ≡ min (total_found more) 17
+          pub total_now : added.total ≡ min (total_found more) (max_found + 1)
           total_now = omega (arith, total, before.total, total_more)
 
           new_key : (key : Key) → contains_key found.keys key ≡ true → home setup key ≡ p
@@ -214,14 +215,14 @@ module _ (setup : Setup) (tag : Tag) (taken : List Message) (message : Message) 
           move_now : find_move setup tag more message.partition message.call message.reply ≡ cond (all_found setup more) (search_move setup (total_found more) (all_keys_found more)) Waits
           move_now = move_is ∙ ap (λ b. cond b (Fails IsTorn []) (cond (all_found setup more) (search_move setup (total_found more) (all_keys_found more)) Waits)) honest
 
-          ended_now : has_ended setup more ≡ (all_found setup more && (nat_lt 16 (total_found more) || has_read (all_keys_found more) more))
-          ended_now = ap (λ b. b || (all_found setup more && (nat_lt 16 (total_found more) || has_read (all_keys_found more) more))) at_home_now
+          ended_now : has_ended setup more ≡ (all_found setup more && (nat_lt max_found (total_found more) || has_read (all_keys_found more) more))
+          ended_now = ap (λ b. b || (all_found setup more && (nat_lt max_found (total_found more) || has_read (all_keys_found more) more))) at_home_now
 
           pub waits_on : added.tag ≡ f.tag → added.parts ≡ f.parts → added.has_ended ≡ f.has_ended → list_all (λ (a : AskedPartition). a.has_told) added.asked ≡ false → TakesFind setup tag taken message Wait added r
           waits_on tagged parts same unfinished =
               let not_all : all_found setup more ≡ false = sym all_now ∙ unfinished in
               let open_now : has_ended setup more ≡ false =
-              ended_now ∙ ap (λ b. b && (nat_lt 16 (total_found more) || has_read (all_keys_found more) more)) not_all in
+              ended_now ∙ ap (λ b. b && (nat_lt max_found (total_found more) || has_read (all_keys_found more) more)) not_all in
               takes Wait added r (wanted_told ∙ awaited)
               (ap Some (sym (move_now ∙ ap (λ b. cond b (search_move setup (total_found more) (all_keys_found more)) Waits) not_all)))
               (record {
@@ -238,8 +239,8 @@ module _ (setup : Setup) (tag : Tag) (taken : List Message) (message : Message) 
             search_now : find_move setup tag more message.partition message.call message.reply ≡ search_move setup (total_found more) (all_keys_found more)
             search_now = move_now ∙ ap (λ b. cond b (search_move setup (total_found more) (all_keys_found more)) Waits) all_in
 
-            ended_all : has_ended setup more ≡ (nat_lt 16 (total_found more) || has_read (all_keys_found more) more)
-            ended_all = ended_now ∙ ap (λ b. b && (nat_lt 16 (total_found more) || has_read (all_keys_found more) more)) all_in
+            ended_all : has_ended setup more ≡ (nat_lt max_found (total_found more) || has_read (all_keys_found more) more)
+            ended_all = ended_now ∙ ap (λ b. b && (nat_lt max_found (total_found more) || has_read (all_keys_found more) more)) all_in
 
             ended_with : (answer : FindMove) (after : TagSearch) (next : Reader) → after.tag ≡ f.tag → after.parts ≡ f.parts → after.has_ended ≡ true → has_ended setup more ≡ true → is_last answer ≡ true
                 → told setup answer ≡ Some (search_move setup (total_found more) (all_keys_found more)) → TakesFind setup tag taken message answer after next
@@ -248,18 +249,18 @@ module _ (setup : Setup) (tag : Tag) (taken : List Message) (message : Message) 
                 (record { tagged = tagged ∙ s.tagged; parts = parts ∙ s.parts; ended = over ∙ sym ended; holds = λ open_yet. contrary (has_ended setup more) ended open_yet })
                 (ended ∙ sym closes)
 
-            pub too_many : 16 < added.total → (after : TagSearch) (next : Reader) → after.tag ≡ f.tag → after.parts ≡ f.parts → after.has_ended ≡ true → (answer : FindMove) → answer ≡ TooMany → TakesFind setup tag taken message answer after next
+            pub too_many : max_found < added.total → (after : TagSearch) (next : Reader) → after.tag ≡ f.tag → after.parts ≡ f.parts → after.has_ended ≡ true → (answer : FindMove) → answer ≡ TooMany → TakesFind setup tag taken message answer after next
             too_many many after next tagged parts over answer is_many =
-                let above : nat_lt 16 (total_found more) ≡ true = lt-ltb 16 (total_found more) (omega (arith, many, total_now)) in
+                let above : nat_lt max_found (total_found more) ≡ true = lt-ltb max_found (total_found more) (omega (arith, many, total_now)) in
                 ended_with answer after next tagged parts over (ended_all ∙ ap (λ b. b || has_read (all_keys_found more) more) above) (ap is_last is_many)
                 (ap (told setup) is_many ∙ ap (λ b. Some (cond b (Fails AreTooMany []) (cond (total_found more == 0) (Lists []) (Begins (first_calls setup (all_keys_found more)))))) (sym above))
 
-            module _ (few : added.total ≤ 16) where
-              within : total_found more ≤ 16
+            module _ (few : added.total ≤ max_found) where
+              within : total_found more ≤ max_found
               within = omega (arith, few, total_now)
 
-              not_above : nat_lt 16 (total_found more) ≡ false
-              not_above = le-ltb 16 (total_found more) within
+              not_above : nat_lt max_found (total_found more) ≡ false
+              not_above = le-ltb max_found (total_found more) within
 
               keys_now : added.keys ≡ keys_told more
               keys_now = asking_now.keys within
@@ -270,8 +271,8 @@ module _ (setup : Setup) (tag : Tag) (taken : List Message) (message : Message) 
               good_now : 0 < total_found more → IsTransactionKeys added.keys
               good_now some =
                   let good : are_bad (keys_told more) ≡ false =
-                  ap (λ b. b || (nat_lt 16 (length (keys_told more)) || one_twice (keys_told more))) (ne_eqb (length (keys_told more)) 0 (λ none. omega (arith, none, count_now, some)))
-                  ∙ ap (λ b. b || one_twice (keys_told more)) (le-ltb 16 (length (keys_told more)) (omega (arith, count_now, within))) ∙ asking_now.distinct in
+                  ap (λ b. b || (nat_lt max_keys (length (keys_told more)) || one_twice (keys_told more))) (ne_eqb (length (keys_told more)) 0 (λ none. omega (arith, none, count_now, some)))
+                  ∙ ap (λ b. b || one_twice (keys_told more)) (le-ltb max_keys (length (keys_told more)) (omega (arith, count_now, within))) ∙ asking_now.distinct in
                   subst IsTransactionKeys (sym keys_now) (transaction_keys (keys_told more) good)
 
               pub nothing : (IsTransactionKeys added.keys → ⊥) → (after : TagSearch) (next : Reader) → after.tag ≡ f.tag → after.parts ≡ f.parts → after.has_ended ≡ true → (answer : FindMove) → answer ≡ Listing [] → TakesFind setup tag taken message answer after next
@@ -320,14 +321,14 @@ module _ (setup : Setup) (tag : Tag) (taken : List Message) (message : Message) 
                       subst P sorted (stands more asking_now.no_reads)
 
             pub finishes : (after : TagSearch) (next : Reader) (answer : FindMove) → added.tag ≡ f.tag → added.parts ≡ f.parts → added.has_ended ≡ f.has_ended
-                → (16 < added.total → (answer ≡ TooMany) × (after ≡ record added { has_ended = true }))
-                → (added.total ≤ 16 → (IsTransactionKeys added.keys → ⊥) → (answer ≡ Listing []) × (after ≡ record added { has_ended = true }))
-                → (added.total ≤ 16 → IsTransactionKeys added.keys → (answer ≡ Begin (sorted_keys added.keys)) × (after.tag ≡ added.tag) × (after.parts ≡ added.parts) × (after.asked ≡ added.asked) × (after.has_ended ≡ added.has_ended)
+                → (max_found < added.total → (answer ≡ TooMany) × (after ≡ record added { has_ended = true }))
+                → (added.total ≤ max_found → (IsTransactionKeys added.keys → ⊥) → (answer ≡ Listing []) × (after ≡ record added { has_ended = true }))
+                → (added.total ≤ max_found → IsTransactionKeys added.keys → (answer ≡ Begin (sorted_keys added.keys)) × (after.tag ≡ added.tag) × (after.parts ≡ added.parts) × (after.asked ≡ added.asked) × (after.has_ended ≡ added.has_ended)
                 × (after.reads ≡ true) × ((replies : List Message) → list_all is_no_read replies ≡ true → StandsForRead (sorted_keys added.keys) next replies))
                 → TakesFind setup tag taken message answer after next
-            finishes after next answer tagged parts same many none some = go (cases_lt 16 added.total)
+            finishes after next answer tagged parts same many none some = go (cases_lt max_found added.total)
               where
-                filled : (few : added.total ≤ 16) (n : ℕ) → total_found more ≡ n → TakesFind setup tag taken message answer after next
+                filled : (few : added.total ≤ max_found) (n : ℕ) → total_found more ≡ n → TakesFind setup tag taken message answer after next
                 filled few zero e =
                     let bad : IsTransactionKeys added.keys → ⊥ = λ good. omega (arith, good.not_empty, ap length (keys_now few), count_now few, e) in
                     let h = none few bad in
@@ -337,7 +338,7 @@ module _ (setup : Setup) (tag : Tag) (taken : List Message) (message : Message) 
                     let h = some few good in
                     begins few good after next (h.1 ∙ tagged) (h.2 ∙ parts) (h.4 ∙ same) h.3 h.5 h.6 answer h.0
 
-                go : (16 < added.total) ⊎ (added.total ≤ 16) → TakesFind setup tag taken message answer after next
+                go : (max_found < added.total) ⊎ (added.total ≤ max_found) → TakesFind setup tag taken message answer after next
                 go (inl above) =
                     let h = many above in
                     too_many above after next (ap (λ a. a.tag) h.1 ∙ tagged) (ap (λ a. a.parts) h.1 ∙ parts) (ap (λ a. a.has_ended) h.1) answer h.0

@@ -5,6 +5,7 @@ use Rattle.std.specs.List.{list_any}
 use mathlib.Core.HLevel.{⊥_prop}
 use Rattle.std.proofs.Math.Logic.{∥∥₁_elim, ∥∥₁_map, ∥∥₁_map₂, ∥∥₁_prop}
 use Rattle.std.proofs.lemmas.Bool.{and_parts, ltb-false, ltb-true, not-true}
+use Rattle.stamps.specs.Limits.{max_found}
 use Rattle.plain_store.specs.declared.calls.Call.{Call}
 use Rattle.plain_store.specs.declared.calls.Call.TheVariants.{Prepare, Commit, Get, Found, Collect, Discard}
 use Rattle.plain_store.specs.declared.calls.ReadReply.TheVariants.{Version}
@@ -314,7 +315,7 @@ none_found setup tag taken replies last told before wanted is = go last.call las
     found : (a b : Bool) → cond a (Fails Torn []) (cond b (search_move setup (total_found replies) (all_keys_found replies)) Waits) ≡ Lists told → told ≡ []
     found true b e = cc
     found false false e = cc
-    found false true e = searched (nat_lt 16 (total_found replies)) (total_found replies == 0) (Begins (first_calls setup (all_keys_found replies))) e refl
+    found false true e = searched (nat_lt max_found (total_found replies)) (total_found replies == 0) (Begins (first_calls setup (all_keys_found replies))) e refl
 
     past : (b : Bool) → (all_found setup taken && b) ≡ true → told ≡ []
     past b e = let no : false ≡ true = sym before ∙ (and_parts (all_found setup taken) b e).0 in cc
@@ -350,8 +351,8 @@ list_stamps setup tag taken last told answers = go (is_wanted_found setup taken 
     by false before unended of is = inl (none_found setup tag taken replies last told before of is)
     by true before unended of is =
         let rest = (or_parts (any_stray setup taken) _ unended).1 in
-        let P : Bool → Type 0 = λ b. (b && (nat_lt 16 (total_found taken) || has_read (all_keys_found taken) taken)) ≡ false in
-        let unread = (or_parts (nat_lt 16 (total_found taken)) _ (subst P before rest)).1 in
+        let P : Bool → Type 0 = λ b. (b && (nat_lt max_found (total_found taken) || has_read (all_keys_found taken) taken)) ≡ false in
+        let unread = (or_parts (nat_lt max_found (total_found taken)) _ (subst P before rest)).1 in
         inr (stamps_of taken last (or_parts (any_last taken taken) _ unread).0
         (λ key stamp version call reply.
         last_stamp setup (all_keys_found replies) replies (carries tag) (Lists told) last key stamp version tt (get_moves setup tag replies last (Lists told) key stamp call is) call reply))

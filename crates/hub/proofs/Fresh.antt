@@ -5,6 +5,7 @@ use Rattle.std.proofs.Math.Bridge.{le_prop}
 use Rattle.std.proofs.Math.Logic.{∥∥₁_elim}
 use Rattle.std.proofs.lemmas.Bool.{ltb-true}
 use mathlib.Core.List.{IsPrefix}
+use Rattle.stamps.specs.Limits.{max_found}
 use Rattle.plain_store.specs.declared.calls.Call.{Call}
 use Rattle.plain_store.specs.declared.calls.Call.TheVariants.{Prepare, Commit, Get, Found, Collect, Discard}
 use Rattle.plain_store.specs.declared.calls.ReadReply.{ReadReply}
@@ -101,7 +102,7 @@ found_readable setup tag replies at told is = go at.call at.reply is
     found : (a b : Bool) → cond a (Fails Torn []) (cond b (search_move setup (total_found replies) keys) Waits) ≡ Lists told → told ≡ []
     found true b e = cc
     found false false e = cc
-    found false true e = searched (nat_lt 16 (total_found replies)) (total_found replies == 0) e
+    found false true e = searched (nat_lt max_found (total_found replies)) (total_found replies == 0) e
 
     read : (call : Call) (reply : Option Reply) → read_move setup keys replies (carries tag) call reply ≡ Lists told → (told ≡ []) ⊎ IsReadable keys replies
     read call reply e = inr (readable_of setup keys replies (carries tag) (Lists told) call reply tt e)

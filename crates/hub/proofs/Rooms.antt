@@ -8,6 +8,7 @@ use Rattle.tenant_sessions.specs.declared.session.ClientSession.{ClientSession}
 use Rattle.std.specs.VecDeque.{deque_capacity, deque_len}
 use Rattle.plain_store.specs.History.{Intent as Asked}
 use Rattle.std.proofs.lemmas.List.{length-map}
+use Rattle.stamps.specs.Limits.{max_keys}
 use Rattle.plain_store.proofs.BadKeys.{transaction_keys}
 use Rattle.plain_store.specs.Words.{Item, Key, Stamp}
 use Rattle.plain_store.specs.Run.{are_bad}
@@ -138,10 +139,10 @@ room_going_on queues move waiting left sends room = room_for_fewer (waiting + le
 
 -- ---- what a request makes room for
 
-few_items : (items : List Item) → are_bad (keys_written items) ≡ false → 2 * length items ≡ 2 * min (length items) 16
+few_items : (items : List Item) → are_bad (keys_written items) ≡ false → 2 * length items ≡ 2 * min (length items) max_keys
 few_items items good = let fits = (transaction_keys (keys_written items) good).at_most in omega (arith, fits, length-map items (λ (item : Item). item.key))
 
-few_keys : (keys : List Key) → are_bad keys ≡ false → 2 * length keys ≡ 2 * min (length keys) 16
+few_keys : (keys : List Key) → are_bad keys ≡ false → 2 * length keys ≡ 2 * min (length keys) max_keys
 few_keys keys good = let fits = (transaction_keys keys good).at_most in omega (arith, fits)
 
 -- what begins for it sends no more

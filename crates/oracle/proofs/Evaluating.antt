@@ -9,6 +9,7 @@ use Rattle.std.proofs.lemmas.List.Kept.{AllPairs-cons}
 use Rattle.std.proofs.lemmas.List.Sorted.{Contains-permutation}
 use Rattle.std.proofs.lemmas.Slice.Eq.{bytes_eq-Decides}
 use Rattle.stamps.specs.Key.{IsTransactionKeys, sorted_keys}
+use Rattle.stamps.specs.Limits.{max_keys}
 use Rattle.stamps.specs.WriteSet.{contains_key}
 use Rattle.stamps.proofs.SortLemmas.{sorted_keys-IsPermutation}
 use Rattle.plain_store.specs.Words.{Key, Tag, Setup}
@@ -91,11 +92,11 @@ keys_apart (key ∷ keys) none = by (contains_key keys key) refl none (keys_apar
 -- keys that are not bad are those of a transaction
 pub good_keys : (keys : List Key) → are_bad keys ≡ false → IsTransactionKeys keys
 good_keys keys good =
-    let some = or_left (length keys == 0) (nat_lt 16 (length keys) || one_twice keys) good in
-    let few = or_left (nat_lt 16 (length keys)) (one_twice keys) some.1 in
+    let some = or_left (length keys == 0) (nat_lt max_keys (length keys) || one_twice keys) good in
+    let few = or_left (nat_lt max_keys (length keys)) (one_twice keys) some.1 in
     record {
       not_empty = by (length keys) some.0;
-      at_most = ltb-false 16 (length keys) few.0;
+      at_most = ltb-false max_keys (length keys) few.0;
       distinct = keys_apart keys few.1;
     }
   where

@@ -1,6 +1,7 @@
--- For the evaluator's run: whoever takes a reply reads no more than 16 keys.
+-- For the evaluator's run: whoever takes a reply reads no more than `max_found` keys.
 use Rattle.std.proofs.Common.{◌≡◌, ℕ, ◌≤◌, List, [], ◌∷◌, ◌++◌, ◌⊎◌, inl, inr, refl, sym, subst, length, true, Option, Some, None, is_some, arith}
 use Rattle.std.specs.Prelude.{All}
+use Rattle.stamps.specs.Limits.{max_keys}
 use Rattle.plain_store.specs.Words.{◌∈◌, Key, Stamp, Setup, IsAct}
 use Rattle.plain_store.specs.declared.calls.Call.{Call}
 use Rattle.plain_store.specs.declared.calls.Call.TheVariants.{Prepare, Commit, Get, Found, Collect, Discard}
@@ -19,7 +20,7 @@ use Rattle.plain_store.proofs.Searches.{all_replied}
 use Rattle.plain_store.proofs.Served.{partitions_reply}
 use Rattle.oracle.specs.Words.{IsFew, ReadsFew, ReadersAreFew}
 
-found_few : (keys : List Key) (call : Call) → ((key : Key) (stamp : Option Stamp) → call ≡ Get key stamp → length keys ≤ 16) → IsFew keys call
+found_few : (keys : List Key) (call : Call) → ((key : Key) (stamp : Option Stamp) → call ≡ Get key stamp → length keys ≤ max_keys) → IsFew keys call
 found_few keys (Get key stamp) few = few key stamp refl
 found_few keys (Prepare version) few = tt
 found_few keys (Commit stamp) few = tt
@@ -49,7 +50,7 @@ reads_few setup history row message reply transaction known at e r wanted (Finds
         go (inr (inl s)) = subst IsReplied (sym s) is
         go (inr (inr n)) = absurd n
 
-    few : (key : Key) (stamp : Option Stamp) → message.call ≡ Get key stamp → length (all_keys_found replies) ≤ 16
+    few : (key : Key) (stamp : Option Stamp) → message.call ≡ Get key stamp → length (all_keys_found replies) ≤ max_keys
     few key stamp c =
         let own = (running_is history message.client transaction r).0 in
         let d = known.due transaction message own (at_is history row message at) (is_of_wanted history message transaction r wanted) in
@@ -59,7 +60,7 @@ reads_few setup history row message reply transaction known at e r wanted (Finds
         let none = (get_tells_none message key stamp is c).0 in
         omega (arith, before, none, total_push (taken_in history transaction) message, keys_few replies all)
 
--- whoever takes a reply in a run reads no more than 16 keys
+-- whoever takes a reply in a run reads no more than `max_found` keys
 pub readers_few : (setup : Setup) (steps : List Act) → All IsAct steps → ReadersAreFew (run setup [] steps)
 readers_few setup steps valid row message at replied transaction r wanted = go message.reply refl replied
   where

@@ -5,6 +5,7 @@ use Rattle.std.specs.Int.{w64, to_le_bytes}
 use Rattle.std.proofs.lemmas.Bool.{le-leb, le-ltb, lt-ltb, ne_eqb}
 use Rattle.std.proofs.lemmas.List.Concat.{flat_map-cons}
 use Rattle.stamps.specs.Key.{IsKey}
+use Rattle.stamps.specs.Limits.{max_keys}
 use Rattle.stamps.specs.WriteSet.{IsWriteSet}
 use Rattle.stamps.specs.Record.{Record}
 use Rattle.packed.specs.Packing.{packed_text, packed_keys, packed_record, IsStoreRecord}
@@ -29,9 +30,9 @@ writes_again keys rest h all =
     let some = h.not_empty in
     rw (
       ne_eqb (length keys) 0 (λ e. omega (arith, some, e)),
-      le-ltb 16 (length keys) h.at_most,
+      le-ltb max_keys (length keys) h.at_most,
       keys_again keys rest all,
-      le-leb (length keys) 16 h.at_most,
+      le-leb (length keys) max_keys h.at_most,
       ascending_to keys h.ascending,
     ) refl
 

@@ -4,7 +4,7 @@ use Rattle.std.specs.Int.{w64, to_le_bytes, from_le_bytes}
 use Rattle.std.proofs.lemmas.Bool.{ne_eqb, le-leb, le-ltb, lt-ltb, cases_lt}
 use Rattle.std.proofs.lemmas.List.{take_at, drop_at, length-append}
 use Rattle.std.proofs.lemmas.Nat.{from_le_bytes-to_le_bytes_8}
-use Rattle.stamps.specs.Limits.{max_counter}
+use Rattle.stamps.specs.Limits.{max_key_len, max_tag_len, max_value_len, max_counter}
 use Rattle.stamps.specs.Text.{is_name_byte, is_visible_byte}
 use Rattle.stamps.specs.Stamp.{counter_of, client_of, IsStamp}
 use Rattle.stamps.specs.Key.{IsKey}
@@ -74,12 +74,12 @@ text_again text rest =
 
 pub key_again : (key rest : List ℕ) → IsKey key → key_at (packed_text key ++ rest) ≡ Some (key, rest)
 unfolding key_at
-key_again key rest h = rw (text_again key rest, text_from-is is_name_byte 1 32 key h) refl
+key_again key rest h = rw (text_again key rest, text_from-is is_name_byte 1 max_key_len key h) refl
 
 pub tag_again : (tag rest : List ℕ) → IsTag tag → tag_at (packed_text tag ++ rest) ≡ Some (tag, rest)
 unfolding tag_at
-tag_again tag rest h = rw (text_again tag rest, text_from-is is_name_byte 0 16 tag h) refl
+tag_again tag rest h = rw (text_again tag rest, text_from-is is_name_byte 0 max_tag_len tag h) refl
 
 pub value_again : (value rest : List ℕ) → IsValue value → value_at (packed_text value ++ rest) ≡ Some (value, rest)
 unfolding value_at
-value_again value rest h = rw (text_again value rest, text_from-is is_visible_byte 0 128 value h) refl
+value_again value rest h = rw (text_again value rest, text_from-is is_visible_byte 0 max_value_len value h) refl

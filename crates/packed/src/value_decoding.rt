@@ -1,6 +1,7 @@
 //! What was packed, from the front of the bytes, and the bytes behind it.
 ghost use Rattle.std.specs.Prelude.{◌≡◌, ◌<◌, ◌≤◌, length, IfNone};
 ghost use Rattle.std.specs.Option.{option_map};
+ghost use Rattle.stamps.specs.Limits.{max_keys};
 ghost use Rattle.packed.specs.Reading.{byte_at, wide_at, number_at, count_at, text_at, stamp_from, stamp_at, key_from, tag_from, value_from, key_at, tag_at, value_at, writes_of, writes_from, writes_at, record_from, record_at};
 
 use stamps::{Key, Record, Stamp, Tag, Value, WriteSet};
@@ -141,7 +142,7 @@ fn writes_from(keys: &[Key]) -> Option<WriteSet>
 // So many keys.
 fn writes_of(count: usize, bytes: &[u8]) -> Option<(WriteSet, &[u8])>
     requires some { 0 < count }
-    requires few { count ≤ 16 }
+    requires few { count ≤ max_keys }
     ensures { option_map (λ p. (p.0, p.1.now)) result ≡ writes_of count bytes.now }
 {
     let (text, after_first) = text_at(bytes)?;

@@ -5,6 +5,7 @@ use Rattle.std.specs.List.{flat_map}
 use Rattle.std.proofs.lemmas.Bool.{le-ltb}
 use Rattle.stamps.specs.Stamp.{IsStamp}
 use Rattle.stamps.specs.Key.{IsKey}
+use Rattle.stamps.specs.Limits.{max_keys}
 use Rattle.plain_store.specs.Numbers.{number_of, refusal_of}
 use Rattle.plain_store.specs.declared.reading.Reading.{Reading}
 use Rattle.plain_store.specs.declared.calls.Reply.{Reply}
@@ -58,7 +59,7 @@ readings_again readings rest h =
     ap readings_at (append_assoc (packed_number (length readings)) others rest)
     ∙ rw (
       number_again (length readings) (others ++ rest) (omega (arith, few)),
-      le-ltb 16 (length readings) h.few,
+      le-ltb max_keys (length readings) h.few,
       many_again reading_at packed_reading IsStoreReading reading_again readings rest h.each,
     ) refl
 

@@ -3,6 +3,7 @@ use Rattle.std.proofs.Common.{◌≡◌, ℕ, ◌^◌, ◌<◌, cond, eqb, ltb, 
 use Rattle.std.specs.List.{AllByRecursion}
 use Rattle.std.proofs.lemmas.Bool.{ne_eqb, lt-ltb, cases_lt}
 use Rattle.stamps.specs.Key.{IsKey}
+use Rattle.stamps.specs.Limits.{max_found}
 use Rattle.stamps.specs.WriteSet.{IsWriteSet}
 use Rattle.plain_store.specs.FoundKeys.{Findings, IsFound}
 use Rattle.plain_store.specs.declared.calls.Reply.{Reply}
@@ -21,14 +22,14 @@ use Rattle.packed.proofs.Records.{record_again, writes_again}
 
 write_set : (count : ℕ) (keys : List (List ℕ)) → 0 < count → IsFound (record { count = count; keys = keys }) → IsWriteSet keys
 write_set count keys some h =
-    let as_many : length keys ≡ min count 16 = h.as_many in
+    let as_many : length keys ≡ min count max_found = h.as_many in
     record { not_empty = omega (arith, some, as_many); at_most = omega (arith, as_many); ascending = h.ascending }
 
 some_found_again : (count : ℕ) (keys : List (List ℕ)) (rest : List ℕ) → 0 < count → IsFound (record { count = count; keys = keys }) → AllByRecursion IsKey keys
     → some_found_at count (packed_keys keys ++ rest) ≡ Some (record { count = count; keys = keys }, rest)
 unfolding some_found_at
 some_found_again count keys rest some h all =
-    rw (writes_again keys rest (write_set count keys some h) all, eq-eqb (length keys) (min count 16) h.as_many) refl
+    rw (writes_again keys rest (write_set count keys some h) all, eq-eqb (length keys) (min count max_found) h.as_many) refl
 
 abbrev keys_part : ℕ → List (List ℕ) → List ℕ
 keys_part count keys = cond (ltb 0 count) (packed_keys keys) []
@@ -51,7 +52,7 @@ behind_again count keys rest h all =
       | inl above ↦ rw (lt-ltb 0 count above, ne_eqb count 0 (λ e. omega (arith, above, e))) (some_found_again count keys rest above h all)
       | inr le ↦
           let none : count ≡ 0 = omega (arith, le) in
-          let as_many : length keys ≡ min count 16 = h.as_many in
+          let as_many : length keys ≡ min count max_found = h.as_many in
           let empty : keys ≡ [] = no_keys keys (omega (arith, as_many, none)) in
           rw (none, empty) refl
     ]

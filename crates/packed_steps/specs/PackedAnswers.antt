@@ -63,7 +63,7 @@ reading_at bytes = do
   stamp ← stamp_at item.1
   Some (record { item = item.0; stamp = stamp.0 }, stamp.1)
 
--- at most 16
+-- at most `max_keys`
 unfoldable pub readings_at : List ℕ → Option (List Reading × List ℕ)
 readings_at bytes = do
   count ← number_at bytes

@@ -1,6 +1,7 @@
 //! The answers that were packed, from the front of the bytes, and the bytes behind each.
 ghost use Rattle.std.specs.Prelude.{◌≡◌, ◌<◌, ◌≤◌};
 ghost use Rattle.std.specs.Option.{option_map};
+ghost use Rattle.stamps.specs.Limits.{max_keys};
 ghost use Rattle.packed.specs.Packing.{IsReadAgain};
 ghost use Rattle.packed_steps.specs.Lists.{many_at};
 ghost use Rattle.packed_steps.specs.PackedAnswers.{packed_answer, IsStoreAnswer, rows_at, refusal_at, reading_at, readings_at, refused_at, ready_at, put_begun_at, decided_at, replied_at, done_at, read_at, listed_at, restart_at, ended_at, ended_with_at, freed_answer_at, keeps_at, get_begun_at, find_begun_at, ask_at, begins_read_at, sent_at, plain_answer, plain_answer_by, rows_answer_by, other_answer_by, answer_by, answer_at};
@@ -66,7 +67,7 @@ fn filler() -> Reading {
 
 // So many readings.
 fn readings_of(count: usize, bytes: &[u8]) -> Option<(Readings, &[u8])>
-    requires { count ≤ 16 }
+    requires { count ≤ max_keys }
     ensures { option_map (λ p. (p.0, p.1.now)) result ≡ many_at reading_at count bytes.now }
 {
     let mut readings = [filler(); Readings::MAX_LEN];
@@ -88,7 +89,7 @@ pub fn read_readings(bytes: &[u8]) -> Option<(Readings, &[u8])>
     ensures { option_map (λ p. (p.0, p.1.now)) result ≡ readings_at bytes.now }
 {
     let (count, rest) = read_number(bytes)?;
-    if count > 16 {
+    if count > Readings::MAX_LEN as u64 {
         return None;
     }
     readings_of(count as usize, rest)

@@ -1,6 +1,7 @@
 -- What agrees in a book: each tenant's cell, its journal and its table of last numbers, and the counts of events.
 use Rattle.std.specs.Prelude.{◌≡◌, ◌<◌, ◌≤◌, ◌+◌, ◌++◌, ◌^◌, ℕ, nat_eq}
 use Rattle.std.specs.Prelude.{List, length, Option, Some, None, slice_get, All}
+use Rattle.stamps.specs.Limits.{max_tenants}
 use Rattle.indexmap.specs.IndexMap.{IndexMap, IsUnique, get}
 use Rattle.plain_store.specs.Log.{Log}
 use Rattle.prepare_commit.specs.Bases.{Leaves, HasLog}
@@ -38,7 +39,7 @@ IsCounted account = (account.start.before ≤ 2 ^ 62) × (account.start.number �
 pub record IsBook {S : Type 0} (cells : ShelfCells) (accounts : List Account) (tables : List (IndexMap ℕ ℕ S))
     (of_seats of_collector : ℕ) : Type 0 where
   pub as_many : tenants cells ≡ length accounts
-  pub few : length accounts ≤ 64
+  pub few : length accounts ≤ max_tenants
   pub short : (tenant : ℕ) (account : Account) → slice_get accounts tenant ≡ Some account
       → length account.events < 2 ^ 63
   pub counted : (tenant : ℕ) (account : Account) → slice_get accounts tenant ≡ Some account → IsCounted account

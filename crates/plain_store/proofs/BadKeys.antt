@@ -7,6 +7,7 @@ use Rattle.std.proofs.lemmas.Slice.Eq.{bytes_eq-Decides}
 use Rattle.std.proofs.lemmas.List.Elements.{All-nil, All-cons}
 use Rattle.std.proofs.lemmas.List.Kept.{AllPairs-cons}
 use Rattle.stamps.specs.Key.{IsTransactionKeys}
+use Rattle.stamps.specs.Limits.{max_keys}
 use Rattle.stamps.specs.WriteSet.{contains_key}
 use Rattle.plain_store.specs.Run.{one_twice, are_bad}
 
@@ -54,17 +55,17 @@ distinct_from (k ∷ ks) none =
 pub good_keys : (keys : List (List ℕ)) → IsTransactionKeys keys → are_bad keys ≡ false
 good_keys keys good =
     or_false (length keys == 0) _ (ne_eqb (length keys) 0 (λ none. omega (arith, good.not_empty)))
-    (or_false (nat_lt 16 (length keys)) (one_twice keys) (le-ltb 16 (length keys) good.at_most) (once keys good.distinct))
+    (or_false (nat_lt max_keys (length keys)) (one_twice keys) (le-ltb max_keys (length keys) good.at_most) (once keys good.distinct))
 
 -- what is not refused are a transaction's keys
 pub transaction_keys : (keys : List (List ℕ)) → are_bad keys ≡ false → IsTransactionKeys keys
 transaction_keys keys accepted =
-    let first = or_parts (length keys == 0) (nat_lt 16 (length keys) || one_twice keys) accepted in
-    let second = or_parts (nat_lt 16 (length keys)) (one_twice keys) first.1 in
+    let first = or_parts (length keys == 0) (nat_lt max_keys (length keys) || one_twice keys) accepted in
+    let second = or_parts (nat_lt max_keys (length keys)) (one_twice keys) first.1 in
     let some : length keys ≡ 0 → ⊥ = eqb-false (length keys) 0 first.0 in
     record {
       not_empty = omega arith;
-      at_most = ltb-false 16 (length keys) second.0;
+      at_most = ltb-false max_keys (length keys) second.0;
       distinct = distinct_from keys second.1;
     }
 

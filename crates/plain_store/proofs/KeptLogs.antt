@@ -21,6 +21,7 @@ use Rattle.plain_store.proofs.Seen.{in_sorted}
 use Rattle.plain_store.proofs.Sound.{IsRecordOf, SoundCall, SoundFirst, SoundSecond, SoundReply, Sound}
 use Rattle.std.specs.Prelude.{bytes_eq, Option}
 use Rattle.stamps.specs.Bounds.{IsClient}
+use Rattle.stamps.specs.Limits.{max_found}
 use Rattle.stamps.specs.Stamp.{counter_of, client_of}
 use Rattle.stamps.specs.RecordLaws.{record_eq-Decides}
 use Rattle.stamps.specs.WriteSet.{contains_key}
@@ -287,7 +288,7 @@ reply_sound setup history message (Get key (Some stamp)) kept s =
 reply_sound setup history message (Found tag) kept s =
     λ key h.
     let log = log_at setup history message.partition in
-    let v = under_version log tag key (in_sorted (under log tag) key (in_take 16 (sorted_keys (under log tag)) key h)) in
+    let v = under_version log tag key (in_sorted (under log tag) key (in_take max_found (sorted_keys (under log tag)) key h)) in
     ap (home setup) (sym v.2) ∙ sym (log_record setup history message.partition v.0 kept v.1).1
 reply_sound setup history message (Collect keep) kept s = absurd s
 reply_sound setup history message (Discard stamp) kept s = tt

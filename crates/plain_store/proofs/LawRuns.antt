@@ -22,6 +22,7 @@ use Rattle.plain_store.proofs.Served.{Counted, LogsOf, logs_step, logs_at_first,
 use Rattle.plain_store.proofs.SearchesAsk.{Due, due_step}
 use Rattle.plain_store.proofs.Searches.{FewTold, few_step, ToldOnce, once_step}
 use Rattle.std.proofs.lemmas.Bool.{or_parts, ltb-false}
+use Rattle.stamps.specs.Limits.{max_keys}
 use Rattle.plain_store.proofs.Told.{step_told, step_full}
 use Rattle.plain_store.proofs.Newest.{ReadWhole, whole_step, step_newest}
 use Rattle.plain_store.proofs.Runs.{first_act, act_at}
@@ -39,11 +40,11 @@ accepted_step setup older act accepted transaction keys own e = go (begun_cases 
         let r : n.0.1 ≡ Gets keys = ap (λ (t : Transaction). t.request) (sym n.2) ∙ e in
         accepted_keys setup older act n.0.0 keys (n.1 ∙ ap (λ x. Some (n.0.0, x)) r)
 
--- they are no more than 16, and different
-pub accepted_are : (keys : List Key) → are_bad keys ≡ false → (length keys ≤ 16) × (one_twice keys ≡ false)
+-- they are no more than `max_keys`, and different
+pub accepted_are : (keys : List Key) → are_bad keys ≡ false → (length keys ≤ max_keys) × (one_twice keys ≡ false)
 accepted_are keys e =
-    let parts = or_parts (nat_lt 16 (length keys)) (one_twice keys) (or_parts (length keys == 0) (nat_lt 16 (length keys) || one_twice keys) e).1 in
-    (ltb-false 16 (length keys) parts.0, parts.1)
+    let parts = or_parts (nat_lt max_keys (length keys)) (one_twice keys) (or_parts (length keys == 0) (nat_lt max_keys (length keys) || one_twice keys) e).1 in
+    (ltb-false max_keys (length keys) parts.0, parts.1)
 
 -- all that is kept
 pub record Known (setup : Setup) (history : History) : Type 0 where

@@ -15,6 +15,7 @@ use Rattle.plain_store.specs.Finding.{below, found_calls, keys_found, says_found
 use Rattle.std.proofs.lemmas.List.Concat.{flat_map-append}
 use Rattle.std.specs.Prelude.{flat_map}
 use Rattle.stamps.specs.Key.{sorted_keys}
+use Rattle.stamps.specs.Limits.{max_found}
 use Rattle.plain_store.proofs.SearchesAsk.{IsReplied, found_answered, found_more}
 use Rattle.plain_store.proofs.Searches.{IsOnce}
 use Rattle.plain_store.proofs.Stamps.{is_key}
@@ -204,7 +205,7 @@ search_begins setup tag replies partition g (Some (ToFound told)) = go (list_any
 
     whole : (b : Bool) → (calls_made (cond b (search_move setup (total_found replies) (all_keys_found replies)) Waits) ≡ [])
         ⊎ ((b ≡ true) × (calls_made (cond b (search_move setup (total_found replies) (all_keys_found replies)) Waits) ≡ first_calls setup (all_keys_found replies)))
-    whole true = both (searched (nat_lt 16 (total_found replies)) (total_found replies == 0))
+    whole true = both (searched (nat_lt max_found (total_found replies)) (total_found replies == 0))
     whole false = inl refl
 
     go : (b : Bool) → (calls_made (cond b (Fails Torn []) (cond (all_found setup replies) (search_move setup (total_found replies) (all_keys_found replies)) Waits)) ≡ [])

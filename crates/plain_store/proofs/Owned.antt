@@ -10,6 +10,7 @@ use Rattle.plain_store.specs.Moves.{Move, Waits, Decides, Finishes, Asks, Begins
 use Rattle.plain_store.specs.Run.{call_message, with_reply, begins, next_stamp, is_decided}
 use Rattle.plain_store.proofs.Members.{in_left, in_right, in_cases, in_map, map_in, in_filter}
 use Rattle.std.proofs.lemmas.Bool.{cases_lt}
+use Rattle.stamps.specs.Limits.{max_found}
 use Rattle.plain_store.proofs.Steps.{Happens, refused, greeted, put_begun, get_begun, find_begun, served, ignored, moved, lost, not_resent, resent, stopped, keep_set, collected}
 use Rattle.plain_store.proofs.StaysTrue.{at_is, running_is, transaction_stays}
 use Rattle.plain_store.proofs.Sound.{of_transaction, written_home}
@@ -183,7 +184,7 @@ find_own : (setup : Setup) (tag : Tag) (replies : List Message) (partition : ℕ
 find_own setup tag replies partition (Found g) (Some (ToFound told)) = go (list_any (λ key. not (home setup key == partition)) told.keys)
   where
     whole : (b : Bool) → AreOwn setup (Finds tag) (calls_made (cond b (search_move setup (total_found replies) (all_keys_found replies)) Waits))
-    whole true = search_own setup tag (all_keys_found replies) (nat_lt 16 (total_found replies)) (total_found replies == 0)
+    whole true = search_own setup tag (all_keys_found replies) (nat_lt max_found (total_found replies)) (total_found replies == 0)
     whole false = none_own setup (Finds tag) [] refl
 
     go : (b : Bool) → AreOwn setup (Finds tag) (calls_made (cond b (Fails Torn []) (cond (all_found setup replies) (search_move setup (total_found replies) (all_keys_found replies)) Waits)))

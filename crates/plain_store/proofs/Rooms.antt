@@ -10,6 +10,7 @@ use Rattle.std.proofs.lemmas.List.Sorted.{length_permutation}
 use Rattle.std.proofs.lemmas.List.Sums.{length-filter, count_by-le-length}
 use Rattle.std.proofs.lemmas.Slice.Eq.{bytes_eq-Decides}
 use Rattle.stamps.specs.Key.{IsKeyBelow, sorted_keys}
+use Rattle.stamps.specs.Limits.{max_found}
 use Rattle.stamps.proofs.SortLemmas.{sorted_keys-IsAscending, sorted_keys-IsPermutation}
 use Rattle.plain_store.specs.Words.{Key, Tag, Record, Room, Call, Prepare, Commit, Get, Found, Collect, Discard, PrepareReply, Prepared, FullSlots, FullItems, Discarded, Reply, ToPrepare}
 use Rattle.plain_store.specs.Stamps.{kth_greatest}
@@ -56,8 +57,8 @@ findings-IsFound log tag =
     let keys = under log tag in
     let apart : AllPairs (λ j k. j ≢ k) keys = AllPairs-filter (λ j k. j ≢ k) (is_under log tag) (items log) (items-apart log) in
     record {
-      ascending = AllPairs-take IsKeyBelow 16 (sorted_keys keys) (sorted_keys-IsAscending keys apart);
-      as_many = omega (arith, length-take 16 (sorted_keys keys), length_permutation keys (sorted_keys keys) (sorted_keys-IsPermutation keys));
+      ascending = AllPairs-take IsKeyBelow max_found (sorted_keys keys) (sorted_keys-IsAscending keys apart);
+      as_many = omega (arith, length-take max_found (sorted_keys keys), length_permutation keys (sorted_keys keys) (sorted_keys-IsPermutation keys));
     }
 
 -- ---- slots

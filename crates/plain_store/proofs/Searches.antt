@@ -1,4 +1,4 @@
--- A search sends no GET before each partition has told, reads no more than 16 keys, and is reported once by each partition.
+-- A search sends no GET before each partition has told, reads no more than `max_found` keys, and is reported once by each partition.
 use Rattle.std.proofs.Common.{◌≡◌, ℕ, ◌+◌, ◌≤◌, List, [], ◌∷◌, ◌++◌, Bool, true, false, ◌&&◌, ◌==◌, ◌⊎◌, inl, inr, refl, sym, ap, ◌∙◌, subst, cond, not, take, drop, take-append-drop, count_by, bytes_eq, nat_lt, Option, Some, None, arith, eq-eqb}
 use Rattle.std.specs.Prelude.{flat_map}
 use Rattle.std.specs.List.{list_any}
@@ -19,6 +19,7 @@ use Rattle.plain_store.proofs.Counts.{count_of, count_append, count_key}
 use Rattle.plain_store.proofs.Stamps.{key_is}
 use Rattle.plain_store.proofs.BadKeys.{once}
 use Rattle.stamps.specs.Key.{insert_key, key_cmp}
+use Rattle.stamps.specs.Limits.{max_found}
 use Rattle.std.specs.Ordering.{is_lt}
 use Rattle.plain_store.specs.Log.{items}
 use Rattle.plain_store.specs.Tags.{is_under, under}
@@ -34,13 +35,13 @@ use Rattle.plain_store.specs.Laws.{IsCallOf}
 use Rattle.plain_store.proofs.Served.{Logged, TakenReplies, partitions_reply}
 use Rattle.plain_store.proofs.SearchesAsk.{Due, IsDue, IsReplied, TakesNow, found_call, get_tells_none, replied_by, search_told, taken_new, taking_cases, total_push}
 
--- ---- a search reads no more than 16 keys
+-- ---- a search reads no more than `max_found` keys
 
--- a running search that every partition told was reported of no more than 16
+-- a running search that every partition told was reported of no more than `max_found`
 abbrev pub FewTold : Setup → History → Type 0
 FewTold setup history =
     (client : ℕ) (transaction : Transaction) (tag : Tag) → running history client ≡ Some transaction → transaction.request ≡ Finds tag → all_found setup (taken_in history transaction) ≡ true
-    → total_found (taken_in history transaction) ≤ 16
+    → total_found (taken_in history transaction) ≤ max_found
 
 -- a turn ends its transaction where its answer is a last one
 turn_ends : (older : History) (row : ℕ) (transaction : Transaction) (move : Move) (client : ℕ) → is_by client (message_at older row) ≡ true
@@ -53,21 +54,21 @@ turn_ends older row transaction (Fails why []) client mine = mine
 turn_ends older row transaction (Fails why (out ∷ outs)) client mine = mine
 turn_ends older row transaction _ client mine = refl
 
--- the last tale ends a search that found more than 16
+-- the last tale ends a search that found more than `max_found`
 few_told : (setup : Setup) (older : History) (act : Act) (transaction : Transaction) (tag : Tag) (replies : List Message) (partition : ℕ) (g : Tag) (told : Findings)
-    → is_last (moves older act transaction (find_move setup tag replies partition (Found g) (Some (ToFound told)))).answer ≡ false → all_found setup replies ≡ true → total_found replies ≤ 16
+    → is_last (moves older act transaction (find_move setup tag replies partition (Found g) (Some (ToFound told)))).answer ≡ false → all_found setup replies ≡ true → total_found replies ≤ max_found
 few_told setup older act transaction tag replies partition g told goes_on all = go (list_any (λ key. not (home setup key == partition)) told.keys) goes_on
   where
-    few : (b : Bool) → nat_lt 16 (total_found replies) ≡ b → is_last (moves older act transaction (cond b (Fails TooMany []) (cond (total_found replies == 0) (Lists []) (Begins (first_calls setup (all_keys_found replies)))))).answer ≡ false
-        → total_found replies ≤ 16
+    few : (b : Bool) → nat_lt max_found (total_found replies) ≡ b → is_last (moves older act transaction (cond b (Fails TooMany []) (cond (total_found replies == 0) (Lists []) (Begins (first_calls setup (all_keys_found replies)))))).answer ≡ false
+        → total_found replies ≤ max_found
     few true e k = cc
-    few false e k = ltb-false 16 (total_found replies) e
+    few false e k = ltb-false max_found (total_found replies) e
 
-    whole : (b : Bool) → b ≡ true → is_last (moves older act transaction (cond b (search_move setup (total_found replies) (all_keys_found replies)) Waits)).answer ≡ false → total_found replies ≤ 16
-    whole true e k = few (nat_lt 16 (total_found replies)) refl k
+    whole : (b : Bool) → b ≡ true → is_last (moves older act transaction (cond b (search_move setup (total_found replies) (all_keys_found replies)) Waits)).answer ≡ false → total_found replies ≤ max_found
+    whole true e k = few (nat_lt max_found (total_found replies)) refl k
     whole false e k = cc
 
-    go : (b : Bool) → is_last (moves older act transaction (cond b (Fails Torn []) (cond (all_found setup replies) (search_move setup (total_found replies) (all_keys_found replies)) Waits))).answer ≡ false → total_found replies ≤ 16
+    go : (b : Bool) → is_last (moves older act transaction (cond b (Fails Torn []) (cond (all_found setup replies) (search_move setup (total_found replies) (all_keys_found replies)) Waits))).answer ≡ false → total_found replies ≤ max_found
     go true k = cc
     go false k = whole (all_found setup replies) all k
 
@@ -80,14 +81,14 @@ pub few_step : (setup : Setup) (older : History) (m : Moment) → Kept setup old
     → IsQuiet m ⊎ IsTurn setup older m → FewTold setup (m ∷ older)
 few_step setup older m kept fresh owned logged due few way client transaction tag r asks all = go (running_cases m older client transaction r)
   where
-    go : IsRunning older m client transaction ⊎ NewBegun older m transaction → total_found (taken_in (m ∷ older) transaction) ≤ 16
-    go (inr n) = subst (λ (qs : List Message). total_found qs ≤ 16) (sym (taken_new setup m older transaction fresh n)) (omega arith)
+    go : IsRunning older m client transaction ⊎ NewBegun older m transaction → total_found (taken_in (m ∷ older) transaction) ≤ max_found
+    go (inr n) = subst (λ (qs : List Message). total_found qs ≤ max_found) (sym (taken_new setup m older transaction fresh n)) (omega arith)
     go (inl (was, stays)) = by (taking_cases setup m older transaction kept (running_is older client transaction was).0 way)
       where
-        by : (taken_in (m ∷ older) transaction ≡ taken_in older transaction) ⊎ TakesNow setup m older transaction → total_found (taken_in (m ∷ older) transaction) ≤ 16
-        by (inl same) = subst (λ (qs : List Message). total_found qs ≤ 16) (sym same) (few client transaction tag was asks (ap (all_found setup) (sym same) ∙ all))
+        by : (taken_in (m ∷ older) transaction ≡ taken_in older transaction) ⊎ TakesNow setup m older transaction → total_found (taken_in (m ∷ older) transaction) ≤ max_found
+        by (inl same) = subst (λ (qs : List Message). total_found qs ≤ max_found) (sym same) (few client transaction tag was asks (ap (all_found setup) (sym same) ∙ all))
         by (inr (row, message, reply, at, e, runs, wanted, of, moves_so, more)) =
-            subst (λ (qs : List Message). total_found qs ≤ 16) (sym more)
+            subst (λ (qs : List Message). total_found qs ≤ max_found) (sym more)
             (one message.call refl (subst (λ (q : Intent). IsCallOf setup q message.partition message.call) asks (owned transaction message own (at_is older row message at) of))
             (subst (λ (q : Intent). IsDue setup q (taken_in older transaction) message.call) asks (due transaction message own (at_is older row message at) of)))
           where
@@ -116,7 +117,7 @@ few_step setup older m kept fresh owned logged due few way client transaction ta
                 still true k = cc
                 still false k = refl
 
-            one : (call : Call) → message.call ≡ call → IsCallOf setup (Finds tag) message.partition call → IsDue setup (Finds tag) (taken_in older transaction) call → total_found replies ≤ 16
+            one : (call : Call) → message.call ≡ call → IsCallOf setup (Finds tag) message.partition call → IsDue setup (Finds tag) (taken_in older transaction) call → total_found replies ≤ max_found
             one (Found g) c goes d =
                 let told = search_told message g is c in
                 few_told setup older (Deliver row) transaction tag replies message.partition g told.0
@@ -216,7 +217,7 @@ found_once log tag key =
     let test = λ (x : Key). bytes_eq x key in
     let one = count_key (items log) key (once (items log) (items-apart log)) in
     let fewer = count_by-le (λ (x : Key). is_under log tag x && test x) test (items log) (λ x t. (and_parts (is_under log tag x) (test x) t).1) in
-    omega (arith, one, fewer, count_by-filter test (is_under log tag) (items log), count_sorted key (under log tag), count_take key 16 (sorted_keys (under log tag)))
+    omega (arith, one, fewer, count_by-filter test (is_under log tag) (items log), count_sorted key (under log tag), count_take key max_found (sorted_keys (under log tag)))
 
 -- the keys of a reply are reported at their home
 abbrev pub IsFoundAtHome : Setup → Message → Type 0

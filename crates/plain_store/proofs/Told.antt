@@ -2,6 +2,7 @@
 use Rattle.std.proofs.Common.{◌≡◌, ℕ, List, [], ◌∷◌, ◌++◌, Bool, true, false, ◌&&◌, ◌==◌, ◌⊎◌, inl, inr, refl, sym, ap, ◌∙◌, subst, cond, not, nat_lt, Option, Some, None}
 use Rattle.std.specs.List.{list_any}
 use Rattle.std.proofs.lemmas.Bool.{and_parts}
+use Rattle.stamps.specs.Limits.{max_found}
 use Rattle.plain_store.specs.Words.{◌∈◌, Key, Tag, Stamp, Item, Call, Prepare, Commit, Get, Found, Prepared, FullSlots, FullItems, Clash, Discarded, ReadReply, Version, Initial, Collected, Unknown, Reply, ToPrepare, ToCommit, ToGet, ToFound, Act, Deliver, Message, Refusal, NoSlot, NoItem, Torn, TooMany, Reading, Answer, Read, Listed, Restart, Setup, home}
 use Rattle.plain_store.specs.History.{Moment, History, messages, message_at, log_at, Intent, Writes, Gets, Finds, Transaction, transactions, is_move, is_of, taken_in, running}
 use Rattle.plain_store.specs.Writing.{Outgoing, all_prepared, all_committed, commit_calls}
@@ -109,7 +110,7 @@ find_says setup tag replies message partition (Found g) (Some (ToFound told)) = 
     searched false false = tt
 
     whole : (b : Bool) → Says setup (Finds tag) replies message (cond b (search_move setup (total_found replies) (all_keys_found replies)) Waits)
-    whole true = searched (nat_lt 16 (total_found replies)) (total_found replies == 0)
+    whole true = searched (nat_lt max_found (total_found replies)) (total_found replies == 0)
     whole false = tt
 
     go : (b : Bool) → Says setup (Finds tag) replies message (cond b (Fails Torn []) (cond (all_found setup replies) (search_move setup (total_found replies) (all_keys_found replies)) Waits))

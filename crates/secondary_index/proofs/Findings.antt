@@ -16,6 +16,7 @@ use Rattle.std.proofs.lemmas.List.Elements.{All-nil, All-cons}
 use Rattle.std.proofs.lemmas.List.Kept.{AllPairs-cons, AllPairs-filter}
 use Rattle.std.proofs.lemmas.List.Sorted.{Contains-permutation, IsPermutation-sym, length_permutation}
 use Rattle.stamps.specs.Key.{key_cmp, IsKeyBelow, IsAscending, sorted_keys}
+use Rattle.stamps.specs.Limits.{max_found}
 use Rattle.stamps.proofs.KeyLemmas.{key_cmp_total, key_cmp-Equal, below_from_lt, IsAscending-distinct}
 use Rattle.stamps.proofs.SortLemmas.{ascending_unique, sorted_keys-IsPermutation, sorted_keys-IsAscending}
 use Rattle.plain_store.specs.Words.{Key, Tag, is_tagged}
@@ -115,7 +116,7 @@ same_findings xs ys dx dy forth back =
     (λ k i. Contains-permutation ys (sorted_keys ys) k py (Contains-from_In ys k (forth k (In-from_Contains xs k (Contains-permutation (sorted_keys xs) xs k (IsPermutation-sym _ _ px) i)))))
     (λ k i. Contains-permutation xs (sorted_keys xs) k px (Contains-from_In xs k (back k (In-from_Contains ys k (Contains-permutation (sorted_keys ys) ys k (IsPermutation-sym _ _ py) i))))) in
     let long : length xs ≡ length ys = sym (length_permutation xs (sorted_keys xs) px) ∙ ap length same ∙ length_permutation ys (sorted_keys ys) py in
-    λ i. record { count = long i; keys = take 16 (same i) }
+    λ i. record { count = long i; keys = take max_found (same i) }
 
 -- Where an index reports of each key what `look` reports, and whichever distinct keys are listed that have all which carry the tag:
 -- what the index reports of the tag is what those of the list that carry it give.

@@ -14,6 +14,7 @@ use Rattle.std.proofs.lemmas.List.Filters.{length-filter_both}
 use Rattle.std.proofs.lemmas.List.Kept.{AllPairs-cons}
 use Rattle.std.proofs.lemmas.List.Sorted.{IsPermutation-refl}
 use Rattle.stamps.specs.Key.{key_cmp, IsKeyBelow, IsAscending}
+use Rattle.stamps.specs.Limits.{max_found}
 use Rattle.stamps.proofs.KeyLemmas.{key_cmp_total, IsAscending-distinct}
 use Rattle.stamps.proofs.SortLemmas.{sorted_keys-from_sort}
 use Rattle.plain_store.specs.Words.{Key, Tag, Findings}
@@ -114,31 +115,31 @@ module _ (entries : List TaggedKey) (pairs : List Pair) (holds : Holds entries p
       let there = pair_found pairs own (holds.members own ∙ h) in
       map-In (λ (p : Pair). p.key) own (filter (λ (p : Pair). bytes_eq p.tag tag) pairs) (filter-In (λ (p : Pair). bytes_eq p.tag tag) own pairs there ((bytes_eq-Decides tag tag).1 refl))
 
-  pub paired_findings : ◌≡◌ {A = Findings} (record { count = length (paired_keys tag pairs); keys = take 16 (paired_keys tag pairs) }) (findings_of (keys_under (tags_of entries) tag))
+  pub paired_findings : ◌≡◌ {A = Findings} (record { count = length (paired_keys tag pairs); keys = take max_found (paired_keys tag pairs) }) (findings_of (keys_under (tags_of entries) tag))
   paired_findings =
       let own = sorted_keys-from_sort (paired_keys tag pairs) (paired_keys tag pairs) (IsPermutation-refl _) keys_ascend in
-      (λ i. record { count = length (paired_keys tag pairs); keys = take 16 (own i) })
+      (λ i. record { count = length (paired_keys tag pairs); keys = take max_found (own i) })
       ∙ same_findings (paired_keys tag pairs) (keys_under (tags_of entries) tag) (IsAscending-distinct _ keys_ascend) (IsAscending-distinct _ (under_ascends (tags_of entries) tag))
       (λ key i. carries_under (tags_of entries) tag key (paired_carries key i)) (λ key i. carries_paired key (under_carries (tags_of entries) tag key i))
 
   -- the count, and the keys that were copied
-  module _ (under : List Pair) (count told : ℕ) (keys : List Key) (under_is : under ≡ filter (λ (p : Pair). bytes_eq p.tag tag) pairs) (count_is : count ≡ length under) (told_is : told ≡ min count 16)
+  module _ (under : List Pair) (count told : ℕ) (keys : List Key) (under_is : under ≡ filter (λ (p : Pair). bytes_eq p.tag tag) pairs) (count_is : count ≡ length under) (told_is : told ≡ min count max_found)
       (copied : take told keys ≡ map (λ (p : Pair). p.key) (take told under)) where
     counted : count ≡ length (paired_keys tag pairs)
     counted = count_is ∙ ap length under_is ∙ sym (length-map (filter (λ (p : Pair). bytes_eq p.tag tag) pairs) (λ (p : Pair). p.key))
 
-    first : take told keys ≡ take 16 (paired_keys tag pairs)
+    first : take told keys ≡ take max_found (paired_keys tag pairs)
     first =
-        copied ∙ ap (λ n. map (λ (p : Pair). p.key) (take n under)) (told_is ∙ ap (λ n. min n 16) count_is) ∙ ap (map (λ (p : Pair). p.key)) (take_min 16 under) ∙ map_take (λ (p : Pair). p.key) 16 under
-        ∙ ap (λ ps. take 16 (map (λ (p : Pair). p.key) ps)) under_is
+        copied ∙ ap (λ n. map (λ (p : Pair). p.key) (take n under)) (told_is ∙ ap (λ n. min n max_found) count_is) ∙ ap (map (λ (p : Pair). p.key)) (take_min max_found under) ∙ map_take (λ (p : Pair). p.key) max_found under
+        ∙ ap (λ ps. take max_found (map (λ (p : Pair). p.key) ps)) under_is
 
     pub copied_is : ◌≡◌ {A = Findings} (record { count = count; keys = take told keys }) (findings_of (keys_under (tags_of entries) tag))
     copied_is = (λ i. record { count = counted i; keys = first i }) ∙ paired_findings
 
     pub copied_IsFound : IsFound (record { count = count; keys = take told keys })
     copied_IsFound = record {
-      ascending = rw first (AllPairs-take IsKeyBelow 16 (paired_keys tag pairs) keys_ascend);
-      as_many = ap length first ∙ length-take 16 (paired_keys tag pairs) ∙ omega (arith, counted);
+      ascending = rw first (AllPairs-take IsKeyBelow max_found (paired_keys tag pairs) keys_ascend);
+      as_many = ap length first ∙ length-take max_found (paired_keys tag pairs) ∙ omega (arith, counted);
     }
 
   -- nothing is reported where there is no pair
@@ -147,7 +148,7 @@ module _ (entries : List TaggedKey) (pairs : List Pair) (holds : Holds entries p
       let no_key : length (paired_keys tag pairs) ≡ 0 = length-map (filter (λ (p : Pair). bytes_eq p.tag tag) pairs) (λ (p : Pair). p.key) ∙ ap length (sym under_is) ∙ empty in
       sym (nothing (paired_keys tag pairs) no_key) ∙ paired_findings
     where
-      nothing : (ks : List Key) → length ks ≡ 0 → ◌≡◌ {A = Findings} (record { count = length ks; keys = take 16 ks }) (record { count = 0; keys = [] })
+      nothing : (ks : List Key) → length ks ≡ 0 → ◌≡◌ {A = Findings} (record { count = length ks; keys = take max_found ks }) (record { count = 0; keys = [] })
       nothing [] h = refl
       nothing (k ∷ ks) h = cc
 

@@ -1,6 +1,7 @@
 //! What is reported of the tenants of a store: the verdict over each.
 ghost use Rattle.std.specs.Prelude.{◌≡◌, ◌≢◌, ◌<◌, ◌≤◌, true, false, codes, length, slice_get, is_ok, Err, IfOk, IfErr, OnOk};
 ghost use Rattle.std.specs.Io.KnownBytes.{Appends};
+ghost use Rattle.stamps.specs.Limits.{max_tenants};
 ghost use Rattle.settle.specs.declared.settle_fault.SettleFault.TheVariants.{OutOfMemory as NoMemory};
 ghost use Rattle.server_verdicts.specs.Verdicts.{BreaksOff, IsVerdictOf, TellsEach, TellsTenant, TellsVerdicts, verdict_line, verdict_word};
 
@@ -63,7 +64,7 @@ pub fn tell_all<J: Judge, W: Write>(
     names: &[Name],
     writer: &mut W,
 ) -> Result<(), ProgramFault>
-    requires { tenants ≤ 64 }
+    requires { tenants ≤ max_tenants }
     ensures { TellsEach (J.is_verdict judge.now) word.now tenants names.now (W.contents writer.old)
         (W.contents writer.new) result }
 {

@@ -9,6 +9,7 @@ use Rattle.std.proofs.lemmas.Option.{cond_some}
 use Rattle.std.proofs.lemmas.Slice.Eq.{bytes_eq-Decides}
 use Rattle.stamps.specs.Text.{IsText}
 use Rattle.stamps.specs.Key.{key_cmp, IsKeyBelow, IsAscending}
+use Rattle.stamps.specs.Limits.{max_keys}
 use Rattle.stamps.specs.WriteSet.{IsWriteSet}
 use Rattle.stamps.specs.Record.{Record}
 use Rattle.stamps.specs.Making.{text_from, is_ascending, writes_from, record_from}
@@ -77,13 +78,13 @@ ascending_to (j ∷ k ∷ keys) h =
 pub writes_from-read : (keys : List (List ℕ)) (r : Option (List (List ℕ))) → 0 < length keys → (IsSome r ↔ IsWriteSet keys) → IfSome r (λ w. w ≡ keys) → r ≡ writes_from keys
 unfolding writes_from
 writes_from-read keys (Some w) some exact is =
-    let h = exact.0 refl in rw (le-leb (length keys) 16 h.at_most, ascending_to keys h.ascending) (ap (λ (x : List (List ℕ)). Some x) is)
-writes_from-read keys None some exact is = go (leb (length keys) 16 && is_ascending keys) refl
+    let h = exact.0 refl in rw (le-leb (length keys) max_keys h.at_most, ascending_to keys h.ascending) (ap (λ (x : List (List ℕ)). Some x) is)
+writes_from-read keys None some exact is = go (leb (length keys) max_keys && is_ascending keys) refl
   where
-    go : (b : Bool) → (leb (length keys) 16 && is_ascending keys) ≡ b → None ≡ cond b (Some keys) None
+    go : (b : Bool) → (leb (length keys) max_keys && is_ascending keys) ≡ b → None ≡ cond b (Some keys) None
     go true e =
-        let t = and_parts (leb (length keys) 16) (is_ascending keys) e in
-        absurd (false≢true (exact.1 (record { not_empty = some; at_most = leb-true (length keys) 16 t.0; ascending = ascending_from keys t.1 })))
+        let t = and_parts (leb (length keys) max_keys) (is_ascending keys) e in
+        absurd (false≢true (exact.1 (record { not_empty = some; at_most = leb-true (length keys) max_keys t.0; ascending = ascending_from keys t.1 })))
     go false e = refl
 
 -- ---- records

@@ -51,7 +51,7 @@ impl Key {
     pub fn padded(&self) -> &[u8; Key::MAX_LEN]
         ensures bytes { take (length self.now) result.now ≡ self.now }
         ensures zeros { drop (length self.now) result.now ≡ replicate (max_key_len - length self.now) 0 }
-        ensures fits { length result.now ≤ 32 }
+        ensures fits { length result.now ≤ max_key_len }
     {
         self.text.padded()
     }
@@ -59,7 +59,7 @@ impl Key {
     /// How many bytes it has, of the 32 at most.
     pub fn len(&self) -> usize
         ensures count { result ≡ length self.now }
-        ensures fits { result ≤ 32 }
+        ensures fits { result ≤ max_key_len }
         ensures valid { IsKey self.now }
     {
         self.text.len()

@@ -1,5 +1,6 @@
 //! Tags.
 ghost use Rattle.std.specs.Prelude.{◌≡◌, ◌↔◌, IsSome, IfSome, ◌≤◌, length, take};
+ghost use Rattle.stamps.specs.Limits.{max_tag_len};
 ghost use Rattle.stamps.specs.Tag.{IsTag};
 
 use crate::limits;
@@ -55,7 +56,7 @@ impl Tag {
     /// How many bytes it has, of the 16 at most.
     pub fn len(&self) -> usize
         ensures count { result ≡ length self.now }
-        ensures fits { result ≤ 16 }
+        ensures fits { result ≤ max_tag_len }
         ensures valid { IsTag self.now }
     {
         self.text.len()

@@ -1,5 +1,6 @@
 //! Values.
 ghost use Rattle.std.specs.Prelude.{◌≡◌, ◌↔◌, IsSome, IfSome, ◌≤◌, length, take};
+ghost use Rattle.stamps.specs.Limits.{max_value_len};
 ghost use Rattle.stamps.specs.Value.{IsValue};
 
 use crate::limits;
@@ -55,7 +56,7 @@ impl Value {
     /// How many bytes it has, of the 128 at most.
     pub fn len(&self) -> usize
         ensures count { result ≡ length self.now }
-        ensures fits { result ≤ 128 }
+        ensures fits { result ≤ max_value_len }
         ensures valid { IsValue self.now }
     {
         self.text.len()

@@ -24,6 +24,7 @@ use Rattle.tenant_sessions.specs.Sessions.{IsRun, is_quiet, StandsFor as Session
 use Rattle.tenant_sessions.proofs.Standing.{quiet}
 use Rattle.tenant_sessions.proofs.Refusing.{tested_by, comes_to}
 use Rattle.std.specs.Prelude.{Err}
+use Rattle.stamps.specs.Limits.{max_parts}
 use Rattle.world.specs.declared.tenant.Tenant.{Tenant}
 use Rattle.world.specs.Standing.{TenantStandsFor, TenantSteps, IsBeginning}
 
@@ -68,12 +69,12 @@ table_quiet m history table nothing none stands =
 -- ---- steps
 
 -- what is known of the moment reports the step
-pub takes_by : (setup : Setup) (history : History) (act : Act) (answer : Answer) (new : Tenant) (m : Moment) → moment_of setup history act ≡ m → answer ≡ m.answer → length m.sent ≤ 64 → TenantStandsFor setup (m ∷ history) new → TenantSteps setup history act answer new
+pub takes_by : (setup : Setup) (history : History) (act : Act) (answer : Answer) (new : Tenant) (m : Moment) → moment_of setup history act ≡ m → answer ≡ m.answer → length m.sent ≤ max_parts → TenantStandsFor setup (m ∷ history) new → TenantSteps setup history act answer new
 unfolding answer_to sent_by
 takes_by setup history act answer new m is told few stands = record {
   told = told ∙ ap (λ (x : Moment). x.answer) (sym is);
   stands = subst (λ x. TenantStandsFor setup (x ∷ history) new) (sym is) stands;
-  few = subst (λ (x : Moment). length x.sent ≤ 64) (sym is) few;
+  few = subst (λ (x : Moment). length x.sent ≤ max_parts) (sym is) few;
 }
 
 -- every act but the one that sets what collections keep
@@ -121,7 +122,7 @@ keeping_steady (SetKeep keep) keeping = absurd keeping
 keeping_steady act keeping = tt
 
 -- what the moment sends is the front of what was sent after the messages before it
-pub sends_calls : (setup : Setup) (history : History) (act : Act) (answer : Answer) (new : Tenant) (count : ℕ) (calls : List Message) (m : Moment) → IsKeeping act → count ≤ 64 → moment_of setup history act ≡ m → answer ≡ m.answer
+pub sends_calls : (setup : Setup) (history : History) (act : Act) (answer : Answer) (new : Tenant) (count : ℕ) (calls : List Message) (m : Moment) → IsKeeping act → count ≤ max_parts → moment_of setup history act ≡ m → answer ≡ m.answer
     → m.sent ≡ calls → length m.sent ≤ count → TableStandsFor new.table (messages history ++ take count calls) (lost_rows history) → SessionsStandFor setup (m ∷ history) new.sessions
     → new.keep ≡ keep_in setup history → TenantSteps setup history act answer new
 sends_calls setup history act answer new count calls m keeping most is told sent few table sessions kept =

@@ -4,6 +4,7 @@ use Rattle.std.specs.Prelude.{All}
 use Rattle.std.proofs.lemmas.Option.{slice_get_within}
 use Rattle.std.proofs.lemmas.List.{take-append-drop}
 use Rattle.std.proofs.Math.Seq.{take-append_seam, drop-append_seam}
+use Rattle.stamps.specs.Limits.{max_parts}
 use Rattle.plain_store.specs.declared.step.Act.{Act}
 use Rattle.plain_store.specs.declared.answer.Answer.{Answer}
 use Rattle.plain_store.specs.Words.{Setup, setup_of, IsAct}
@@ -61,7 +62,7 @@ module _ (partitions : ℕ) (limits : List Limits) (before : List Step) (step : 
       subst (P setup (run setup [] acts) step.act) (sym (is ∙ ap (λ o. tenant_answer partitions o acts step.act) there)) at
 
   -- so every promise is kept, where it sends few messages
-  pub promised : length (sent_by setup history step.act) ≤ 64 → IsPromised setup history step.act answer
+  pub promised : length (sent_by setup history step.act) ≤ max_parts → IsPromised setup history step.act answer
   promised few_rows = record {
     alone = kept (λ setup history act answer. answer ≡ answer_to setup history act) (λ setup acts valid n act at. refl);
     atomic = kept (λ setup. IsAtomicAnswer) atomic;

@@ -8,6 +8,7 @@ use Rattle.std.proofs.lemmas.List.Elements.{All-nil, All-cons, All-head, All-tai
 use Rattle.std.proofs.lemmas.Option.{slice_get-get_or, slice_get_within, slice_get_past, slice_get-map, get_or_from_slice_get}
 use Rattle.std.specs.Option.{option_map}
 use Rattle.stamps.specs.Bounds.{IsParts}
+use Rattle.stamps.specs.Limits.{max_parts}
 use Rattle.plain_store.specs.declared.answer.Answer.{Answer}
 use Rattle.plain_store.specs.declared.answer.Answer.TheVariants.{Refused}
 use Rattle.plain_store.specs.Words.{Setup, setup_of, IsAct}
@@ -69,10 +70,10 @@ limits-set tenants number old new at same =
 own_limits : (its own : Limits) → Some its ≡ Some own → its ≡ own
 own_limits its own e = cc
 
--- a step that follows these sends no more than 64 messages
+-- a step that follows these sends no more than `max_parts` messages
 abbrev pub SendsFewRows : ℕ → List Limits → List Step → Step → Type 0
 SendsFewRows partitions limits before step =
-    (its : Limits) → slice_get limits step.tenant ≡ Some its → length (sent_by (setup_of partitions its) (history_of (setup_of partitions its) step.tenant before) step.act) ≤ 64
+    (its : Limits) → slice_get limits step.tenant ≡ Some its → length (sent_by (setup_of partitions its) (history_of (setup_of partitions its) step.tenant before) step.act) ≤ max_parts
 
 -- ---- one tenant's step
 
@@ -148,7 +149,7 @@ module _ (shelves shelves' : List Shelf) (tenants : List Tenant) (number : ℕ) 
       (λ error still. stands_after before before stands stands.valid still.0 (subst (λ ss. CellsStandFor setup h ss number) (sym still.1) (stands.cells number old at)) (λ n differs. refl))
       (serves setup h refl is (stands.tenants number old at) (stands.cells number old at))
 
-  -- a step sends no more than 64 messages
+  -- a step sends no more than `max_parts` messages
   pub steps_few : (step : Step) (result : Result Answer OutOfMemory) → step.tenant ≡ number → ServesOrStays old new shelves shelves' number step.act result
       → IfOk result (λ answer. (before : List Step) → StandsFor world before → SendsFewRows (parts_of world) (limits_of world) before step)
   steps_few step result names serves = each_ok result (StandsFor world) (λ answer before. SendsFewRows (parts_of world) (limits_of world) before step) (λ before. Unit {0})
@@ -159,7 +160,7 @@ module _ (shelves shelves' : List Shelf) (tenants : List Tenant) (number : ℕ) 
       (λ answer took its there.
       let here : slice_get (limits_of world) step.tenant ≡ Some old.limits = ap (slice_get (limits_of world)) names ∙ limits_at tenants number old at in
       let same : its ≡ old.limits = own_limits its old.limits (sym there ∙ here) in
-      subst (λ n. n ≤ 64) (sym (λ i. length (sent_by (setup_of (length shelves) (same i)) (history_of (setup_of (length shelves) (same i)) (names i) before) step.act))) took.0.few)
+      subst (λ n. n ≤ max_parts) (sym (λ i. length (sent_by (setup_of (length shelves) (same i)) (history_of (setup_of (length shelves) (same i)) (names i) before) step.act))) took.0.few)
       (λ error still. tt)
       (serves setup h refl is (stands.tenants number old at) (stands.cells number old at)))
 

@@ -1,6 +1,7 @@
 //! The parts of a closed hub that were returned before, put before the rest.
 ghost use Rattle.std.specs.Prelude.{◌≡◌, ◌↔◌, ◌≤◌, length, map, IfOk, IsErrOf, IsSome, IsTrue, OnOk, IsPermutation};
 ghost use Rattle.std.specs.List.Sorted.{IsNonDecreasingBy};
+ghost use Rattle.stamps.specs.Limits.{max_tenants};
 ghost use Rattle.partition.specs.Journals.{room_for};
 ghost use Rattle.closed_store.specs.Counting.{AreCounted};
 ghost use Rattle.closed_store.specs.Filling.{AreFilled};
@@ -147,7 +148,7 @@ fn join_row(
     partition: u32,
     row: Vec<Journal>,
 ) -> Result<Vec<Journal>, JoinFault>
-    requires { length limits.now ≤ 64 }
+    requires { length limits.now ≤ max_tenants }
     ensures { JoinsIfFit
         (λ joined. IsRowJoined limits.now given.now partition row.items joined.items)
         (RowFits limits.now given.now partition row.items) result }
@@ -174,7 +175,7 @@ fn join_rows(
     given: &[(u32, u32, Epoch)],
     rows: Vec<Vec<Journal>>,
 ) -> Result<Vec<Vec<Journal>>, JoinFault>
-    requires few { length limits.now ≤ 64 }
+    requires few { length limits.now ≤ max_tenants }
     requires known { AreKnown given.now rows.items }
     ensures { JoinsIfFit (λ joined. AreJoined limits.now given.now rows.items joined.items)
         (AllFit limits.now given.now rows.items) result }

@@ -1,5 +1,6 @@
 //! What was left of the journals of a store whose epochs were checked.
 ghost use Rattle.std.specs.Prelude.{◌≤◌, length};
+ghost use Rattle.stamps.specs.Limits.{max_tenants};
 
 use crate::epochs::Checked;
 use partition::Epoch;
@@ -21,5 +22,5 @@ pub struct LastEpochs {
     pub limits: Vec<Limits>,
     /// For each partition what was left of the tenants' journals: that of tenant n at place n.
     pub rows: Vec<Vec<Ending>>,
-    pub ghost few_tenants: { length limits.items ≤ 64 },
+    pub ghost few_tenants: { length limits.items ≤ max_tenants },
 }

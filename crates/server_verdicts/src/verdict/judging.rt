@@ -1,5 +1,6 @@
 //! Whether the journals that were left of a store are right.
 ghost use Rattle.std.specs.Prelude.{◌≡◌, ◌≤◌, IfErr, IfOk, MatchBool, Some, length, slice_get};
+ghost use Rattle.stamps.specs.Limits.{max_tenants};
 ghost use Rattle.server_verdicts.specs.Judged.{AreLeft, AreLeftIn, IsCheckedAs, IsCheckedIn, IsRight, IsRightIn, IsUncheckedIn, IsUntold, IsUntoldIn, IsWrong, IsWrongIn, TellsChecks};
 ghost use Rattle.closed_store.specs.Joins.{left_in};
 
@@ -105,7 +106,7 @@ pub fn endings_of(
     journals: Vec<Vec<Journal>>,
     known: Vec<Vec<Mutex<Checked>>>,
 ) -> Result<LastEpochs, AllocError>
-    requires few { length limits.items ≤ 64 }
+    requires few { length limits.items ≤ max_tenants }
     ensures limits { IfOk result (λ endings. endings.limits.items ≡ limits.items) }
     ensures left { IfOk result (λ endings. AreLeft journals.items endings.rows.items) }
 {

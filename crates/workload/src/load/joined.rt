@@ -1,5 +1,6 @@
 //! What is reported of a load whose epochs were kept: they are joined, and what they join to is settled.
 ghost use Rattle.std.specs.Prelude.{◌≡◌, ◌≤◌, false};
+ghost use Rattle.stamps.specs.Limits.{max_tenants};
 ghost use Rattle.workload.specs.Loading.{IsToldOfKept, TellsAnswer, TellsJoined, TellsNone};
 
 use crate::load::tally::tell_begun;
@@ -66,7 +67,7 @@ fn tell_answer<W: Write>(
     names: &[Name],
     writer: &mut W,
 ) -> Result<(), ProgramFault>
-    requires { tenants ≤ 64 }
+    requires { tenants ≤ max_tenants }
     ensures { TellsAnswer tenants answer names.now (W.contents writer.old)
         (W.contents writer.new) result }
 {
@@ -85,7 +86,7 @@ fn tell_none<W: Write>(
     names: &[Name],
     writer: &mut W,
 ) -> Result<(), ProgramFault>
-    requires { tenants ≤ 64 }
+    requires { tenants ≤ max_tenants }
     ensures { TellsNone tenants names.now (W.contents writer.old) (W.contents writer.new) result }
 {
     tell_all(alloc, &Unjoined, b"settled ", tenants, names, writer)

@@ -1,4 +1,5 @@
 use Rattle.std.proofs.Common.{◌≡◌, ◌≤◌, ◌<◌, List, ℕ, length}
+use Rattle.stamps.specs.Limits.{line_limit}
 use Rattle.line_protocol.specs.Stream.{HasNoLineFeed}
 use Rattle.line_runs.specs.RunAnswers.{Gathers}
 use Rattle.server_sessions.specs.Telling.{IsSeated, Tells}
@@ -8,7 +9,7 @@ use Rattle.server_sessions.proofs.line_session.answer_lines.Given as goal
 abbrev pub invariant-loop : goal.invariant-loop
 invariant-loop g l = record {
   some : 0 < length l.piece;
-  ready : 4096 ≤ l.out.spare;
+  ready : line_limit ≤ l.out.spare;
   waits : HasNoLineFeed l.lines;
   terms : l.connection.terms ≡ l.fn.connection.terms;
   tenant : IsSeated l.connection.seat l.connection.terms.names.now;

@@ -1,4 +1,5 @@
 use Rattle.std.proofs.Common.{◌≡◌, ◌≤◌, ◌++◌, List, ℕ, length}
+use Rattle.stamps.specs.Limits.{line_limit}
 use Rattle.line_protocol.specs.Stream.{HasNoLineFeed}
 use Rattle.line_runs.specs.RunAnswers.{Gathers}
 use Rattle.server_sessions.specs.Telling.{IsSeated, Tells}
@@ -7,7 +8,7 @@ use Rattle.server_sessions.proofs.line_session.answer_piece.Given as goal
 
 abbrev pub invariant-loop-rest : goal.invariant-loop-rest
 invariant-loop-rest g l = record {
-  ready : 4096 ≤ l.out.spare;
+  ready : line_limit ≤ l.out.spare;
   waits : HasNoLineFeed l.lines;
   terms : l.connection.terms ≡ l.fn.connection.terms;
   tenant : IsSeated l.connection.seat l.connection.terms.names.now;

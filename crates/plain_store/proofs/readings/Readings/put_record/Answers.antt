@@ -1,5 +1,6 @@
 use Rattle.std.proofs.Common.{◌≡◌, ◌+◌, ◌≤◌, List, ◌∷◌, ◌++◌, length, take, drop, ap, sym, ◌∙◌, length-set, arith}
 use Rattle.std.proofs.lemmas.List.{length-take-le}
+use Rattle.stamps.specs.Limits.{max_keys}
 use Rattle.plain_store.specs.declared.reading.Reading.{Reading}
 use Rattle.plain_store.specs.ReadingList.{unused}
 use Rattle.plain_store.proofs.Filling.{rest_written, taken_written}
@@ -14,7 +15,7 @@ invariant_of-self c =
     rw c.longer-self-inside.ensures (
       omega (arith, c.self.invariant.0, c.requires.room),
       length-set s.readings c.args.at x ∙ c.self.invariant.1,
-      rest_written unused 16 s.len c.args.at s.readings x within c.self.invariant.2,
+      rest_written unused max_keys s.len c.args.at s.readings x within c.self.invariant.2,
     )
 
 pub returns : goal.returns

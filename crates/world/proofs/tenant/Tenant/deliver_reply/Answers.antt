@@ -6,6 +6,7 @@ use Rattle.plain_store.specs.declared.answer.Rows.{Rows}
 use Rattle.plain_store.specs.History.{messages, lost_rows, message_at, running}
 use Rattle.std.specs.Prelude.{IsSome}
 use Rattle.std.specs.Option.{option_copied}
+use Rattle.stamps.specs.Limits.{max_keys}
 use Rattle.plain_store.specs.Run.{effect, next_rows, call_message, takes}
 use Rattle.tenant_sessions.specs.Sessions.{IsRun, waiting, sends_calls as sends, ending, answer_of}
 use Rattle.tenant_sessions.specs.Moves.{moved}
@@ -30,13 +31,13 @@ returns-clause-takes c setup history sent_as is stands free was there =
     let next : IsRun setup (m ∷ history) = subst (λ x. IsRun setup (x ∷ history)) goes (run_next setup history (Deliver row) is tt) in
     let calls : List Message = cond (sends move) (waiting setup (m ∷ history) message.client) (map (call_message message.client message.ticket) (ending move)) in
     let sent = c.send_next.ensures setup (m ∷ history) (messages history) (lost_rows history) read next taken.stands room in
-    let front : take 16 calls ≡ m.sent = ap (take 16) (sym taken.sent) ∙ take_all 16 m.sent taken.few in
+    let front : take max_keys calls ≡ m.sent = ap (take max_keys) (sym taken.sent) ∙ take_all max_keys m.sent taken.few in
     let first : c.sent-sent.result + 1 ≡ length (messages history) + 1 = ap (λ n. n + 1) (c.sent-sent.ensures.value ∙ room.sent) in
     let last : c.sent.result ≡ length (messages history) + length m.sent =
     c.sent.ensures.value ∙ sent.sent ∙ ap (λ ms. length (messages history ++ ms)) front ∙ length-append (messages history) m.sent in
     let given : Rows = record { first = c.sent-sent.result + 1; last = c.sent.result } in
     let rows : given ≡ next_rows history (length m.sent) = (λ i. record { first = first i; last = last i }) in
-    sends_calls setup history (Deliver row) c.answer_into.new.answer (record { limits = c.args.self.now.limits; keep = c.args.self.now.keep; table = c.send_next.new.table; sessions = c.take_into-taken.new.self; readings = read }) 16 calls m tt (omega arith) goes
+    sends_calls setup history (Deliver row) c.answer_into.new.answer (record { limits = c.args.self.now.limits; keep = c.args.self.now.keep; table = c.send_next.new.table; sessions = c.take_into-taken.new.self; readings = read }) max_keys calls m tt (omega arith) goes
     (c.answer_into.ensures ∙ ap (answer_of move) rows ∙ sym taken.answer) taken.sent taken.few sent taken.stands stands.keep
 
 -- the row's message is there
