@@ -1,5 +1,5 @@
 -- How much room the texts that are written take.
-use Rattle.std.specs.Prelude.{◌≡◌, ℕ, ◌+◌, ◌*◌, ◌≤◌, ◌↔◌, List, ◌++◌, length, Result, IsOk, OnOk, OnErr}
+use Rattle.std.specs.Prelude.{◌≡◌, ℕ, ◌+◌, ◌*◌, ◌≤◌, ◌↔◌, max, List, ◌++◌, length, Result, IsOk, OnOk, OnErr}
 use Rattle.bytes.specs.Filled.{Filled}
 use Rattle.line_protocol.specs.declared.write.NoRoom.{NoRoom}
 use Rattle.stamps.specs.Limits.{max_keys, max_key_len, max_tag_len, max_value_len}
@@ -61,9 +61,9 @@ rows_room = 5 + number_room + 1 + number_room
 abbrev pub ending_room : ℕ
 ending_room = 1 + rows_room
 
--- a word, a stamp and rows
+-- a word, a stamp, and rows or a key
 abbrev pub stamped_rows_room : ℕ
-stamped_rows_room = 8 + stamp_room + 1 + rows_room
+stamped_rows_room = 8 + stamp_room + 1 + max rows_room key_room
 
 -- a tag, `=` and a value
 abbrev pub written_room : ℕ
