@@ -8,9 +8,9 @@ use stamps::Limits;
 /// Partitions, tenants and limits.
 #[derive(Drop)]
 pub struct Config {
-    /// How many partitions there are, 1 to 64.
+    /// How many partitions there are, 1 to `MAX_PARTS`.
     pub parts: u32,
-    /// The limits of each tenant, 1 to 64 of them. The n-th are those of tenant n.
+    /// The limits of each tenant, 1 to `MAX_TENANTS` of them. The n-th are those of tenant n.
     pub limits: Vec<Limits>,
     /// How many jobs each partition's queue has room for, 1 to 1024.
     pub queue: u32,

@@ -233,7 +233,7 @@ pub record GivesMix (rows : List Row) (options : LoadOptions) : Type 0 where
   pub of_every : IsOptionNumber (codes "every") rows options.every
   pub of_epoch : IsOptionNumber (codes "epoch") rows options.epoch
 
--- the names of 1 to 64 tenants, none twice
+-- the names of 1 to `max_tenants` tenants, none twice
 pub record AreTenants (names : List (List ℕ)) : Type 0 where
   pub some : 0 < length names
   pub few : length names ≤ max_tenants

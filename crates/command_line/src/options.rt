@@ -171,11 +171,11 @@ pub(crate) const KEYS: NumberOption = NumberOption {
 /// A store of so many partitions and tenants of these names, with these limits each.
 #[derive(Drop)]
 pub struct StoreOptions {
-    /// How many partitions it has, 1 to 64.
+    /// How many partitions it has, 1 to `MAX_PARTS`.
     pub parts: u32,
     /// What each tenant has room for.
     pub limits: Limits,
-    /// The names of its 1 to 64 tenants, none twice.
+    /// The names of its 1 to `MAX_TENANTS` tenants, none twice.
     pub names: Vec<Name>,
 }
 
@@ -368,7 +368,7 @@ fn read_within(matches: &ArgMatches<'_>, option: &NumberOption) -> Option<u32>
     Some(number)
 }
 
-// How many partitions the store has, 1 to 64.
+// How many partitions the store has, 1 to `MAX_PARTS`.
 fn read_parts(sim: &ArgMatches<'_>) -> Option<u32>
     ensures parts { IfSome result (GivesParts (rows_of (found_of sim.now))) }
     ensures none { IfNone result (GivesNoParts (rows_of (found_of sim.now))) }
@@ -415,7 +415,7 @@ fn read_flag(matches: &ArgMatches<'_>, name: &str) -> Option<bool>
     matches.get_one(name)
 }
 
-// The names that the words are, if they are those of 1 to 64 tenants.
+// The names that the words are, if they are those of 1 to `MAX_TENANTS` tenants.
 fn read_names(alloc: Global, words: &[&str]) -> Result<Option<Vec<Name>>, AllocError>
     ensures names { IfOk result
         (λ names. IfSome names (λ list. list.items ≡ map (λ word. word.now) words.now)) }

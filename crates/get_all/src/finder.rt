@@ -23,7 +23,7 @@ impl Finder {
     ghost use Rattle.get_all.specs.TagSearch.{calls_asked};
     ghost use Rattle.get_all.specs.Finder.{StandsFor, TakesFind, calls_left};
 
-    /// A finder of the items of this tag in a store of so many partitions (1 to 64), which took no reply yet.
+    /// A finder of the items of this tag in a store of so many partitions (1 to `MAX_PARTS`), which took no reply yet.
     pub fn new(tag: Tag, parts: u32) -> Finder
         requires { IsParts parts }
         ensures { (setup : Setup) → setup.partitions ≡ parts → StandsFor setup tag result [] }

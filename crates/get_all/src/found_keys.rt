@@ -8,5 +8,5 @@ pub(crate) fn filler() -> Key {
     Key::read(text).unwrap()
 }
 
-/// Keys that a search found: up to 16.
+/// Keys that a search found: up to `MAX_FOUND`.
 pub type FoundKeys = SmallList<Key, { limits::MAX_FOUND }>;

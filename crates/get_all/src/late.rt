@@ -9,5 +9,5 @@ pub struct Late {
     pub stamp: Stamp,
 }
 
-/// The late keys of a read in the order given, up to 16.
+/// The late keys of a read in the order given, up to `MAX_KEYS`.
 pub type LateKeys = SmallList<Late, { limits::MAX_KEYS }>;

@@ -152,7 +152,7 @@ fn initial(key: Key) -> Reading
     }
 }
 
-/// The slots of a read's keys in the order given, up to 16, which stay where they lie. Contracts see the list.
+/// The slots of a read's keys in the order given, up to `MAX_KEYS`, which stay where they lie. Contracts see the list.
 #[derive(Drop)]
 struct KeyProgressList {
     slots: [KeyProgress; ReadProgress::MAX_LEN],
@@ -216,7 +216,7 @@ impl KeyProgressList {
     }
 }
 
-/// The keys of a read in the order given, up to 16.
+/// The keys of a read in the order given, up to `MAX_KEYS`.
 #[derive(Drop)]
 pub(crate) struct ReadProgress {
     slots: KeyProgressList,

@@ -69,7 +69,7 @@ impl Reader {
     ghost use Rattle.get_all.specs.ReadProgress.{with_first, with_second, awaits_first, first_shows, has_first, is_answered_by, is_whole, readings_by, late_by};
     ghost use Rattle.get_all.specs.Reader.{StandsFor, TakesInRound, TakesRead, is_no_read, told_by, calls_left, calls_asked};
 
-    /// A reader of these keys which took no reply yet. None exactly for no key, more than 16, or one twice.
+    /// A reader of these keys which took no reply yet. None exactly for no key, more than `MAX_KEYS`, or one twice.
     pub fn new(keys: &[Key]) -> Option<Reader>
         ensures refused { IsNone result ↔ IsTrue (are_bad keys.now) }
         ensures stands { IfSome result (λ reader. (taken : List Message)
@@ -96,7 +96,7 @@ impl Reader {
     }
 
     /// Makes of it a reader of these keys which took no reply yet, and says whether it could. It could not exactly for
-    /// no key, more than 16, or one twice; then nothing has changed.
+    /// no key, more than `MAX_KEYS`, or one twice; then nothing has changed.
     pub fn reset(&mut self, keys: &[Key]) -> bool
         ensures refused { result ≡ false ↔ IsTrue (are_bad keys.now) }
         ensures unchanged { result ≡ false → self.new ≡ self.old }

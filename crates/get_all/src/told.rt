@@ -37,7 +37,7 @@ impl AskedPartition {
     }
 }
 
-/// Every partition of a store in ascending order: up to 64.
+/// Every partition of a store in ascending order: up to `MAX_PARTS`.
 #[derive(Drop)]
 pub(crate) struct AskedList(SmallList<AskedPartition, { AskedList::MAX_LEN }>);
 

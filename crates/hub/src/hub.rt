@@ -177,7 +177,7 @@ impl<G: Naming> Hub<G> {
         self.config.epoch
     }
 
-    /// How many partitions it has, 1 to 64.
+    /// How many partitions it has, 1 to `MAX_PARTS`.
     pub fn parts(&self) -> u32
         ensures value { result ≡ self.now.parts }
         ensures in_range { IsParts result }

@@ -51,7 +51,7 @@ impl<'a> SeatRequest<'a> {
         }
     }
 
-    /// Begins its transaction in this client's session, in a store of so many partitions (1 to 64). It fails where the session
+    /// Begins its transaction in this client's session, in a store of so many partitions (1 to `MAX_PARTS`). It fails where the session
     /// refuses it. Then nothing has changed.
     pub fn start(
         &self,

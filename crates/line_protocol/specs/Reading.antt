@@ -52,11 +52,11 @@ stamp_at text = do
   client ← number_at (2 ^ 16 - 1) p.1
   stamp_from counter client
 
--- 1 to 32 bytes
+-- 1 to `max_key_len` bytes
 abbrev pub key_at : List ℕ → Option (List ℕ)
 key_at = text_from is_name_byte 1 max_key_len
 
--- 1 to 16 bytes: a tag that is written has a byte at least
+-- 1 to `max_tag_len` bytes: a tag that is written has a byte at least
 abbrev pub tag_at : List ℕ → Option (List ℕ)
 tag_at = text_from is_name_byte 1 max_tag_len
 
@@ -82,7 +82,7 @@ unfoldable pub each_at : {A : Type 0} → (List ℕ → Option A) → List (List
 each_at at [] = Some []
 each_at at (part ∷ parts) = at part >>= λ a. each_at at parts >>= λ more. Some (a ∷ more)
 
--- the keys between the commas, if they are 1 to 16 in byte order, each once
+-- the keys between the commas, if they are 1 to `max_keys` in byte order, each once
 unfoldable pub writes_at : List ℕ → Option (List (List ℕ))
 writes_at text = do
   keys ← each_at key_at (parts_in comma (Some text))

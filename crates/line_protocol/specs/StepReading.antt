@@ -12,7 +12,7 @@ use Rattle.line_protocol.specs.Reading.{◌>>=◌, split_first, number_at, text_
 use Rattle.line_protocol.specs.Reading.{tagged_at, parts_in, each_at}
 use Rattle.line_protocol.specs.StepSpelling.{is_tenant_byte, HasList}
 
--- 1 to 16 bytes
+-- 1 to `max_name_len` bytes
 abbrev pub name_at : List ℕ → Option (List ℕ)
 name_at = text_from is_tenant_byte 1 max_name_len
 

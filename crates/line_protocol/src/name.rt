@@ -6,7 +6,7 @@ ghost use Rattle.line_protocol.specs.StepSpelling.{IsName, is_tenant_byte};
 use stamps::Tag;
 use std::marker::Model;
 
-/// The name of a tenant: 1 to 16 bytes of `a-z 0-9 _`. A contract sees a name as its bytes.
+/// The name of a tenant: 1 to `MAX_NAME_LEN` bytes of `a-z 0-9 _`. A contract sees a name as its bytes.
 #[derive(Clone, Copy, Debug, PartialEq, Eq)]
 pub struct Name {
     // Each name is spelled as a tag is.
@@ -28,7 +28,7 @@ impl Model for Name {
 }
 
 impl Name {
-    /// The name of these bytes. `None` where they are none or more than 16, or one is not of `a-z 0-9 _`.
+    /// The name of these bytes. `None` where they are none or more than `MAX_NAME_LEN`, or one is not of `a-z 0-9 _`.
     pub fn read(bytes: &[u8]) -> Option<Name>
         ensures exact { IsSome result ↔ IsName bytes.now }
         ensures value { IfSome result (λ name. name ≡ bytes.now) }
@@ -41,7 +41,7 @@ impl Name {
         })
     }
 
-    /// The 1 to 16 bytes, as they are printed.
+    /// The 1 to `MAX_NAME_LEN` bytes, as they are printed.
     pub fn as_bytes(&self) -> &[u8]
         ensures bytes { result.now ≡ self.now }
         ensures valid { IsName result.now }

@@ -52,7 +52,7 @@ pub fn read_step_line(alloc: Global, names: &[Name], line: &[u8]) -> Result<Step
     }
 }
 
-/// 1 to 16 bytes of a tenant's name.
+/// 1 to `MAX_NAME_LEN` bytes of a tenant's name.
 pub(crate) fn read_name(text: &[u8]) -> Option<Name>
     ensures { result ≡ name_at text.now }
 {

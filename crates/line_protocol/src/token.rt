@@ -60,7 +60,7 @@ pub(crate) fn read_stamp(text: &[u8]) -> Option<Stamp>
     Stamp::new(counter, client as u16)
 }
 
-/// 1 to 32 bytes of a key.
+/// 1 to `MAX_KEY_LEN` bytes of a key.
 pub fn read_key(text: &[u8]) -> Option<Key>
     ensures { result ≡ key_at text.now }
 {
@@ -84,7 +84,7 @@ pub fn read_value(text: &[u8]) -> Option<Value>
     Value::read(text)
 }
 
-/// 1 to 16 keys in byte order, each once, separated by commas.
+/// 1 to `MAX_KEYS` keys in byte order, each once, separated by commas.
 pub(crate) fn read_writes(text: &[u8]) -> Option<WriteSet>
     ensures { result ≡ writes_at text.now }
 {

@@ -14,7 +14,7 @@ use thiserror::Error;
 pub enum End {
     /// After a whole line, or before any byte.
     Whole,
-    /// At a line of 4096 bytes or more.
+    /// At a line of `LINE_LIMIT` bytes or more.
     TooLong,
     /// Within a line.
     Cut,
@@ -56,7 +56,7 @@ impl From<plain_store::OutOfMemory> for RunFault {
 /// Why a program ends with a status other than 0.
 #[derive(Clone, Copy, Debug, PartialEq, Eq, Error)]
 pub enum ProgramFault {
-    /// The input has a line of 4096 bytes or more.
+    /// The input has a line of `LINE_LIMIT` bytes or more.
     #[error("LineTooLong")]
     LineTooLong,
     /// The input ends within a line.

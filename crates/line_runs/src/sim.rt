@@ -101,7 +101,7 @@ fn answer_refusal(refusal: Refusal, out: &mut BytesMut) -> Result<(), OutOfMemor
     }
 }
 
-/// Answers the lines of the reader by one new store of `parts` partitions, 1 to 64, until the input ends. It has a
+/// Answers the lines of the reader by one new store of `parts` partitions, 1 to `MAX_PARTS`, until the input ends. It has a
 /// tenant for each of the `limits`, which goes by the name at the same place of `names`.
 ///
 /// What is written is the line of the plain store's answer to each step, after the steps of its own tenant before it;

@@ -63,7 +63,7 @@ abbrev pub first_refusal : List Test → Option Refusal
 first_refusal [] = None
 first_refusal (test ∷ rest) = cond test.fails (Some test.refusal) (first_refusal rest)
 
--- a GET is of a read of no more than 16 keys
+-- a GET is of a read of no more than `max_keys` keys
 abbrev pub IsFew : List Key → Call → Type 0
 IsFew keys (Prepare version) = Unit {0}
 IsFew keys (Commit stamp) = Unit {0}

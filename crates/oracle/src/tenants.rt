@@ -104,7 +104,7 @@ fn no_answers(alloc: Global, steps: &[Step]) -> Result<Vec<Answer>, AllocError>
         .collect(alloc)
 }
 
-/// The answers of a store of so many partitions, 1 to 64, to these steps, in their order. Each of the limits is a
+/// The answers of a store of so many partitions, 1 to `MAX_PARTS`, to these steps, in their order. Each of the limits is a
 /// tenant's, and each tenant is run alone, by the definitions: what another crate's store answers is compared with it in
 /// tests. It goes over all earlier steps again at each step, and is for some hundred steps.
 pub fn oracle_run(

@@ -92,7 +92,7 @@ IsStoreReply (ToDiscard reply) = Unit {0}
 
 -- ---- what stands under a tag
 
--- so many items, and the first of their keys: all of them, or 16
+-- so many items, and the first of their keys: all of them, or `max_found`
 abbrev pub found_from : ℕ → List (List ℕ) → Option Findings
 found_from count keys =
     if length keys == min count max_found then Some (record { count = count; keys = keys }) else None

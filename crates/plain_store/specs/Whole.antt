@@ -4,7 +4,7 @@ use Rattle.stamps.specs.Key.{IsTransactionKeys}
 use Rattle.plain_store.specs.History.{Intent, Writes, Gets, Finds}
 use Rattle.plain_store.specs.Writing.{keys_written}
 
--- a write has a stamp that is not the initial version's, and 1 to 16 keys, none of them twice
+-- a write has a stamp that is not the initial version's, and 1 to `max_keys` keys, none of them twice
 abbrev pub IsWhole : Intent → Type 0
 IsWhole (Writes stamp items) = (0 < stamp) × IsTransactionKeys (keys_written items)
 IsWhole (Gets keys) = Unit {0}

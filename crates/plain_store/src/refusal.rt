@@ -33,7 +33,7 @@ pub enum Refusal {
     Unknown,
     /// A reply was inconsistent.
     Torn,
-    /// More than 16 items stand under the tag.
+    /// More than `MAX_FOUND` items stand under the tag.
     TooMany,
     /// As many clients have said hello as the tenant may have.
     ClientsFull,
@@ -49,7 +49,7 @@ pub enum Refusal {
     OutOfMemory,
     /// The line is none of the grammar's.
     BadLine,
-    /// 4096 bytes stand without a line end.
+    /// `LINE_LIMIT` bytes stand without a line end.
     LineTooLong,
     /// The stream ended inside a line.
     Cut,

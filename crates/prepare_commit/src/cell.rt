@@ -448,7 +448,7 @@ impl Cell {
     }
 
     /// Reports the items that stand under a tag, and changes nothing: how many they are, and the first of their keys in byte
-    /// order, all of them or 16. An item stands under the tag of its latest committed version; under the empty tag stands
+    /// order, all of them or `MAX_FOUND`. An item stands under the tag of its latest committed version; under the empty tag stands
     /// none. This search is the store's own.
     ///
     /// It looks the tag up in the index, and visits neither versions nor entries.

@@ -6,7 +6,7 @@ use lists::SmallList;
 use stamps::limits;
 use std::marker::Model;
 
-/// Partitions in ascending order, each once: those of one write, up to 16. A byte holds the number of each, so that a list of them is small.
+/// Partitions in ascending order, each once: those of one write, up to `MAX_KEYS`. A byte holds the number of each, so that a list of them is small.
 #[derive(Drop)]
 pub struct Partitions(SmallList<u8, { Partitions::MAX_LEN }>);
 

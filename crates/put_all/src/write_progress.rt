@@ -76,7 +76,7 @@ pub(crate) struct Marked {
     pub(crate) are_prepared: bool,
 }
 
-/// The items of a write in the order given, up to 16.
+/// The items of a write in the order given, up to `MAX_KEYS`.
 #[derive(Drop)]
 pub(crate) struct WriteProgress(SmallList<ItemProgress, { limits::MAX_KEYS }>);
 

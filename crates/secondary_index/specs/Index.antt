@@ -23,7 +23,7 @@ index_code =
     code_by (ℕ × Tags) (coded× coded_ℕ (code (coded_list coded_ℕ) (coded_list coded_ℕ))) (λ i. (i.room, i.tags))
     (λ p. record { room = p.0; tags = p.1 }) (λ _. refl)
 
--- how many keys these are, and the first 16 of them in byte order
+-- how many keys these are, and the first `max_found` of them in byte order
 abbrev pub findings_of : List Key → Findings
 findings_of keys = record { count = length keys; keys = take max_found (sorted_keys keys) }
 

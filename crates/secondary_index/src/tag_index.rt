@@ -131,7 +131,7 @@ impl TagIndex {
         }
     }
 
-    /// How many keys carry a tag, and the first of them in byte order: all of them, or 16. No key carries the empty tag.
+    /// How many keys carry a tag, and the first of them in byte order: all of them, or `MAX_FOUND`. No key carries the empty tag.
     pub fn under(&self, tag: &Tag) -> Found
         ensures value { result ≡ findings_of (keys_under self.now.tags tag.now) }
         ensures law { (settings : List Setting) → IsIndexOf self.now.tags settings

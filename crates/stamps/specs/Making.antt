@@ -18,7 +18,7 @@ is_ascending [] = true
 is_ascending (key ∷ []) = true
 is_ascending (j ∷ k ∷ keys) = is_lt (key_cmp j k) && is_ascending (k ∷ keys)
 
--- at most 16 keys in byte order, each once
+-- at most `max_keys` keys in byte order, each once
 unfoldable pub writes_from : List (List ℕ) → Option (List (List ℕ))
 writes_from keys = if nat_le (length keys) max_keys && is_ascending keys then Some keys else None
 

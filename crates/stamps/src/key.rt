@@ -9,7 +9,7 @@ use crate::text::{self, Text};
 use std::fmt;
 use std::marker::Model;
 
-/// The name of an item: 1 to 32 bytes of `a-z 0-9 _ . / -`. Keys compare by byte order. A contract sees a key as its
+/// The name of an item: 1 to `MAX_KEY_LEN` bytes of `a-z 0-9 _ . / -`. Keys compare by byte order. A contract sees a key as its
 /// bytes.
 #[derive(Clone, Copy, Debug, PartialEq, Eq, PartialOrd, Ord)]
 pub struct Key {
@@ -34,7 +34,7 @@ impl Key {
     /// The most bytes that a key has.
     pub const MAX_LEN: usize = limits::MAX_KEY_LEN;
 
-    /// The key of these bytes. `None` where they are none or more than 32, or one is not of `a-z 0-9 _ . / -`.
+    /// The key of these bytes. `None` where they are none or more than `MAX_KEY_LEN`, or one is not of `a-z 0-9 _ . / -`.
     pub fn read(bytes: &[u8]) -> Option<Key>
         ensures exact { IsSome result ↔ IsKey bytes.now }
         ensures value { IfSome result (λ key. key ≡ bytes.now) }
@@ -47,7 +47,7 @@ impl Key {
         })
     }
 
-    /// Its bytes, and zeros behind them: 32 bytes in all.
+    /// Its bytes, and zeros behind them: `MAX_KEY_LEN` bytes in all.
     pub fn padded(&self) -> &[u8; Key::MAX_LEN]
         ensures bytes { take (length self.now) result.now ≡ self.now }
         ensures zeros { drop (length self.now) result.now ≡ replicate (max_key_len - length self.now) 0 }
@@ -56,7 +56,7 @@ impl Key {
         self.text.padded()
     }
 
-    /// How many bytes it has, of the 32 at most.
+    /// How many bytes it has, of the `MAX_KEY_LEN` at most.
     pub fn len(&self) -> usize
         ensures count { result ≡ length self.now }
         ensures fits { result ≤ max_key_len }
@@ -65,7 +65,7 @@ impl Key {
         self.text.len()
     }
 
-    /// The 1 to 32 bytes, as they are printed.
+    /// The 1 to `MAX_KEY_LEN` bytes, as they are printed.
     pub fn as_bytes(&self) -> &[u8]
         ensures bytes { result.now ≡ self.now }
         ensures valid { IsKey result.now }
@@ -85,7 +85,7 @@ impl fmt::Display for Key {
 }
 
 /// The partition at which a key is at home, from 0: the sum of its bytes, modulo `parts`, the number of partitions,
-/// which is 1 to 64.
+/// which is 1 to `MAX_PARTS`.
 pub fn home(key: &Key, parts: u32) -> u32
     requires { IsParts parts }
     ensures partition { result ≡ home_of key.now parts }

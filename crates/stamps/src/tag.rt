@@ -8,7 +8,7 @@ use crate::text::{self, Text};
 use std::fmt;
 use std::marker::Model;
 
-/// A mark by which items are found: 0 to 16 bytes of `a-z 0-9 _ . / -`. The empty tag marks nothing. A contract sees a
+/// A mark by which items are found: 0 to `MAX_TAG_LEN` bytes of `a-z 0-9 _ . / -`. The empty tag marks nothing. A contract sees a
 /// tag as its bytes.
 #[derive(Clone, Copy, Debug, PartialEq, Eq, PartialOrd, Ord)]
 pub struct Tag {
@@ -33,7 +33,7 @@ impl Tag {
     /// The most bytes that a tag has.
     pub const MAX_LEN: usize = limits::MAX_TAG_LEN;
 
-    /// The tag of these bytes. `None` where they are more than 16, or one is not of `a-z 0-9 _ . / -`.
+    /// The tag of these bytes. `None` where they are more than `MAX_TAG_LEN`, or one is not of `a-z 0-9 _ . / -`.
     pub fn read(bytes: &[u8]) -> Option<Tag>
         ensures exact { IsSome result ↔ IsTag bytes.now }
         ensures value { IfSome result (λ tag. tag ≡ bytes.now) }
@@ -46,14 +46,14 @@ impl Tag {
         })
     }
 
-    /// Its bytes, and zeros behind them: 16 bytes in all.
+    /// Its bytes, and zeros behind them: `MAX_TAG_LEN` bytes in all.
     pub fn padded(&self) -> &[u8; Tag::MAX_LEN]
         ensures bytes { take (length self.now) result.now ≡ self.now }
     {
         self.text.padded()
     }
 
-    /// How many bytes it has, of the 16 at most.
+    /// How many bytes it has, of the `MAX_TAG_LEN` at most.
     pub fn len(&self) -> usize
         ensures count { result ≡ length self.now }
         ensures fits { result ≤ max_tag_len }
@@ -62,7 +62,7 @@ impl Tag {
         self.text.len()
     }
 
-    /// The 0 to 16 bytes, as they are printed.
+    /// The 0 to `MAX_TAG_LEN` bytes, as they are printed.
     pub fn as_bytes(&self) -> &[u8]
         ensures bytes { result.now ≡ self.now }
         ensures valid { IsTag result.now }

@@ -8,7 +8,7 @@ use crate::{Key, limits};
 use std::fmt;
 use std::marker::Model;
 
-/// The keys that one transaction writes: 1 to 16, none of them twice. A contract sees them in byte order.
+/// The keys that one transaction writes: 1 to `MAX_KEYS`, none of them twice. A contract sees them in byte order.
 #[derive(Clone, Copy)]
 pub struct WriteSet {
     keys: [Key; WriteSet::MAX_LEN],
@@ -43,7 +43,7 @@ impl WriteSet {
     /// The most keys that a transaction writes.
     pub const MAX_LEN: usize = limits::MAX_KEYS;
 
-    /// The write set of these keys. `None` where they are none or more than 16, or one is not below the next.
+    /// The write set of these keys. `None` where they are none or more than `MAX_KEYS`, or one is not below the next.
     pub fn new(keys: &[Key]) -> Option<WriteSet>
         ensures exact { IsSome result ↔ IsWriteSet keys.now }
         ensures value { IfSome result (λ writes. writes ≡ keys.now) }
@@ -59,7 +59,7 @@ impl WriteSet {
         })
     }
 
-    /// The write set of these keys, which may stand in any order. `None` where they are none or more than 16, or one
+    /// The write set of these keys, which may stand in any order. `None` where they are none or more than `MAX_KEYS`, or one
     /// stands twice.
     pub fn of(keys: &[Key]) -> Option<WriteSet>
         ensures exact { IsSome result ↔ IsTransactionKeys keys.now }
@@ -73,7 +73,7 @@ impl WriteSet {
         WriteSet::of_prefix(all, keys.len())
     }
 
-    /// The write set of the first `len` of these keys, which are 1 to 16 and may stand in any order. `None` where one stands twice. It
+    /// The write set of the first `len` of these keys, which are 1 to `MAX_KEYS` and may stand in any order. `None` where one stands twice. It
     /// sorts them where they lie.
     #[inline(always)]
     pub fn of_prefix(keys: [Key; WriteSet::MAX_LEN], len: usize) -> Option<WriteSet>
@@ -95,14 +95,14 @@ impl WriteSet {
         })
     }
 
-    /// Whether there is a write set of these keys, in any order: they are 1 to 16, and none stands twice.
+    /// Whether there is a write set of these keys, in any order: they are 1 to `MAX_KEYS`, and none stands twice.
     pub fn are_keys(keys: &[Key]) -> bool
         ensures { IsTrue result ↔ IsTransactionKeys keys.now }
     {
         !keys.is_empty() && keys.len() <= WriteSet::MAX_LEN && are_apart(keys)
     }
 
-    /// The 1 to 16 keys, in byte order.
+    /// The 1 to `MAX_KEYS` keys, in byte order.
     pub fn as_slice(&self) -> &[Key]
         ensures keys { result.now ≡ self.now }
         ensures valid { IsWriteSet result.now }

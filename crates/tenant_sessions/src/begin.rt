@@ -57,7 +57,7 @@ impl Begin<'_> {
         self.client
     }
 
-    /// How many calls it sends as it begins, up to 64.
+    /// How many calls it sends as it begins, up to `MAX_PARTS`.
     pub fn calls(&self) -> u32
         ensures sent { (setup : Setup) (history : History) (act : Asked)
             → IsBegin setup history act self.now

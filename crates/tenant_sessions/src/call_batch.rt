@@ -15,7 +15,7 @@ use put_all::Partitions;
 use stamps::{Client, Item, Key, Stamp, Tag, WriteSet};
 use std::marker::Model;
 
-/// The keys of a read in their order, up to 16.
+/// The keys of a read in their order, up to `MAX_KEYS`.
 pub(crate) type ReadKeys = SmallList<Key, { WriteSet::MAX_LEN }>;
 
 /// Which calls a part has.
@@ -237,7 +237,7 @@ impl CallBatch {
         self.kind = BatchKind::Committing;
     }
 
-    /// Makes of it the GETs of the latest versions of these keys, up to 16.
+    /// Makes of it the GETs of the latest versions of these keys, up to `MAX_KEYS`.
     pub(crate) fn read(&mut self, keys: &[Key])
         requires { length keys.now ≤ max_keys }
         ensures { self.new ≡ First keys.now }

@@ -80,7 +80,7 @@ impl Current {
         self.is_running = false;
     }
 
-    /// Begins one, in a store of so many partitions (1 to 64).
+    /// Begins one, in a store of so many partitions (1 to `MAX_PARTS`).
     pub(crate) fn begin(&mut self, kind: &Beginning<'_>, parts: u32)
         requires tested { IsTested kind.now }
         requires parts { IsParts parts }
@@ -92,7 +92,7 @@ impl Current {
         self.is_running = true;
     }
 
-    /// Begins a write of these items under this stamp, in a store of so many partitions (1 to 64). The write set is that of the
+    /// Begins a write of these items under this stamp, in a store of so many partitions (1 to `MAX_PARTS`). The write set is that of the
     /// items.
     pub(crate) fn begin_put(&mut self, stamp: Stamp, items: &[Item], writes: &WriteSet, parts: u32)
         requires write { MayWrite stamp items.now writes.now }
@@ -105,7 +105,7 @@ impl Current {
         self.is_running = true;
     }
 
-    /// Begins a read of these keys, in a store of so many partitions (1 to 64).
+    /// Begins a read of these keys, in a store of so many partitions (1 to `MAX_PARTS`).
     pub(crate) fn begin_get(&mut self, keys: &[Key], parts: u32)
         requires { IsParts parts }
         ensures { (setup : Setup) → setup.partitions ≡ parts → MayBegin (Gets keys.now)
@@ -115,7 +115,7 @@ impl Current {
         self.is_running = true;
     }
 
-    /// Begins a search by this tag, in a store of so many partitions (1 to 64).
+    /// Begins a search by this tag, in a store of so many partitions (1 to `MAX_PARTS`).
     pub(crate) fn begin_find(&mut self, tag: Tag, parts: u32)
         requires { IsParts parts }
         ensures { (setup : Setup) → setup.partitions ≡ parts

@@ -82,7 +82,7 @@ impl Running {
         }
     }
 
-    /// Makes of it what runs once this began, in a store of so many partitions (1 to 64).
+    /// Makes of it what runs once this began, in a store of so many partitions (1 to `MAX_PARTS`).
     pub(crate) fn begin(&mut self, kind: &Beginning<'_>, parts: u32)
         requires tested { IsTested kind.now }
         requires parts { IsParts parts }
@@ -179,7 +179,7 @@ impl Running {
         }
     }
 
-    /// How many of its calls have no reply taken, in the part that it is in: up to 64.
+    /// How many of its calls have no reply taken, in the part that it is in: up to `MAX_PARTS`.
     pub(crate) fn waiting(&self) -> u32
         ensures value { (setup : Setup) (request : Intent) (taken : List Sent)
             → RunningStands setup request taken self.now

@@ -28,7 +28,7 @@ pub struct ClientSession {
     running: Current,
 }
 
-/// Whether a read may have these keys: 1 to 16, and none twice.
+/// Whether a read may have these keys: 1 to `MAX_KEYS`, and none twice.
 fn are_readable(keys: &[Key]) -> bool
     ensures exact { result ≡ not (are_bad keys.now) }
     ensures few { result ≡ true → length keys.now ≤ max_keys }
@@ -112,7 +112,7 @@ impl ClientSession {
 
     /// A write of these items by this client, whose session it is. `start` begins it.
     ///
-    /// It fails where the session is closed (19), a transaction is running (12), there is no item, more than 16 or one key
+    /// It fails where the session is closed (19), a transaction is running (12), there is no item, more than `MAX_KEYS` or one key
     /// twice (13), and where the counter is at its greatest (14).
     pub fn begin_put<'a>(&self, client: Client, items: &'a [Item]) -> Result<Begin<'a>, Refusal>
         ensures { BeginsIf (test_put self.now items.now) client
@@ -136,7 +136,7 @@ impl ClientSession {
 
     /// A read of these keys by this client, whose session it is. `start` begins it.
     ///
-    /// It fails where the session is closed (19), a transaction is running (12), and where there is no key, more than 16 or
+    /// It fails where the session is closed (19), a transaction is running (12), and where there is no key, more than `MAX_KEYS` or
     /// one twice (13).
     pub fn begin_get<'a>(&self, client: Client, keys: &'a [Key]) -> Result<Begin<'a>, Refusal>
         ensures { BeginsIf (test_get self.now keys.now) client
@@ -156,7 +156,7 @@ impl ClientSession {
     }
 
     /// A search for the items that carry this tag by this client, whose session it is, in a store of so many partitions (1 to
-    /// 64). `start` begins it.
+    /// `MAX_PARTS`). `start` begins it.
     ///
     /// It fails where the session is closed (19), and where a transaction is running (12).
     pub fn begin_find<'a>(&self, client: Client, tag: Tag, parts: u32) -> Result<Begin<'a>, Refusal>
@@ -173,7 +173,7 @@ impl ClientSession {
         })
     }
 
-    /// Begins a transaction, in a store of so many partitions (1 to 64). Its calls are then told one by one by `call`.
+    /// Begins a transaction, in a store of so many partitions (1 to `MAX_PARTS`). Its calls are then told one by one by `call`.
     pub fn start(&mut self, begin: &Begin<'_>, parts: u32)
         requires { IsParts parts }
         ensures begun { MayBegin (request_begun begin.now.kind)
@@ -186,7 +186,7 @@ impl ClientSession {
         self.running.begin(&begin.kind, parts);
     }
 
-    /// Begins a write of these items by this client, whose session it is, in a store of so many partitions (1 to 64): what
+    /// Begins a write of these items by this client, whose session it is, in a store of so many partitions (1 to `MAX_PARTS`): what
     /// `begin_put` and `start` do. A `Begin` has some 600 bytes, and none is made here. Where it fails, as `begin_put` does, nothing
     /// has changed.
     pub fn start_put(&mut self, client: Client, items: &[Item], parts: u32) -> Result<(), Refusal>
@@ -209,7 +209,7 @@ impl ClientSession {
         Ok(())
     }
 
-    /// Begins a read of these keys, in a store of so many partitions (1 to 64): what `begin_get` and `start` do. Where it fails, as
+    /// Begins a read of these keys, in a store of so many partitions (1 to `MAX_PARTS`): what `begin_get` and `start` do. Where it fails, as
     /// `begin_get` does, nothing has changed.
     pub fn start_get(&mut self, keys: &[Key], parts: u32) -> Result<(), Refusal>
         requires { IsParts parts }
@@ -227,7 +227,7 @@ impl ClientSession {
         Ok(())
     }
 
-    /// Begins a search by this tag, in a store of so many partitions (1 to 64): what `begin_find` and `start` do. Where it fails, as
+    /// Begins a search by this tag, in a store of so many partitions (1 to `MAX_PARTS`): what `begin_find` and `start` do. Where it fails, as
     /// `begin_find` does, nothing has changed.
     pub fn start_find(&mut self, tag: Tag, parts: u32) -> Result<(), Refusal>
         requires { IsParts parts }
@@ -282,7 +282,7 @@ impl ClientSession {
         self.raise(counter_told(&message.reply));
     }
 
-    /// How many calls of its transaction are sent again, up to 64: those that no reply was taken to. 0 where none is running.
+    /// How many calls of its transaction are sent again, up to `MAX_PARTS`: those that no reply was taken to. 0 where none is running.
     /// `call` reports them one by one. It fails where it is closed (19).
     pub fn pending_calls(&self) -> Result<u32, Refusal>
         ensures refused { IfErr result (λ refusal. test_open self.now ≡ Err refusal) }

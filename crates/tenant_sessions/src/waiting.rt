@@ -16,7 +16,7 @@ use put_all::Partitions;
 use stamps::{Item, Key, Stamp, Tag, WriteSet, limits};
 use std::marker::Model;
 
-/// Places in a part's list of calls: up to 64.
+/// Places in a part's list of calls: up to `MAX_PARTS`.
 #[derive(Drop)]
 struct PendingSet(SmallList<u8, { PendingSet::MAX_LEN }>);
 
@@ -47,7 +47,7 @@ impl PendingSet {
         self.0.clear();
     }
 
-    /// Makes of them the first so many places, up to 64.
+    /// Makes of them the first so many places, up to `MAX_PARTS`.
     fn fill(&mut self, count: usize)
         ensures { self.new ≡ below (min count max_parts) }
     {
@@ -102,7 +102,7 @@ fn keep_unanswered(
     places.truncate(kept);
 }
 
-/// Makes of them the places of all calls of this part, in a store of so many partitions; of more than 64 the first.
+/// Makes of them the places of all calls of this part, in a store of so many partitions; of more than `MAX_PARTS` the first.
 fn fill_all(places: &mut PendingSet, part: &CallBatch, parts: u32)
     requires { IsParts parts }
     ensures within { list_all
@@ -116,7 +116,7 @@ fn fill_all(places: &mut PendingSet, part: &CallBatch, parts: u32)
     places.fill(part.len(parts));
 }
 
-/// The calls of one part of a transaction that have no reply taken, in their order: up to 64.
+/// The calls of one part of a transaction that have no reply taken, in their order: up to `MAX_PARTS`.
 #[derive(Drop)]
 pub(crate) struct Waiting {
     part: CallBatch,
@@ -178,7 +178,7 @@ impl Waiting {
         self.parts = parts;
     }
 
-    /// The GETs of the latest versions of these keys, up to 16.
+    /// The GETs of the latest versions of these keys, up to `MAX_KEYS`.
     pub(crate) fn read(&mut self, keys: &[Key], parts: u32)
         requires few { length keys.now ≤ max_keys }
         requires parts { IsParts parts }

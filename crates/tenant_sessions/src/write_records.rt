@@ -10,7 +10,7 @@ use plain_store::{Call, Message};
 use stamps::{Item, Key, Record, Stamp, Tag, Value, WriteSet};
 use std::marker::Model;
 
-/// The records that a write prepares, in the order of its items: 1 to 16. All have one stamp and one write set.
+/// The records that a write prepares, in the order of its items: 1 to `MAX_KEYS`. All have one stamp and one write set.
 #[derive(Drop)]
 pub(crate) struct WriteRecords {
     stamp: Stamp,

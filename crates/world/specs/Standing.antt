@@ -47,7 +47,7 @@ pub record StandsFor (world : WorldContent) (steps : List Step) : Type 0 where
       → (let setup = setup_of (parts_of world) tenant.limits in
       CellsStandFor setup (history_of setup number steps) world.shelves number)
 
--- there are 1 to 64 partitions, and each has a cell for each tenant
+-- there are 1 to `max_parts` partitions, and each has a cell for each tenant
 pub record IsWorld (shelves : List Shelf) (tenants : List Tenant) : Type 0 where
   pub parts : IsParts (length shelves)
   pub seats : All (λ (shelf : Shelf). seats shelf ≡ length tenants) shelves

@@ -55,7 +55,7 @@ impl Model for World {
 }
 
 impl World {
-    /// A world of `parts` partitions, 1 to 64, with a tenant for each of the limits: the tenant's number is its place
+    /// A world of `parts` partitions, 1 to `MAX_PARTS`, with a tenant for each of the limits: the tenant's number is its place
     /// among them. The one error is that an allocation failed.
     pub fn open(alloc: Global, parts: u32, limits: &[Limits]) -> Result<World, OutOfMemory>
         requires { IsParts parts }

@@ -18,7 +18,7 @@ pub struct Ending {
 /// What was left of the journals of a store.
 #[derive(Drop)]
 pub struct LastEpochs {
-    /// The limits of its tenants, of which there are at most 64.
+    /// The limits of its tenants, of which there are at most `MAX_TENANTS`.
     pub limits: Vec<Limits>,
     /// For each partition what was left of the tenants' journals: that of tenant n at place n.
     pub rows: Vec<Vec<Ending>>,
