@@ -209,7 +209,7 @@ fn answers() -> Option<[Answer; 24]> {
         Answer::Done(stamp),
         Answer::Ask(rows),
         Answer::BeginsRead(rows),
-        Answer::Read(Readings::of(&[reading; 16])?),
+        Answer::Read(Readings::of(&[reading; Readings::MAX_LEN])?),
         Answer::Listed(Readings::of(&[])?),
         Answer::Restart(key(b"alpha")?, stamp),
         Answer::Ended(Refusal::Torn, None),

@@ -273,13 +273,13 @@ fn a_line_may_come_in_two_pieces(rt: HostRuntime) {
     }
 }
 
-/// Whether a line of 4095 bytes comes, and a longer one ends the lines.
-fn is_cut_at_4096(alloc: Global) -> Option<bool> {
-    let long = [b'a'; 4096];
+/// Whether a line comes that has `LINE_LIMIT` bytes with its LF, and a longer one ends the lines.
+fn is_cut_at_the_limit(alloc: Global) -> Option<bool> {
+    let long = [b'a'; LINE_LIMIT];
     let mut lines = Lines::open(alloc).ok()?;
-    let mut holds = lines.feed(&long[..4095]) == Ok(4095);
+    let mut holds = lines.feed(&long[..LINE_LIMIT - 1]) == Ok(LINE_LIMIT - 1);
     holds &= lines.feed(b"\n") == Ok(1);
-    holds &= lines.next_line() == Some(&long[..4095]);
+    holds &= lines.next_line() == Some(&long[..LINE_LIMIT - 1]);
     holds &= lines.feed(&long) == Err(Refusal::LineTooLong);
     holds &= lines.feed(b"") == Err(Refusal::LineTooLong);
     holds &= lines.feed(b"\n") == Err(Refusal::LineTooLong);
@@ -304,16 +304,16 @@ fn is_written_alone(alloc: Global) -> Option<bool> {
 /// The longest reading.
 fn longest() -> Option<Reading> {
     let item = Item {
-        key: Key::read(&[b'k'; 32])?,
-        tag: Tag::read(&[b't'; 16])?,
-        value: Value::read(&[b'v'; 128])?,
+        key: Key::read(&[b'k'; Key::MAX_LEN])?,
+        tag: Tag::read(&[b't'; Tag::MAX_LEN])?,
+        value: Value::read(&[b'v'; Value::MAX_LEN])?,
     };
     let stamp = Stamp::new(1_099_511_627_775, 65535)?;
     Some(Reading { item, stamp })
 }
 
 fn the_longest_line_has_3189_bytes(alloc: Global) -> Option<bool> {
-    let readings = Readings::of(&[longest()?; 16])?;
+    let readings = Readings::of(&[longest()?; Readings::MAX_LEN])?;
     let mut out = BytesMut::with_capacity(alloc, LINE_LIMIT).ok()?;
     let is_written = write_answer(&Answer::Read(readings), &mut out) == Ok(());
     let is_full = write_answer(&Answer::Lost, &mut out) == Err(NoRoom);
@@ -321,9 +321,9 @@ fn the_longest_line_has_3189_bytes(alloc: Global) -> Option<bool> {
 }
 
 #[test]
-fn lines_have_less_than_4096_bytes(rt: HostRuntime) {
+fn lines_are_shorter_than_the_limit(rt: HostRuntime) {
     let yes = Some(true);
-    assert!(rt; is_cut_at_4096(rt.alloc()) == yes && is_written_alone(rt.alloc()) == yes);
+    assert!(rt; is_cut_at_the_limit(rt.alloc()) == yes && is_written_alone(rt.alloc()) == yes);
     assert!(rt; the_longest_line_has_3189_bytes(rt.alloc()) == yes);
 }
 

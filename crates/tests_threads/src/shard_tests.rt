@@ -1,5 +1,6 @@
 //! One partition with its worker, in one thread: what the gate and the sink find of its lock.
 ghost use Rattle.std.specs.Prelude.{◌≡◌, ◌≤◌, [], ◌∷◌, IfSome, length};
+ghost use Rattle.stamps.specs.Limits.{max_tenants};
 ghost use Rattle.history.specs.declared.entry.HistoryEntry.TheVariants.{Opened};
 
 use crossbeam_channel::{Receiver, unbounded};
@@ -10,6 +11,7 @@ use shard::{
     Collector, Gate, Job, KeepSettings, SeatCall, SeatReply, Shard, ShardConfig, Sink, Task,
     collect_at, job_queue, work,
 };
+use stamps::limits::MAX_TENANTS;
 use stamps::{Client, Keep, Limits, Tag};
 use std::alloc::Global;
 use std::marker::Brand;
@@ -56,16 +58,16 @@ impl<J: Naming> Sink for Trier<J> {
     }
 }
 
-/// The limits of so many tenants, 1 to 64.
+/// The limits of so many tenants, 1 to `MAX_TENANTS`.
 fn limits_of(alloc: Global, tenants: u32) -> Option<Vec<Limits>>
-    ensures { IfSome result (λ limits. length limits.items ≤ 64) }
+    ensures { IfSome result (λ limits. length limits.items ≤ max_tenants) }
 {
     let its = Limits::new(16, 16, Keep::new(1)?, 4)?;
     let mut limits = Vec::new(alloc);
     for _tenant in 0..tenants {
         limits.push(its).ok()?;
     }
-    if limits.len() > 64 {
+    if limits.len() > MAX_TENANTS as usize {
         return None;
     }
     Some(limits)
@@ -79,7 +81,7 @@ fn shard<J: Naming>(
     epoch: u32,
     history: NewHistory,
 ) -> Option<(Arc<Shard<J>>, Front<J>)>
-    requires few { length limits.now ≤ 64 }
+    requires few { length limits.now ≤ max_tenants }
     requires opened { history.seen.log ≡ Opened (record { parts = 1; limits = limits.now }) ∷ [] }
     requires name { history.seen.book ≡ J.book }
 {
@@ -145,7 +147,7 @@ fn serve_three_in<J: Naming, R: Wait>(
     limits: &[Limits],
     history: NewHistory,
 ) -> Option<[u64; 3]>
-    requires few { length limits.now ≤ 64 }
+    requires few { length limits.now ≤ max_tenants }
     requires opened { history.seen.log ≡ Opened (record { parts = 1; limits = limits.now }) ∷ [] }
     requires name { history.seen.book ≡ J.book }
 {
@@ -208,7 +210,7 @@ fn collections_in<J: Naming, R: Wait>(
     epoch: u32,
     rounds: u32,
 ) -> Option<Vec<u64>>
-    requires few { length limits.now ≤ 64 }
+    requires few { length limits.now ≤ max_tenants }
     requires opened { history.seen.log ≡ Opened (record { parts = 1; limits = limits.now }) ∷ [] }
     requires name { history.seen.book ≡ J.book }
 {

@@ -7,7 +7,7 @@ ghost use Rattle.stamps.specs.Bounds.{IsParts};
 
 use oracle::oracle_run;
 use plain_store::{Act, Answer, Items, Keys, PrepareReply, ReadReply, Refusal, Reply, Step};
-use stamps::{Client, Counter, Item, Keep, Key, Limits, Tag, Value};
+use stamps::{Client, Counter, Item, Keep, Key, Limits, Tag, Value, WriteSet};
 use std::alloc::Global;
 use world::World;
 
@@ -20,7 +20,7 @@ const CLIENTS: u32 = 3;
 
 const KEYS: [&str; 4] = ["x", "y", "z", "a"];
 
-/// The keys of a wide list.
+/// The keys of a wide list: more than a search returns.
 const WIDE_KEYS: [&str; 20] = [
     "a", "b", "c", "d", "e", "f", "g", "h", "i", "j", "k", "l", "m", "n", "o", "p", "q", "r", "s",
     "t",
@@ -160,11 +160,11 @@ impl Draws {
         Some(Act::Put(client, Items::new(items)))
     }
 
-    /// A write of most of a wide list's keys, 16 at most, all with one tag.
+    /// A write of most of a wide list's keys, as many as a write has at most, all with one tag.
     fn wide_put(&mut self, alloc: Global) -> Option<Act> {
         let mut items = Vec::new(alloc);
         for text in WIDE_KEYS {
-            if items.len() < 16 && self.below(10) < 8 {
+            if items.len() < WriteSet::MAX_LEN && self.below(10) < 8 {
                 let key = Key::read(text.as_bytes())?;
                 items
                     .push(Item {
@@ -378,7 +378,7 @@ pub struct Met {
     collected: u32,
     /// A reader begins anew, since what it asked for was collected.
     restarts: u32,
-    /// A search gets more than 16 keys.
+    /// A search gets more keys than it returns.
     too_many: u32,
     full_slots: u32,
     full_items: u32,

@@ -6,6 +6,7 @@ use crate::asking::{seated, two_items};
 use hub::{Closed, Config, Front, Gate, Hub, Named, Naming, NewStore, Sink};
 use partition::{Epoch, EventList};
 use plain_store::{Answer, Call, Refusal};
+use stamps::limits::{MAX_PARTS, MAX_TENANTS};
 use stamps::{Client, Counter, Item, Keep, Key, Limits, home};
 use std::alloc::Global;
 use std::marker::Brand;
@@ -63,7 +64,7 @@ fn config(alloc: Global, parts: u32, tenants: u32) -> Option<Config> {
     for _tenant in 0..tenants {
         limits.push(its).ok()?;
     }
-    if parts == 0 || parts > 64 || limits.is_empty() || limits.len() > 64 {
+    if parts == 0 || parts > MAX_PARTS || limits.is_empty() || limits.len() > MAX_TENANTS as usize {
         return None;
     }
     Some(Config {
@@ -82,7 +83,7 @@ fn keep_of(tenant: u32) -> Option<Keep> {
 
 /// The first of the keys `aaa`, `abb`, .., `zzz` whose home is this partition.
 fn key_at(partition: u32, parts: u32) -> Option<Key> {
-    if parts == 0 || parts > 64 {
+    if parts == 0 || parts > MAX_PARTS {
         return None;
     }
     for first in b'a'..=b'z' {
