@@ -6,6 +6,7 @@ use std::collections::{BTreeMap, BTreeSet, HashMap};
 use std::io::{self, Read, Write};
 
 const LINE_LIMIT: usize = 4096;
+const MOST_KEYS: usize = 16;
 const ROOM: usize = 65536;
 
 #[derive(Clone, Copy, PartialEq, Eq, PartialOrd, Ord, Hash)]
@@ -24,6 +25,10 @@ impl<const N: usize> Text<N> {
         Some(Text { bytes, len: text.len() as u8 })
     }
 
+    fn empty() -> Self {
+        Text { bytes: [0; N], len: 0 }
+    }
+
     fn as_bytes(&self) -> &[u8] {
         &self.bytes[..usize::from(self.len)]
     }
@@ -40,6 +45,7 @@ fn is_visible_byte(byte: u8) -> bool {
 // Both have no byte 0, so the order of the padded bytes is the byte order of the texts.
 type Key = Text<32>;
 type Tag = Text<16>;
+type Value = Text<128>;
 
 fn read_key(text: &[u8]) -> Option<Key> {
     Key::read(text, 1, is_name_byte)
@@ -55,9 +61,9 @@ struct Stamp {
 struct Record {
     key: Key,
     tag: Tag,
-    value: Text<128>,
+    value: Value,
     stamp: Stamp,
-    writes: [Key; 16],
+    writes: [Key; MOST_KEYS],
     written: u8,
 }
 
@@ -233,7 +239,7 @@ impl Cell for Maps {
         if self.kept == self.slots {
             return PrepareReply::FullSlots;
         }
-        let none = Text { bytes: [0; 16], len: 0 };
+        let none = Tag::empty();
         let fresh = || Item { floor: NO_STAMP, latest: NO_STAMP, tag: none, versions: BTreeMap::new() };
         let item = self.items.entry(version.key).or_insert_with(fresh);
         item.versions.insert(version.stamp, Version { prepared: *version, committed: false });
@@ -278,7 +284,7 @@ impl Cell for Maps {
     }
 
     fn under(&self, tag: &Tag) -> Vec<Key> {
-        let first = Text { bytes: [0; 32], len: 0 };
+        let first = Key::empty();
         self.tagged.range((*tag, first)..).take_while(|(of, _)| of == tag).map(|(_, key)| *key).collect()
     }
 
@@ -329,11 +335,11 @@ fn read_record(text: &[u8], keys: &[u8]) -> Option<Record> {
         None => (version, Text::read(b"", 0, is_name_byte)?),
     };
     let key = read_key(key)?;
-    let mut writes = [key; 16];
+    let mut writes = [key; MOST_KEYS];
     let mut written = 0;
     for part in keys.split(|&byte| byte == b',') {
         let next = read_key(part)?;
-        if written == 16 || (written > 0 && writes[written - 1].as_bytes() >= next.as_bytes()) {
+        if written == MOST_KEYS || (written > 0 && writes[written - 1].as_bytes() >= next.as_bytes()) {
             return None;
         }
         writes[written] = next;
@@ -426,7 +432,7 @@ fn answer_found(cell: &impl Cell, words: &[u8], out: &mut Vec<u8>) -> Option<()>
     let tag = Text::read(words, 1, is_name_byte)?;
     let keys = cell.under(&tag);
     let _ = write!(out, "found {}", keys.len());
-    put_keys(out, &keys[..keys.len().min(16)]);
+    put_keys(out, &keys[..keys.len().min(MOST_KEYS)]);
     out.push(b'\n');
     Some(())
 }

@@ -17,16 +17,17 @@ import urllib.parse
 from typing import Mapping, Optional, Union
 
 from .errors import Invalid, NotWhole
-from .lines import KINDS, MOST_ITEMS, Item, check
+from .lines import KINDS, Item, check
 
 VALUE_LIMIT = KINDS["value"][1]
-RECORD_LIMIT = MOST_ITEMS * VALUE_LIMIT - 2
+_DIGITS = "0123456789abcdef"
+MOST_PARTS = len(_DIGITS)
+RECORD_LIMIT = MOST_PARTS * VALUE_LIMIT - 2
 """How many signs a record has at most: so many bytes of plain text, or 1,636 bytes of any kind."""
 
 _SIGNS = "!\"#$&'()*,-./:;<=>?@[\\]^_`{|}~"
 """What stands for itself in a text, in addition to letters and digits."""
 
-_DIGITS = "0123456789abcdef"
 _BAD_ESCAPE = re.compile("%(?![0-9A-Fa-f]{2})")
 
 
@@ -50,10 +51,10 @@ def decode_bytes(value: str) -> bytes:
     return _bytes_of(check("value", value))
 
 
-def record_keys(key: str, parts: int = MOST_ITEMS) -> list[str]:
+def record_keys(key: str, parts: int = MOST_PARTS) -> list[str]:
     """The keys under which a record of this name stands: `key.0`, `key.1`, .. Who knows that it is short reads fewer of them."""
-    if not 1 <= parts <= MOST_ITEMS:
-        raise Invalid(f"a record has 1 to {MOST_ITEMS} keys, and not {parts!r}", "record", key)
+    if not 1 <= parts <= MOST_PARTS:
+        raise Invalid(f"a record has 1 to {MOST_PARTS} keys, and not {parts!r}", "record", key)
     return [check("key", f"{key}.{digit}", key) for digit in _DIGITS[:parts]]
 
 

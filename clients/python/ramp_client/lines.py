@@ -12,19 +12,25 @@ LINE_LIMIT = 4096
 MOST_ITEMS = 16
 MOST_COUNTER = (1 << 40) - 1
 
+
+def _kind(least: int, most: int, sign: str, words: str) -> tuple[int, int, str, str]:
+    return least, most, sign, f"{least} to {most} bytes {words}"
+
+
 KINDS = {
-    "key": (1, 32, r"[a-z0-9_./-]", "1 to 32 bytes of a-z 0-9 _ . / -"),
-    "tag": (1, 16, r"[a-z0-9_./-]", "1 to 16 bytes of a-z 0-9 _ . / -"),
-    "value": (0, 128, r"[!-~]", "0 to 128 bytes from ! to ~; ramp_client.codec writes other text, and bytes"),
-    "tenant": (1, 16, r"[a-z0-9_]", "1 to 16 bytes of a-z 0-9 _"),
+    "key": _kind(1, 32, r"[a-z0-9_./-]", "of a-z 0-9 _ . / -"),
+    "tag": _kind(1, 16, r"[a-z0-9_./-]", "of a-z 0-9 _ . / -"),
+    "value": _kind(0, 128, r"[!-~]", "from ! to ~; ramp_client.codec writes other text, and bytes"),
+    "tenant": _kind(1, 16, r"[a-z0-9_]", "of a-z 0-9 _"),
 }
 """Of each kind of word: its least and most bytes, those that may stand in it, and this in words."""
 
-_WORDS = {kind: re.compile(f"{sign}{{{least},{most}}}").fullmatch for kind, (least, most, sign, _) in KINDS.items()}
+_PATTERNS = {kind: f"{sign}{{{least},{most}}}" for kind, (least, most, sign, _) in KINDS.items()}
+_WORDS = {kind: re.compile(pattern).fullmatch for kind, pattern in _PATTERNS.items()}
 _NUMBER = re.compile(r"0|[1-9][0-9]{0,18}").fullmatch
 _STAMP = r"([1-9][0-9]{0,12})\.([1-9][0-9]{0,4})"
 _STAMPED = re.compile(_STAMP).fullmatch
-_WRITTEN = re.compile(r"([a-z0-9_./-]{1,32})@" + _STAMP + r"(?:#([a-z0-9_./-]{1,16}))?=([!-~]{0,128})").fullmatch
+_WRITTEN = re.compile(f"({_PATTERNS['key']})@{_STAMP}(?:#({_PATTERNS['tag']}))?=({_PATTERNS['value']})").fullmatch
 
 
 class Item(NamedTuple):

@@ -14,7 +14,7 @@
 //! Write a record with `client.put(&parts)`. Read it with `client.get(&codec::record_keys("note"))` and [`decode_record`].
 
 use crate::error::{Error, Fault, Part};
-use crate::line::{self, MOST_ITEMS, MOST_VALUE};
+use crate::line::{self, MOST_VALUE};
 use crate::Item;
 
 /// The digits of base 85, as in RFC 1924.
@@ -22,6 +22,9 @@ const SIGNS: &[u8; 85] = b"0123456789ABCDEFGHIJKLMNOPQRSTUVWXYZabcdefghijklmnopq
 
 /// The first value of a record begins with the number of its values and its encoding.
 const HEAD: usize = 2;
+
+/// The most keys of a record: one for each hexadecimal digit.
+const MOST_PARTS: usize = 16;
 
 /// What a record holds.
 #[derive(Clone, Debug, PartialEq, Eq)]
@@ -53,8 +56,8 @@ pub fn decode_bytes(value: &str) -> Result<Vec<u8>, Error> {
 }
 
 /// The keys of a record: `KEY.0` to `KEY.f`.
-pub fn record_keys(key: &str) -> [String; MOST_ITEMS] {
-    const DIGITS: [char; MOST_ITEMS] = ['0', '1', '2', '3', '4', '5', '6', '7', '8', '9', 'a', 'b', 'c', 'd', 'e', 'f'];
+pub fn record_keys(key: &str) -> [String; MOST_PARTS] {
+    const DIGITS: [char; MOST_PARTS] = ['0', '1', '2', '3', '4', '5', '6', '7', '8', '9', 'a', 'b', 'c', 'd', 'e', 'f'];
     DIGITS.map(|digit| format!("{key}.{digit}"))
 }
 
@@ -77,7 +80,7 @@ pub fn encode_record(key: &str, content: &Content) -> Result<Vec<(String, String
         }
     };
     let parts = (signs.len() + HEAD + MOST_VALUE - 1) / MOST_VALUE;
-    if parts > MOST_ITEMS {
+    if parts > MOST_PARTS {
         return Err(line::invalid(Part::Record, &signs, key, Fault::Length(signs.len())));
     }
     let signs = format!("{:x}{form}{signs}", parts - 1);
