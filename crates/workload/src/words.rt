@@ -29,7 +29,7 @@ use std::time::Clock;
 /// used, and with `--version` which one it is.
 ///
 /// - `ramp cell [--slots N] [--items N] [--clients N]` answers the calls of one cell, as [`line_runs::run_cell`] says.
-/// - `ramp sim [--parts P] [--slots N] [--items N] [--clients N] [--keep K] TENANT..` answers the steps of these 1 to 64 tenants, none
+/// - `ramp sim [--parts P] [--slots N] [--items N] [--clients N] [--keep K] TENANT..` answers the steps of these tenants, none
 ///   named twice, which have the same limits.
 /// - `ramp serve` takes what `ramp sim` takes, and `[--port N] [--sessions N] [--stay] [--strict] [--newest] [--queue N] [--every N]
 ///   [--epoch N] [--status N]`, and serves sessions of the tenants over TCP, as [`run_server`] says. With `--stay` the number of sessions is of those at
@@ -37,16 +37,7 @@ use std::time::Clock;
 /// - `ramp load` takes what `ramp sim` takes, `--queue`, `--every` and `--epoch`, and `[--seats N] [--rounds N] [--seed N] [--keys N]`, and
 ///   runs seats of the tenants, as [`run_load`] says: no more of a tenant than it has clients.
 ///
-/// | option | range | default |
-/// |---|---|---|
-/// | `--slots`, `--items` | 1 to 65536 | 1024, 256 |
-/// | `--clients`, `--parts`, `--keep` | 1 to 1024, 1 to 64, 1 to 255 | 16, 2, 2 |
-/// | `--port`, `--sessions` | 0 to 65535, 1 to 1024 | 0, 1 |
-/// | `--queue`, `--every` | 1 to 1024, 1 to 65536 | 64, 64 |
-/// | `--epoch`; 0 is never | 0 to 1048576 | 0 |
-/// | `--status`; 0 is none | 0 to 65535 | 0 |
-/// | `--seats`, `--rounds` | 1 to 16, 1 to 10000 | 4, 100 |
-/// | `--seed`, `--keys` | 0 to 4294967295, 4 to 256 | 1, 16 |
+/// The range and the default of each option stand in its row of `command_line/src/options.rt`, and in the help.
 ///
 /// The result is the exit status: 0, or that of a fault of which `errors` got one line. A write to
 /// `errors` that fails changes nothing.
