@@ -26,7 +26,7 @@ pub enum FindMove {
     List(Readings),
     /// A version that was asked for lies below this floor of its key.
     Restart(Key, Stamp),
-    /// More than 16 items were found.
+    /// More than `MAX_FOUND` items were found.
     TooMany,
     /// The reply was inconsistent.
     Torn,
@@ -42,9 +42,9 @@ pub struct TagSearch {
     tag: Tag,
     parts: u32,
     asked: AskedList,
-    /// How many items were found so far, or 17 where they are more than 16.
+    /// How many items were found so far, or one past `MAX_FOUND` where they are more.
     total: u32,
-    /// Their keys, as long as they are no more than 16.
+    /// Their keys, as long as they are no more than `MAX_FOUND`.
     keys: FoundKeys,
     /// Whether what was found is read.
     reads: bool,
@@ -116,7 +116,7 @@ impl TagSearch {
     /// The most items that a search lists.
     const MAX_ITEMS: u32 = limits::MAX_FOUND as u32;
 
-    /// A search of the items of this tag in a store of so many partitions (1 to 64), which took no reply yet.
+    /// A search of the items of this tag in a store of so many partitions (1 to `MAX_PARTS`), which took no reply yet.
     pub fn new(tag: Tag, parts: u32) -> TagSearch
         requires { IsParts parts }
         ensures { (setup : Setup) (reader : Reads) → setup.partitions ≡ parts
@@ -133,7 +133,7 @@ impl TagSearch {
         }
     }
 
-    /// Makes of it a search of the items of this tag in a store of so many partitions (1 to 64), which took no reply yet.
+    /// Makes of it a search of the items of this tag in a store of so many partitions (1 to `MAX_PARTS`), which took no reply yet.
     pub fn reset(&mut self, tag: Tag, parts: u32)
         requires { IsParts parts }
         ensures { (setup : Setup) (reader : Reads) → setup.partitions ≡ parts
