@@ -12,7 +12,7 @@ use Rattle.clap.specs.declared.builder.value_parser.ValueParser.TheVariants.{Sig
 use Rattle.clap.specs.declared.error.kind.ErrorKind.{ErrorKind}
 use Rattle.clap.specs.declared.error.kind.ErrorKind.TheVariants.{DisplayHelp, DisplayVersion}
 use Rattle.stamps.specs.Bounds.{IsParts}
-use Rattle.stamps.specs.Limits.{max_clients, max_keep, max_parts, max_room, max_tenants}
+use Rattle.stamps.specs.Limits.{max_parts, max_tenants, max_room, max_keep, max_clients, max_seats}
 use Rattle.stamps.specs.declared.bounds.Limits.{Limits}
 use Rattle.command_line.specs.declared.server_options.ServerOptions.{ServerOptions}
 use Rattle.command_line.specs.declared.load_options.LoadOptions.{LoadOptions}
@@ -103,7 +103,7 @@ abbrev pub status_rule : Rule
 status_rule = ranged_rule (codes "status") (codes "0") (pos 0) (pos 65535)
 
 abbrev pub seats_rule : Rule
-seats_rule = number_rule (codes "seats") (codes "4") (pos 16)
+seats_rule = number_rule (codes "seats") (codes "4") (pos max_seats)
 
 abbrev pub rounds_rule : Rule
 rounds_rule = number_rule (codes "rounds") (codes "100") (pos 10000)

@@ -1,10 +1,11 @@
 //! What the seats of a load do, and how its store is paced.
 ghost use Rattle.std.specs.Prelude.{◌<◌, ◌≤◌, ◌^◌};
+ghost use Rattle.stamps.specs.Limits.{max_seats};
 
 /// How many seats a load has, what they do, and how its store is paced.
 #[derive(Clone, Copy)]
 pub struct LoadOptions {
-    /// How many seats each tenant has, 1 to 16.
+    /// How many seats each tenant has, 1 to `MAX_SEATS`.
     pub seats: u32,
     /// How many rounds each seat does, 1 to 10000.
     pub rounds: u32,
@@ -19,7 +20,7 @@ pub struct LoadOptions {
     /// After how many events of a journal it is cut, 0 to 1048576; 0 is never.
     pub epoch: u32,
     pub ghost some_seats: { 0 < seats },
-    pub ghost few_seats: { seats ≤ 16 },
+    pub ghost few_seats: { seats ≤ max_seats },
     pub ghost some_rounds: { 0 < rounds },
     pub ghost few_rounds: { rounds ≤ 10000 },
     pub ghost is_seed: { seed < 2 ^ 32 },

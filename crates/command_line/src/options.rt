@@ -137,7 +137,7 @@ pub(crate) const SEATS: NumberOption = NumberOption {
     name: "seats",
     default: "4",
     least: 1,
-    most: 16,
+    most: limits::MAX_SEATS,
     help: "How many clients of each tenant have a seat, 1 to 16",
 };
 

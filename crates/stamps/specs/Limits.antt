@@ -45,6 +45,10 @@ max_keep = 255
 abbrev pub max_clients : ℕ
 max_clients = 1024
 
+-- the most seats that each tenant of a load has
+abbrev pub max_seats : ℕ
+max_seats = 16
+
 -- the greatest counter of a stamp
 abbrev pub max_counter : ℕ
 max_counter = 2 ^ 40 - 1

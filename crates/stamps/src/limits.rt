@@ -33,6 +33,9 @@ pub const MAX_KEEP: u8 = 255;
 /// The most clients of a tenant.
 pub const MAX_CLIENTS: u32 = 1_024;
 
+/// The most seats that each tenant of a load has.
+pub const MAX_SEATS: u32 = 16;
+
 /// The greatest counter of a stamp, 2^40 - 1.
 pub const MAX_COUNTER: u64 = 1_099_511_627_775;
 

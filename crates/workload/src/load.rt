@@ -1,5 +1,6 @@
 //! A load: seats that put, get and search as they draw it, and the verdict over what they were answered.
 ghost use Rattle.std.specs.Prelude.{◌≡◌, ◌≤◌, ◌<◌, length};
+ghost use Rattle.stamps.specs.Limits.{max_seats};
 ghost use Rattle.workload.specs.Rounds.{AreOfSeats, seats_of};
 ghost use Rattle.hub.specs.Hubs.{config_view};
 ghost use Rattle.workload.specs.Loading.{HasLoaded, IsToldOfLoad};
@@ -52,7 +53,7 @@ pub fn run_load<H: Threads + Wait + Clone + Send + Sync + Drop + 'static, W: Wri
     keys: u32,
     writer: &mut W,
 ) -> Result<(), ProgramFault>
-    requires seats { seats ≤ 16 }
+    requires seats { seats ≤ max_seats }
     requires keys { 0 < keys }
     ensures { HasLoaded (config_view config)
         (record { seats = seats; rounds = rounds; seed = seed; keys = keys }) names.now
@@ -76,7 +77,7 @@ fn load_and_settle<H: Threads + Wait + Clone + Send + Sync + Drop + 'static, W: 
     orders: Orders,
     writer: &mut W,
 ) -> Result<(), ProgramFault>
-    requires seats { seats ≤ 16 }
+    requires seats { seats ≤ max_seats }
     requires never { config.epoch ≡ 0 }
     ensures { HasLoaded (config_view config)
         (record { seats = seats; rounds = orders.rounds; seed = orders.seed; keys = orders.keys })
@@ -96,7 +97,7 @@ fn load_and_join<H: Threads + Wait + Clone + Send + Sync + Drop + 'static, W: Wr
     orders: Orders,
     writer: &mut W,
 ) -> Result<(), ProgramFault>
-    requires seats { seats ≤ 16 }
+    requires seats { seats ≤ max_seats }
     requires cut { 0 < config.epoch }
     ensures { HasLoaded (config_view config)
         (record { seats = seats; rounds = orders.rounds; seed = orders.seed; keys = orders.keys })
@@ -120,7 +121,7 @@ fn run_store<
     seats: u16,
     orders: Orders,
 ) -> Result<Closed, ProgramFault>
-    requires { seats ≤ 16 }
+    requires { seats ≤ max_seats }
     ensures { DoneOrRefused (λ closed. IsClosed (config_view config) closed
         × AreOfSeats orders.seed orders.rounds orders.keys
         (seats_of (length config.limits.items) seats) closed.transcripts.items) result }
@@ -141,7 +142,7 @@ fn run_new<
     seats: u16,
     orders: Orders,
 ) -> Result<Closed, ProgramFault>
-    requires seats { seats ≤ 16 }
+    requires seats { seats ≤ max_seats }
     requires name { store.history.seen.book ≡ J.book }
     ensures { DoneOrRefused (λ closed. IsClosed (config_view store.config) closed
         × AreOfSeats orders.seed orders.rounds orders.keys

@@ -1,7 +1,7 @@
 //! The seats of a load, each of which does its rounds in a thread of its own.
 ghost use Rattle.std.specs.Prelude.{◌≡◌, ◌≤◌, ◌<◌, ◌++◌, ◌∷◌, [], All, IfOk, IfErr, IfSome, false, map, true};
 ghost use Rattle.std.specs.List.{filter_map};
-ghost use Rattle.stamps.specs.Limits.{max_tenants};
+ghost use Rattle.stamps.specs.Limits.{max_tenants, max_seats};
 ghost use Rattle.line_runs.specs.declared.fault.ProgramFault.TheVariants.{Device, OutOfMemory as NoMemory};
 ghost use Rattle.plain_store.specs.declared.answer.Answer.{Answer as Told};
 ghost use Rattle.closed_store.specs.declared.transcript.Transcript.{Transcript as Left};
@@ -66,7 +66,7 @@ pub(crate) fn run_seats<J: Naming + Send + Sync, H: Threads + Wait + Sync>(
     orders: Orders,
 ) -> Result<KeptTranscripts<Named<J, Open>>, ProgramFault>
     requires tenants { tenants ≤ max_tenants }
-    requires seats { seats ≤ 16 }
+    requires seats { seats ≤ max_seats }
     ensures { DoneOrRefused
         (λ kept. AreOfSeats orders.seed orders.rounds orders.keys (seats_of tenants seats)
         (transcripts_of kept)) result }
@@ -76,7 +76,7 @@ pub(crate) fn run_seats<J: Naming + Send + Sync, H: Threads + Wait + Sync>(
         rt,
         |scope| -> Result<KeptTranscripts<Named<J, Open>>, ProgramFault>
             requires tenants { tenants ≤ max_tenants }
-            requires seats { seats ≤ 16 }
+            requires seats { seats ≤ max_seats }
             ensures { DoneOrRefused
                 (λ kept. AreOfSeats orders.seed orders.rounds orders.keys
                 (seats_of tenants seats) (transcripts_of kept)) result }
