@@ -153,7 +153,8 @@ impl<J: Naming> Front<J> {
     /// here.
     pub fn begin(&mut self, tally: &Tally<J>, entries: u64, begun: &WriteToBegin<'_>) -> bool
         requires room { entries < 2 ^ 62 }
-        requires client { (tally.now.key ≡ begun.now.word) × (max_parts < begun.now.word) × (0 < entries) }
+        requires client { (tally.now.key ≡ begun.now.word) × (max_parts < begun.now.word)
+            × (0 < entries) }
         requires counted { count tally.now.key self.old ≡ entries }
         requires may { ∥ MayFollow self.old self.old (began_by begun.now) ∥₁ }
         ensures later { IsPrefix self.old self.new }
