@@ -1,9 +1,10 @@
 -- That a packed act is read again.
-use Rattle.std.proofs.Common.{◌≡◌, ℕ, ◌^◌, ◌-◌, ◌∷◌, ◌++◌, List, Some, refl, ap, ◌∙◌, append_assoc, length, arith}
+use Rattle.std.proofs.Common.{◌≡◌, ℕ, ◌∷◌, ◌++◌, List, Some, refl, ap, ◌∙◌, append_assoc, length, arith}
 use Rattle.std.specs.List.{flat_map}
 use Rattle.std.proofs.lemmas.Bool.{ne_eqb, le-ltb}
 use Rattle.stamps.specs.Bounds.{IsClient, IsCounter, IsKeep}
 use Rattle.stamps.specs.Key.{IsKey}
+use Rattle.stamps.specs.Limits.{max_counter}
 use Rattle.stamps.specs.declared.record.Item.{Item}
 use Rattle.plain_store.specs.declared.step.Act.{Act}
 use Rattle.plain_store.specs.declared.step.Act.TheVariants.{Hello, Put, Get, Find, Deliver, Lose, Retry}
@@ -25,7 +26,7 @@ client_again client rest h =
 pub counter_again : (counter : ℕ) (rest : List ℕ) → IsCounter counter → counter_at (packed_number counter ++ rest) ≡ Some (counter, rest)
 unfolding counter_at
 counter_again counter rest h =
-    rw (number_again counter rest (omega (arith, h)), le-ltb (2 ^ 40 - 1) counter h) refl
+    rw (number_again counter rest (omega (arith, h)), le-ltb max_counter counter h) refl
 
 pub keep_again : (keep : ℕ) (rest : List ℕ) → IsKeep keep → keep_at (keep ∷ rest) ≡ Some (keep, rest)
 unfolding keep_at

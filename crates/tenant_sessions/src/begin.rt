@@ -1,6 +1,6 @@
 //! Transactions that may begin.
-ghost use Rattle.std.specs.Prelude.{◌≡◌, ◌<◌, ◌≤◌, ◌^◌};
-ghost use Rattle.stamps.specs.Limits.{max_parts};
+ghost use Rattle.std.specs.Prelude.{◌≡◌, ◌≤◌};
+ghost use Rattle.stamps.specs.Limits.{max_parts, max_counter};
 ghost use Rattle.tenant_sessions.specs.Held.{IsTested, request_begun, drawn_counter};
 
 use plain_store::{Answer, Rows};
@@ -33,7 +33,7 @@ impl Beginning<'_> {
     /// The counter of the stamp that it drew, 0 where it drew none.
     pub(crate) fn counter(&self) -> u64
         ensures value { result ≡ drawn_counter (request_begun self.now) }
-        ensures in_range { result < 2 ^ 40 }
+        ensures in_range { result ≤ max_counter }
     {
         match self {
             Beginning::Put(stamp, ..) => stamp.counter(),

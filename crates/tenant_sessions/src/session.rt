@@ -1,6 +1,6 @@
 //! One client's session.
-ghost use Rattle.std.specs.Prelude.{◌≡◌, ◌+◌, ◌<◌, ◌≤◌, ◌^◌, true, nat_le, not, length, IfSome, is_none};
-ghost use Rattle.stamps.specs.Limits.{max_keys, max_parts};
+ghost use Rattle.std.specs.Prelude.{◌≡◌, ◌+◌, ◌<◌, ◌≤◌, true, nat_le, not, length, IfSome, is_none};
+ghost use Rattle.stamps.specs.Limits.{max_keys, max_parts, max_counter};
 ghost use Rattle.stamps.specs.Stamp.{stamp};
 ghost use Rattle.plain_store.specs.History.{counter_in};
 ghost use Rattle.plain_store.specs.Run.{are_bad, counter_limit};
@@ -48,7 +48,7 @@ fn next_stamp(counter: Counter, client: Client) -> Option<Stamp>
 /// The counter of the stamp that a reply reports, 0 where it reports none.
 fn counter_told(reply: &Option<Reply>) -> u64
     ensures value { result ≡ counter_in reply.now }
-    ensures in_range { result < 2 ^ 40 }
+    ensures in_range { result ≤ max_counter }
 {
     match reply {
         Some(Reply::Get(ReadReply::Version(version))) => version.stamp.counter(),
@@ -58,7 +58,7 @@ fn counter_told(reply: &Option<Reply>) -> u64
 }
 
 impl ClientSession {
-    ghost use Rattle.std.specs.Prelude.{◌≡◌, ◌+◌, ◌<◌, ◌≤◌, ◌^◌, max, nat_lt, true, false, List, length, map, slice_get, Some, None, Ok, Err, IfOk, IfErr, if◌then◌else◌};
+    ghost use Rattle.std.specs.Prelude.{◌≡◌, ◌+◌, ◌≤◌, max, nat_lt, true, false, List, length, map, slice_get, Some, None, Ok, Err, IfOk, IfErr, if◌then◌else◌};
     ghost use Rattle.plain_store.specs.declared.message.Message.{Message as Sent};
     ghost use Rattle.plain_store.specs.History.{Intent, Writes, Gets, Finds};
     ghost use Rattle.plain_store.specs.Run.{call_message};
@@ -243,7 +243,7 @@ impl ClientSession {
 
     /// Counts a transaction that begins, whose stamp has this counter; 0 where it draws none.
     fn draw(&mut self, counter: u64)
-        requires { counter < 2 ^ 40 }
+        requires { counter ≤ max_counter }
         ensures { self.new ≡ record self.old {
           counter = max counter self.old.counter;
           ticket = next_ticket self.old.ticket;
@@ -386,7 +386,7 @@ impl ClientSession {
 
     /// Raises the counter to the one that was seen, if that is above it.
     fn raise(&mut self, seen: u64)
-        requires { seen < 2 ^ 40 }
+        requires { seen ≤ max_counter }
         ensures { self.new ≡ record self.old { counter = max seen self.old.counter } }
     {
         if seen > self.counter.get() {
