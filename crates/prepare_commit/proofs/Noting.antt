@@ -8,7 +8,7 @@ use Rattle.std.proofs.lemmas.Grind.{elements}
 use Rattle.std.proofs.lemmas.List.{length-set, length_push}
 use Rattle.std.proofs.lemmas.List.Sums.{sum_by-set, count_by-le-length}
 use Rattle.std.specs.List.{list_any}
-use Rattle.plain_store.proofs.Counting.{counted as one_counted, any_is, count_by-cons, count_by-push}
+use Rattle.plain_store.proofs.Counting.{counted as one_counted, uncounted, any_is, any_in, count_by-cons, count_by-push}
 use Rattle.prepare_commit.specs.Remembered.{AreNoted}
 
 past_end : (flags : List Bool) (n : ℕ) → length flags ≤ n → get_or flags n false ≡ false
@@ -90,3 +90,17 @@ not_among flags numbers chain noted none = by (get_or flags chain false) refl
         let one = ap {B = ℕ} (λ b. cond b 1 0) e in
         let there = one_counted (λ n. n == chain) numbers (omega (arith, noted.once chain, one)) in
         absurd (both_ways (list_any (λ n. n == chain) numbers) none (any_is (λ n. n == chain) numbers there.0 there.1 there.2))
+
+-- a chain is noted where its number is among them
+pub among : (flags : List Bool) (numbers : List ℕ) (chain : ℕ) → AreNoted flags numbers → list_any (λ n. n == chain) numbers ≡ get_or flags chain false
+among flags numbers chain noted = by (list_any (λ n. n == chain) numbers) refl
+  where
+    is_set : (b : Bool) → 0 < count_by (λ n. n == chain) numbers → get_or flags chain false ≡ b → b ≡ true
+    is_set true some e = refl
+    is_set false some e = absurd (omega (arith, noted.once chain, ap {B = ℕ} (λ b. cond b 1 0) e, some))
+
+    by : (b : Bool) → list_any (λ n. n == chain) numbers ≡ b → b ≡ get_or flags chain false
+    by false e = sym (not_among flags numbers chain noted e)
+    by true e =
+        let there = any_in (λ n. n == chain) numbers e in
+        sym (is_set (get_or flags chain false) (uncounted (λ n. n == chain) there.0 numbers there.1 there.2) refl)

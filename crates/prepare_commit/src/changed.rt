@@ -63,13 +63,13 @@ impl ChangedChains {
         self.numbers.push_reserved(chain);
     }
 
-    /// Notes all chains that are noted in another set. It visits these alone.
+    /// Notes all chains that are noted in another set, and no others. It visits these alone.
     pub(crate) fn note_those(&mut self, others: &ChangedChains)
         requires { length self.old ≡ length others.now }
         ensures long { length self.new ≡ length self.old }
-        ensures noted { (chain : ℕ) → slice_index_or self.new chain false ≡ false
-            → (slice_index_or self.old chain false ≡ false)
-            × (slice_index_or others.now chain false ≡ false) }
+        ensures noted { (chain : ℕ)
+            → slice_index_or self.new chain false
+            ≡ (slice_index_or self.old chain false || slice_index_or others.now chain false) }
     {
         self.note_each(&others.numbers);
     }

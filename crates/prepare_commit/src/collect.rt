@@ -33,6 +33,7 @@ pub(crate) fn collect(
     ensures collected { IsCollected keep result
         block.old versions.old items.old block.new versions.new items.new }
     ensures long { length changed.new ≡ length changed.old }
+    ensures none { (chain : ℕ) → slice_index_or changed.new chain false ≡ false }
 {
     let freed = cut(block, items, versions, changed, last, keep);
     versions.sweep(block);
@@ -56,6 +57,7 @@ fn cut(
     ensures collected { IsCollected keep result
         block.old versions.old items.old block.new versions.new items.new }
     ensures long { length changed.new ≡ length changed.old }
+    ensures none { (chain : ℕ) → slice_index_or changed.new chain false ≡ false }
 {
     if kept_no_more(last, keep) {
         return cut_noted(block, items, versions, changed, keep);
@@ -110,6 +112,7 @@ fn cut_noted(
     ensures collected { IsCollected keep result
         block.old versions.old items.old block.new versions.new items.new }
     ensures long { length changed.new ≡ length changed.old }
+    ensures none { (chain : ℕ) → slice_index_or changed.new chain false ≡ false }
 {
     let mut freed = 0;
     while let Some(chain) = changed.take() {
@@ -184,8 +187,8 @@ fn raised_item(block: &Block, item: ChainedItem, versions: &Versions, keep: Keep
     }
 }
 
-/// Notes the chains that a collection may change, of which there are so many in all: those that are noted as changed where the last collection kept as many
-/// versions or fewer, else all.
+/// Notes the chains that a collection may change, and no others, of which there are so many in all: those that are noted as changed where the last
+/// collection kept as many versions or fewer, else all.
 pub(crate) fn note_collected(
     since: &mut ChangedChains,
     changed: &ChangedChains,
@@ -197,10 +200,10 @@ pub(crate) fn note_collected(
     requires chains { length since.old ≡ chains }
     ensures long { length since.new ≡ length since.old }
     ensures noted { (chain : ℕ) → chain < length since.old
-        → slice_index_or since.new chain false ≡ false
-        → IsSomeAnd last (λ number. number ≤ keep)
+        → ((slice_index_or since.new chain false ≡ false)
+        ↔ (IsSomeAnd last (λ number. number ≤ keep)
         × (slice_index_or since.old chain false ≡ false)
-        × (slice_index_or changed.now chain false ≡ false) }
+        × (slice_index_or changed.now chain false ≡ false))) }
 {
     if kept_no_more(last, keep) {
         since.note_those(changed);

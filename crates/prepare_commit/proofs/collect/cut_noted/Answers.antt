@@ -1,4 +1,4 @@
-use Rattle.std.proofs.Common.{◌≡◌, false, map, length, refl, ap, sym, ◌∙◌, arith}
+use Rattle.std.proofs.Common.{◌≡◌, false, map, length, get_or, refl, ap, sym, ◌∙◌, arith}
 use Rattle.std.proofs.lemmas.List.{length-set}
 use Rattle.prepare_commit.specs.Layout.{chain_lists, item_chains, raised_item, kept_chain}
 use Rattle.prepare_commit.proofs.CollectedChains.{paired, half_collected, collected_where, pair_where, parted_all, none_collected, one_collected, all_collected}
@@ -64,3 +64,8 @@ returns-clause-collected c =
 
 pub returns-clause-long : goal.returns-clause-long
 returns-clause-long c = ap length (c.take.ensures.none c.in_default.is).0 ∙ c.loop-chain.invariant.long
+
+pub returns-clause-none : goal.returns-clause-none
+returns-clause-none c chain =
+    let end = c.take.ensures.none c.in_default.is in
+    ap (λ bs. get_or bs chain false) end.0 ∙ end.1 chain
