@@ -1,5 +1,5 @@
 //! Entries, packed one behind the other.
-ghost use Rattle.std.specs.Prelude.{◌≡◌, ◌+◌, ◌<◌, ◌≤◌, ◌^◌, ◌++◌, ◌∷◌, ◌↔◌, [], length, Some, IsTrue, slice_get, option_and_then, IfOk, OnOk, OnErr};
+ghost use Rattle.std.specs.Prelude.{◌≡◌, ℕ, ◌+◌, ◌<◌, ◌≤◌, ◌^◌, ◌++◌, ◌∷◌, ◌↔◌, [], length, take, Some, IsTrue, slice_get, option_and_then, IfOk, OnOk, OnErr};
 ghost use Rattle.entry_list.specs.LentActs.{act_lent};
 ghost use Rattle.entry_list.specs.PackedEntries.{taken_of, answer_of, operation_of, entry_in, IsPackedEntry};
 
@@ -234,9 +234,10 @@ impl EntryList {
         }
     }
 
-    /// Puts the entries of another list at the end. At `Err` some of them may stand there.
+    /// Puts the entries of another list at the end. At `Err` the first of them may stand there.
     pub fn append(&mut self, other: &EntryList) -> Result<(), AllocError>
-        ensures { OnOk result (self.new.items ≡ self.old.items ++ other.now.items) }
+        ensures ok { OnOk result (self.new.items ≡ self.old.items ++ other.now.items) }
+        ensures some { (many : ℕ) × (self.new.items ≡ self.old.items ++ take many other.now.items) }
     {
         for at in 0..other.len() {
             self.push_packed(other.packed(at))?;
@@ -247,7 +248,8 @@ impl EntryList {
     /// Puts a packed entry at the end. At `Err` the entries are as they were.
     fn push_packed(&mut self, entry: &[u8]) -> Result<(), AllocError>
         requires { IsPackedEntry entry.now }
-        ensures { OnOk result (self.new.items ≡ self.old.items ++ entry_in entry.now ∷ []) }
+        ensures ok { OnOk result (self.new.items ≡ self.old.items ++ entry_in entry.now ∷ []) }
+        ensures err { OnErr result (self.new.items ≡ self.old.items) }
     {
         self.room = 0;
         self.list.push(entry)

@@ -1,5 +1,5 @@
 //! Events, packed one behind the other.
-ghost use Rattle.std.specs.Prelude.{◌≡◌, ◌+◌, ◌<◌, ◌≤◌, ◌^◌, ◌++◌, ◌∷◌, ◌↔◌, [], length, count_by, Some, IsTrue, slice_get, IfOk, OnOk, OnErr};
+ghost use Rattle.std.specs.Prelude.{◌≡◌, ℕ, ◌+◌, ◌<◌, ◌≤◌, ◌^◌, ◌++◌, ◌∷◌, ◌↔◌, [], length, take, count_by, Some, IsTrue, slice_get, IfOk, OnOk, OnErr};
 ghost use Rattle.std.specs.Option.{option_map};
 ghost use Rattle.packed.specs.Laying.{PutsValue};
 ghost use Rattle.packed.specs.Reading.{number_at};
@@ -201,9 +201,10 @@ impl EventList {
         Ok(())
     }
 
-    /// Puts the events of another list at the end. At `Err` some of them may stand there.
+    /// Puts the events of another list at the end. At `Err` the first of them may stand there.
     pub fn append(&mut self, other: &EventList) -> Result<(), AllocError>
-        ensures { OnOk result (self.new.items ≡ self.old.items ++ other.now.items) }
+        ensures ok { OnOk result (self.new.items ≡ self.old.items ++ other.now.items) }
+        ensures some { (many : ℕ) × (self.new.items ≡ self.old.items ++ take many other.now.items) }
     {
         for at in 0..other.len() {
             self.push(&other.event(at))?;

@@ -12,4 +12,4 @@ pub returns : goal.returns
 returns c =
     let within : c.args.place < length c.args.lists.now.items = omega (arith, c.args.lists.now.ok.0) in
     is_appended c.args.lists.now.items c.args.place c.args.list.items c.index_mut.result.now c.append.new.self within
-    (slice_get_read c.args.lists.now.items _ c.args.place c.index_mut.result.now refl within c.index_mut.ensures.value) c.in_ok-append.ensures
+    (slice_get_read c.args.lists.now.items _ c.args.place c.index_mut.result.now refl within c.index_mut.ensures.value) c.in_ok-append.ensures.ok

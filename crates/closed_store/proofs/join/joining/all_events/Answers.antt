@@ -10,6 +10,6 @@ loop-epoch-preserved c =
     let k = c.loop-epoch.epoch-index in
     let epochs = map (λ (b : Bor Epoch). b.now) c.args.epochs.now in
     let at = read_at (λ (b : Bor Epoch). b.now) c.args.epochs.now k e c.loop-epoch-test.true c.epoch-item.is in
-    c.in_ok-append.ensures
+    c.in_ok-append.ensures.ok
     ∙ ap (λ (es : List Event). es ++ e.now.events.items) c.loop-epoch.invariant
     ∙ events_more epochs k e.now at

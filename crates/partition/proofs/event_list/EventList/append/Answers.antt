@@ -16,3 +16,9 @@ loop-at-preserved c =
       appended = c.in_ok-push.ensures.ok ∙ ap (λ (xs : List Event). xs ++ e ∷ []) c.loop-at.invariant.appended ∙ append_assoc c.args.self.now.items (take at others) (e ∷ []) ∙ ap (λ (xs : List Event). c.args.self.now.items ++ xs) (sym more);
       within = omega (arith, within);
     }
+
+pub returns-in_err-push-clause-some : goal.returns-in_err-push-clause-some
+returns-in_err-push-clause-some c = (c.loop-at.at, c.in_err-push.ensures.err ∙ c.loop-at.invariant.appended)
+
+pub returns-clause-some : goal.returns-clause-some
+returns-clause-some c = (c.loop-at.at, c.loop-at.invariant.appended)
