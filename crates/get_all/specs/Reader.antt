@@ -129,11 +129,13 @@ calls_asked Torn = 0
 calls_asked Ignored = 0
 
 -- The reply to the GET of a key in round 1 or 2 was offered to a reader, which takes it as the read does; in any other round it
--- ignores it. What it asks for, and may ask for after it, is no more than what it might before.
+-- ignores it. Once the read has ended it ignores it too, and nothing changes. What it asks for, and may ask for after it, is no more
+-- than what it might before.
 pub record TakesInRound (key : Key) (round : ℕ) (reply : ReadReply) (old : Reader) (move : ReadMove) (new : Reader) : Type 0 where
   pub first : (keys : List Key) (taken : List Message) (message : Message) → round ≡ 1 → StandsFor keys old taken
       → IsFirst key reply message → TakesRead keys taken message move new
   pub second : (keys : List Key) (taken : List Message) (message : Message) → round ≡ 2 → StandsFor keys old taken
       → IsSecond keys taken key reply message → TakesRead keys taken message move new
   pub no_round : round ≢ 1 → round ≢ 2 → (move ≡ Ignored) × (new ≡ old)
+  pub ended : old.has_ended ≡ true → (move ≡ Ignored) × (new ≡ old)
   pub few : calls_asked move + calls_left new ≤ calls_left old

@@ -13,7 +13,7 @@ pub struct Finder {
 }
 
 impl Finder {
-    ghost use Rattle.std.specs.Prelude.{◌≡◌, ◌≢◌, ◌+◌, ◌≤◌, List, []};
+    ghost use Rattle.std.specs.Prelude.{◌≡◌, ◌≢◌, true, ◌+◌, ◌≤◌, List, []};
     ghost use Rattle.stamps.specs.Bounds.{IsParts};
     ghost use Rattle.plain_store.specs.declared.message.Message.{Message};
     ghost use Rattle.plain_store.specs.Finding.{all_keys_found};
@@ -41,6 +41,8 @@ impl Finder {
             → StandsFor setup tag self.old taken
             → IsTold partition found.now message
             → TakesFind setup tag taken message result self.new }
+        ensures ended { self.old.search.has_ended ≡ true
+            → (result ≡ FindMove.Ignored) × (self.new ≡ self.old) }
         ensures few { calls_asked result + calls_left self.new ≤ calls_left self.old }
     {
         self.search.take_found(&mut self.reader, partition, found)
@@ -58,6 +60,8 @@ impl Finder {
             → IsSecond (all_keys_found taken) taken key.now reply.now message
             → TakesFind setup tag taken message result self.new }
         ensures no_round { round ≢ 1 → round ≢ 2
+            → (result ≡ FindMove.Ignored) × (self.new ≡ self.old) }
+        ensures ended { self.old.search.has_ended ≡ true
             → (result ≡ FindMove.Ignored) × (self.new ≡ self.old) }
         ensures few { calls_asked result + calls_left self.new ≤ calls_left self.old }
     {

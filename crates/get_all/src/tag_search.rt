@@ -155,6 +155,8 @@ impl TagSearch {
             → StandsFor setup tag self.old reader.old taken
             → IsTold partition found.now message
             → TakesFind setup tag taken message result self.new reader.new }
+        ensures ended { self.old.has_ended ≡ true
+            → (result ≡ FindMove.Ignored) × (self.new ≡ self.old) × (reader.new ≡ reader.old) }
         ensures few { calls_asked result + calls_left self.new reader.new
             ≤ calls_left self.old reader.old }
     {
@@ -184,6 +186,8 @@ impl TagSearch {
             → IsSecond (all_keys_found taken) taken key.now reply.now message
             → TakesFind setup tag taken message result self.new reader.new }
         ensures no_round { round ≢ 1 → round ≢ 2
+            → (result ≡ FindMove.Ignored) × (self.new ≡ self.old) × (reader.new ≡ reader.old) }
+        ensures ended { self.old.has_ended ≡ true
             → (result ≡ FindMove.Ignored) × (self.new ≡ self.old) × (reader.new ≡ reader.old) }
         ensures few { calls_asked result + calls_left self.new reader.new
             ≤ calls_left self.old reader.old }

@@ -16,6 +16,9 @@ returns c =
       no_round = λ first second.
           let left = kind.no_round first second in
           (c.told.ensures ∙ left.0, left.1);
+      ended = λ end.
+          let left = kind.ended end in
+          (c.told.ensures ∙ left.0, left.1);
       few =
           let P : ReadMove → Type 0 = λ a. calls_asked a + calls_left c.take_kind-kind.new.self ≤ calls_left c.args.self.now in
           subst P (sym c.told.ensures) kind.few;
