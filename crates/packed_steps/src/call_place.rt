@@ -1,7 +1,7 @@
 //! A place that packed calls are read into.
 ghost use Rattle.std.specs.Prelude.{◌≡◌};
 ghost use Rattle.std.specs.Option.{option_map};
-ghost use Rattle.plain_store.specs.declared.calls.Call.TheVariants.{Prepare};
+ghost use Rattle.plain_store.specs.declared.calls.Call.TheVariants.{Prepare, Commit};
 ghost use Rattle.packed_steps.specs.PackedCalls.{call_at, call_by, prepare_at};
 
 use crate::reading_calls::call_by;
@@ -30,7 +30,9 @@ impl Model for CallPlace {
 
 impl CallPlace {
     /// One with a COMMIT of `0.0`, as if that was read.
-    pub fn new() -> CallPlace {
+    pub fn new() -> CallPlace
+        ensures { result ≡ Commit 0 }
+    {
         CallPlace {
             is_prepare: false,
             prepare: Call::Commit(Stamp::ZERO),
