@@ -1,5 +1,5 @@
 -- What the calls that begin a transaction, put a call and take a reply ask for, and what they promise.
-use Rattle.std.specs.Prelude.{◌≡◌, ◌≢◌, ℕ, ◌+◌, ◌<◌, ◌≤◌, Bool, false, List, [], Option, Some, None, Result, Ok, Err, IfOk, IfErr, OnOk, OnErr, IsSome}
+use Rattle.std.specs.Prelude.{◌≡◌, ◌≢◌, ℕ, ◌+◌, ◌<◌, ◌≤◌, Bool, true, false, is_some, List, [], Option, Some, None, Result, Ok, Err, IfOk, IfErr, OnOk, OnErr, IsSome}
 use Rattle.std.specs.Prelude.{cond, length, slice_get}
 use Rattle.stamps.specs.Key.{IsTransactionKeys, sorted_keys}
 use Rattle.stamps.specs.Limits.{max_parts}
@@ -22,7 +22,7 @@ use Rattle.tenant_sessions.specs.Begins.{HasBegun}
 use Rattle.tenant_sessions.specs.Content.{SessionsContent}
 use Rattle.tenant_sessions.specs.CallsLeft.{calls_left, calls_sent, calls_waiting}
 use Rattle.tenant_sessions.specs.Held.{TakesReply}
-use Rattle.tenant_sessions.specs.Moves.{Move, moved}
+use Rattle.tenant_sessions.specs.Moves.{Move, moved, is_last}
 use Rattle.tenant_sessions.specs.Parts.{outgoing_of}
 use Rattle.tenant_sessions.specs.Running.{IsReplyTo, RunningStands}
 use Rattle.tenant_sessions.specs.Sessions.{IsBegin, IsBeginOf, IsRun, IsTaken, StandsFor}
@@ -68,13 +68,16 @@ pub record StartsIf (test : Result (Unit {0}) Refusal) (parts : ℕ) (request : 
   pub still_open : new.is_open ≡ old.is_open
 
 -- What a session does when a message comes. Where no transaction runs, and where the message's ticket is another one, it
--- ignores it, and nothing changes. A reply to what runs is taken as the plain store takes it. Whatever the message is: what is
--- answered was shown by the replies, what is sent with it and may be asked for after it is no more than what might be
--- before, and a write that is decided sends COMMITs of its stamp and a read GETs.
+-- ignores it, and nothing changes. A reply to what runs is taken as the plain store takes it. Whatever the message is: what runs
+-- is forgotten where the answer ends it, and else goes on; what is answered was shown by the replies, what is sent with it and may
+-- be asked for after it is no more than what might be before, and a write that is decided sends COMMITs of its stamp and a read
+-- GETs.
 pub record TakesIn (message : Message) (old : ClientSession) (kind : MoveKind) (readings : List Reading) (new : ClientSession)
     : Type 0 where
   pub idle : old.running ≡ None → (kind ≡ Ignored) × (new ≡ old)
   pub late : message.ticket ≢ old.ticket → (kind ≡ Ignored) × (new ≡ old)
+  pub ended : is_last (moved kind readings) ≡ true → new.running ≡ None
+  pub goes_on : is_last (moved kind readings) ≡ false → is_some new.running ≡ is_some old.running
   pub taken : (setup : Setup) (request : Intent) (taken : List Message) (running : Running) → message.ticket ≡ old.ticket
       → old.running ≡ Some running → RunningStands setup request taken running → IsReplyTo setup request taken message
       → TakesReply setup request taken message old (moved kind readings) new

@@ -129,6 +129,7 @@ impl Current {
     /// read, and what it does, is put into the caller's buffers.
     pub(crate) fn take(&mut self, message: &Message, readings: &mut Readings, kind: &mut MoveKind)
         ensures idle { self.old ≡ None → (kind.new ≡ MoveKind.Ignored) × (self.new ≡ self.old) }
+        ensures running { is_some self.new ≡ is_some self.old }
         ensures shown { (setup : Setup) (request : Intent) (taken : List Sent)
             → IsShown setup request taken self.old
             → Shows setup request taken message.now (moved kind.new readings.new)

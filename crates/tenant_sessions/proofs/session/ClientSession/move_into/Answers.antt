@@ -13,6 +13,8 @@ pub returns : goal.returns
 returns c = record {
   idle = search rules;
   late = search rules;
+  ended = search rules;
+  goes_on = search rules;
   taken = search rules;
   shown = λ setup request taken has.
       let message = c.args.message.now in
