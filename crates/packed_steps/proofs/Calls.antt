@@ -16,11 +16,6 @@ get_version_again key stamp rest h =
     let parted : (packed_text key ++ to_le_bytes w64 stamp) ++ rest ≡ packed_text key ++ (to_le_bytes w64 stamp ++ rest) = append_assoc (packed_text key) (to_le_bytes w64 stamp) rest in
     ap get_version_at parted ∙ rw (key_again key (to_le_bytes w64 stamp ++ rest) h.0, stamp_again stamp rest h.1) refl
 
--- the parts of the first form
-pub prepare_by : (form : ℕ) (bytes : List ℕ) → form ≡ 0 → prepare_at bytes ≡ call_by form bytes
-unfolding call_by
-prepare_by form bytes first = rw first refl
-
 pub call_again : (call : Call) (rest : List ℕ) → IsStoreCall call → call_at (packed_call call ++ rest) ≡ Some (call, rest)
 unfolding call_at call_by prepare_at commit_at get_at find_at collect_at discard_at
 call_again (Prepare version) rest h = rw (record_again version rest h) refl

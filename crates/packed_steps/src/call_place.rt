@@ -1,13 +1,13 @@
 //! A place that packed calls are read into.
 ghost use Rattle.std.specs.Prelude.{◌≡◌};
 ghost use Rattle.std.specs.Option.{option_map};
-ghost use Rattle.plain_store.specs.declared.calls.Call.TheVariants.{Prepare, Commit};
-ghost use Rattle.packed_steps.specs.PackedCalls.{call_at, call_by, prepare_at};
+ghost use Rattle.plain_store.specs.declared.calls.Call.TheVariants.{Commit};
+ghost use Rattle.packed_steps.specs.PackedCalls.{call_at};
 
-use crate::reading_calls::call_by;
-use packed::{read_byte, read_record_into};
+use crate::reading_calls::call_by_into;
+use packed::read_byte;
 use plain_store::Call;
-use stamps::{Record, Stamp};
+use stamps::Stamp;
 use std::marker::Model;
 
 /// A place that packed calls are read into, one after the other. A PREPARE is written over the last PREPARE, which lies apart from other
@@ -61,40 +61,9 @@ impl CallPlace {
         };
         self.is_prepare = form == 0;
         if self.is_prepare {
-            read_prepare_over(form, rest, &mut self.prepare)
+            call_by_into(form, rest, &mut self.prepare)
         } else {
-            read_over(form, rest, &mut self.other)
+            call_by_into(form, rest, &mut self.other)
         }
     }
-}
-
-/// Reads the record of a PREPARE over what lies in a place.
-#[tactic(auto, using(crate::proofs::Calls::prepare_by))]
-fn read_prepare_over<'a>(form: u8, bytes: &'a [u8], place: &mut Call) -> Option<&'a [u8]>
-    requires { form ≡ 0 }
-    ensures { option_map (λ rest. (place.new, rest.now)) result ≡ call_by form bytes.now }
-{
-    if let Call::Prepare(version) = place {
-        return read_version_over(bytes, version);
-    }
-    read_over(form, bytes, place)
-}
-
-/// Reads the record of a PREPARE at the front over another one.
-#[tactic(auto, unfolding(crate::specs::PackedCalls::prepare_at))]
-fn read_version_over<'a>(bytes: &'a [u8], place: &mut Record) -> Option<&'a [u8]>
-    ensures { option_map (λ rest. (Prepare place.new, rest.now)) result ≡ prepare_at bytes.now }
-{
-    read_record_into(bytes, place)
-}
-
-/// Reads the parts of a call of this form over what lies in a place.
-fn read_over<'a>(form: u8, bytes: &'a [u8], place: &mut Call) -> Option<&'a [u8]>
-    ensures { option_map (λ rest. (place.new, rest.now)) result ≡ call_by form bytes.now }
-{
-    let Some((told, rest)) = call_by(form, bytes) else {
-        return None;
-    };
-    *place = told;
-    Some(rest)
 }
