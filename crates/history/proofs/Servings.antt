@@ -1,5 +1,5 @@
 -- What an entry of a partition's word adds to what that partition served.
-use Rattle.std.proofs.Common.{◌≡◌, ◌∙◌, ℕ, ◌+◌, ◌==◌, ◌&&◌, Bool, true, false, cond, List, [], ◌∷◌, ◌++◌, length, map, reverse, filter_map, slice_get, Option, Some, None, refl, ap, sym, arith}
+use Rattle.std.proofs.Common.{◌≡◌, ◌∙◌, ℕ, ◌+◌, ◌==◌, ◌&&◌, Bool, true, false, cond, List, [], ◌∷◌, ◌++◌, length, map, reverse, filter_map, slice_get, Option, Some, None, inr, refl, ap, sym, subst, arith}
 use Rattle.std.specs.List.{cons_option}
 use Rattle.std.proofs.lemmas.Bool.Decides.{nat_tests}
 use Rattle.std.proofs.lemmas.List.Elements.{filter_map-append}
@@ -11,7 +11,7 @@ use Rattle.history.specs.declared.entry.HistoryEntry.TheVariants.{Opened, Joined
 use Rattle.history.specs.declared.entry.ServedCall.{ServedCall}
 use Rattle.history.specs.Entries.{is_of, own, count, limits_of, room_in, room_of, served_to, served_at, calls_served, reply_in, StandsInHistory}
 use Rattle.history.specs.Legal.{IsLegal}
-use Rattle.history.specs.Rules.{IsAdded, is_opening}
+use Rattle.history.specs.Rules.{IsAdded, IsOvertaken, TakesNoEntry, is_opening}
 use Rattle.history.proofs.Counts.{count_more, own_same}
 
 and_false : (a b : Bool) → b ≡ false → (a && b) ≡ false
@@ -91,6 +91,11 @@ is_served entries served seen now legal counted a =
       },
       refl,
     )
+
+-- where a later history has other entries of the word than were counted, it takes none
+pub none_taken : (k entries : ℕ) (seen start now : List HistoryEntry) → start ≡ seen → count k seen ≡ entries → IsPrefix start now → IsOvertaken k entries now → TakesNoEntry k seen
+none_taken k entries seen start now same counted pre other =
+    inr (now, subst (λ (l : List HistoryEntry). IsPrefix l now) same pre, subst (λ (n : ℕ). IsOvertaken k n now) (sym counted) other)
 
 -- the word has one entry more
 pub added_count : (k entries : ℕ) (e : HistoryEntry) (seen now : List HistoryEntry) → is_of k e ≡ true → IsAdded k entries e seen now → count k now ≡ entries + 1

@@ -13,7 +13,7 @@ use Rattle.history.specs.declared.entry.JoinedClient.{JoinedClient}
 use Rattle.history.specs.declared.entry.StoreOpening.{StoreOpening}
 use Rattle.history.specs.Entries.{but_last, is_of, own, count}
 use Rattle.history.specs.Legal.{MayFollow, MayJoin, IsLegal, first_client}
-use Rattle.history.specs.Rules.{IsHome, IsRuleKept, IsAdded, Adds, Looks, Joins, Arrives}
+use Rattle.history.specs.Rules.{IsHome, IsRuleKept, IsAdded, IsOvertaken, Adds, Looks, Joins, Arrives}
 use Rattle.history.proofs.Lists.{prefix_join, last_in, none_of_none}
 use Rattle.history.proofs.Counts.{test_equal, equal_test, of_no_other, own_append, own_one, count_more, count_still, some_later, own_same}
 use Rattle.history.proofs.Following.{may_later, legal_more, opening_legal}
@@ -122,14 +122,15 @@ goes_adds cells log v mine seen p e old kept pre first second legal home apart i
       rw is (pre.0, ap (λ w. w ++ e ∷ []) (sym pre.1), ap (count p) pre.1 ∙ here, legal'),
     )
 goes_adds cells log v mine seen p e old kept pre first second legal home apart its counted may at false is =
-    let n : (cell cells p).0 ≡ either ((cell cells p).0 == old) (old + 1) (cell cells p).0 = rw is refl in (
+    let n : (cell cells p).0 ≡ either ((cell cells p).0 == old) (old + 1) (cell cells p).0 = rw is refl in
+    let more : count p (log ++ []) ≢ old = λ q. apart_of (cell cells p).0 old is (at ∙ ap (count p) (sym (append-nil log)) ∙ q) in (
       keeps,
       [],
       None,
       tt,
       subst (λ (m : ℕ). IsRuleKept (slice_set cells p (m, true)) (log ++ [])) n (kept_still cells log p (cell cells p).0 kept home at),
       inl (refl, refl),
-      rw is (legal_still log kept.legal),
+      rw is (more, legal_still log kept.legal),
     )
 
 -- whatever the history is, the exchange adds the entry, or finds other entries of the word than were counted
@@ -271,10 +272,10 @@ widened k entries e mine v now pre a =
     let same : v ++ a.0 ≡ mine ++ (pre.0 ++ a.0) = ap (λ l. l ++ a.0) (sym pre.1) ∙ append_assoc mine pre.0 a.0 in
     (pre.0 ++ a.0, a.1 ∙ ap (λ l. l ++ e ∷ []) same, ap (count k) (sym same) ∙ a.2, a.3)
 
-pub told : (k entries : ℕ) (e : HistoryEntry) (mine v now : List HistoryEntry) → IsPrefix mine v → (b : Bool) → MatchBool b (IsAdded k entries e v now) (IsLegal now)
-    → MatchBool b (IsAdded k entries e mine now) (IsLegal now)
+pub told : (k entries : ℕ) (e : HistoryEntry) (mine v now : List HistoryEntry) → IsPrefix mine v → (b : Bool) → MatchBool b (IsAdded k entries e v now) (IsOvertaken k entries now)
+    → MatchBool b (IsAdded k entries e mine now) (IsOvertaken k entries now)
 told k entries e mine v now pre true a = widened k entries e mine v now pre a
-told k entries e mine v now pre false legal = legal
+told k entries e mine v now pre false other = other
 
 but_last_push : (log : List HistoryEntry) (e : HistoryEntry) → but_last (log ++ e ∷ []) ≡ log
 but_last_push [] e = refl
@@ -285,7 +286,7 @@ but_last_push (d ∷ c ∷ log) e = ap (λ l. d ∷ l) (but_last_push (c ∷ log
 pub before_added : (k entries : ℕ) (e : HistoryEntry) (seen now : List HistoryEntry) (a : IsAdded k entries e seen now) → but_last now ≡ seen ++ a.0
 before_added k entries e seen now a = ap but_last a.1 ∙ but_last_push (seen ++ a.0) e
 
-pub behind : (k entries : ℕ) (e : HistoryEntry) (evidence v now : List HistoryEntry) → IsPrefix evidence v → (b : Bool) → b ≡ true → MatchBool b (IsAdded k entries e v now) (IsLegal now) → IsPrefix evidence (but_last now)
+pub behind : (k entries : ℕ) (e : HistoryEntry) (evidence v now : List HistoryEntry) → IsPrefix evidence v → (b : Bool) → b ≡ true → MatchBool b (IsAdded k entries e v now) (IsOvertaken k entries now) → IsPrefix evidence (but_last now)
 behind k entries e evidence v now pre true is a =
     let P : List HistoryEntry → Type 0 = λ l. IsPrefix evidence l in
     subst P (sym (before_added k entries e v now a)) (prefix_join evidence v (v ++ a.0) pre (a.0, refl))

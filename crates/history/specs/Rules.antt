@@ -1,5 +1,6 @@
 -- The rule between a history and the words that count its entries, and what the steps tell.
-use Rattle.std.specs.Prelude.{ℕ, ◌≡◌, ◌==◌, ◌+◌, ◌<◌, ◌⊎◌, Bool, true, false, List, [], ◌∷◌, ◌++◌, MatchBool, length}
+use Rattle.std.specs.Prelude.{ℕ, ◌≡◌, ◌≢◌, ◌==◌, ◌+◌, ◌^◌, ◌<◌, ◌≤◌, ◌⊎◌, Bool, true, false, List, [], ◌∷◌, ◌++◌, MatchBool, length}
+use mathlib.Core.List.{IsPrefix}
 use Rattle.logbook.specs.Pages.{Cell, Step, View, Book, Named, cell, nib, may_make}
 use Rattle.plain_store.specs.Words.{◌∈◌}
 use Rattle.history.specs.declared.entry.HistoryEntry.{HistoryEntry}
@@ -31,11 +32,19 @@ abbrev pub IsAdded : ℕ → ℕ → HistoryEntry → List HistoryEntry → List
 IsAdded k entries e seen now =
     (between : List HistoryEntry) × (now ≡ (seen ++ between) ++ e ∷ []) × (count k (seen ++ between) ≡ entries) × IsLegal now
 
+-- the word has other entries than so many
+abbrev pub IsOvertaken : ℕ → ℕ → List HistoryEntry → Type 0
+IsOvertaken k entries now = (count k now ≢ entries) × IsLegal now
+
+-- The word takes no entry behind what was seen: it has as many as a word can have, or a later history has others of it.
+abbrev pub TakesNoEntry : ℕ → List HistoryEntry → Type 0
+TakesNoEntry k seen = (2 ^ 62 ≤ count k seen) ⊎ ((later : List HistoryEntry) × IsPrefix seen later × IsOvertaken k (count k seen) later)
+
 abbrev pub Looks : Step HistoryEntry → View HistoryEntry ℕ → ℕ → View HistoryEntry ℕ → Type 0
 Looks s v found w = (count s.key w.0 ≡ found) × IsLegal w.0
 
 abbrev pub Adds : Step HistoryEntry → View HistoryEntry ℕ → ℕ → View HistoryEntry ℕ → Type 0
-Adds s v found w = MatchBool (found == s.old) (IsAdded s.key s.old s.ask v.0 w.0) (IsLegal w.0)
+Adds s v found w = MatchBool (found == s.old) (IsAdded s.key s.old s.ask v.0 w.0) (IsOvertaken s.key s.old w.0)
 
 -- a client joined, and the right to make its word is had
 abbrev pub Joins : Step HistoryEntry → View HistoryEntry ℕ → ℕ → View HistoryEntry ℕ → Type 0

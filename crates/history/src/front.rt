@@ -8,7 +8,7 @@ ghost use Rattle.history.specs.declared.entry.JoinedClient.{JoinedClient as WhoJ
 ghost use Rattle.history.specs.Asking.{began_by, served_by};
 ghost use Rattle.history.specs.Entries.{but_last, is_of, own, count};
 ghost use Rattle.history.specs.Legal.{first_client, IsLegal, MayFollow, MayBegin, MayDecide, MayEnd, MayServe};
-ghost use Rattle.history.specs.Rules.{IsHome, IsAdded, is_opening};
+ghost use Rattle.history.specs.Rules.{IsHome, IsAdded, IsOvertaken, is_opening};
 
 use crate::entry::{CallToServe, Decision, HistoryEntry, JoinedClient, WriteToBegin};
 use crate::rule::{Add, Arrive, GiveUp, Join, Law, Look, Naming, Nothing};
@@ -106,7 +106,8 @@ impl<J: Naming> Front<J> {
         ensures later { IsPrefix self.old self.new }
         ensures evidence { IsPrefix evidence.now self.new }
         ensures added { MatchBool result
-            (IsAdded tally.now.key entries (M.ask about.now) self.old self.new) (IsLegal self.new) }
+            (IsAdded tally.now.key entries (M.ask about.now) self.old self.new)
+            (IsOvertaken tally.now.key entries self.new) }
         ensures behind { IsTrue result → IsPrefix evidence.now (but_last self.new) }
     {
         self.seen.learn(&evidence.seen);
@@ -142,7 +143,7 @@ impl<J: Naming> Front<J> {
         ensures evidence { IsPrefix evidence.now self.new }
         ensures added { MatchBool result
             (IsAdded tally.now.key entries (served_by asked.now) self.old self.new)
-            (IsLegal self.new) }
+            (IsOvertaken tally.now.key entries self.new) }
         // What stands before the entry has what the evidence has seen.
         ensures behind { IsTrue result → IsPrefix evidence.now (but_last self.new) }
     {
@@ -160,7 +161,7 @@ impl<J: Naming> Front<J> {
         ensures later { IsPrefix self.old self.new }
         ensures added { MatchBool result
             (IsAdded tally.now.key entries (began_by begun.now) self.old self.new)
-            (IsLegal self.new) }
+            (IsOvertaken tally.now.key entries self.new) }
     {
         let evidence = self.again();
         self.add::<WriteToBegin<'_>, Add>(tally, entries, &evidence, begun)
@@ -185,7 +186,7 @@ impl<J: Naming> Front<J> {
         ensures evidence { IsPrefix evidence.now self.new }
         ensures added { MatchBool result
             (IsAdded tally.now.key entries (Decided decision.now) self.old self.new)
-            (IsLegal self.new) }
+            (IsOvertaken tally.now.key entries self.new) }
     {
         self.add::<Decision, Add>(tally, entries, evidence, decision)
     }
@@ -201,7 +202,7 @@ impl<J: Naming> Front<J> {
         ensures later { IsPrefix self.old self.new }
         ensures added { MatchBool result
             (IsAdded tally.now.key entries (GivenUp decision.now) self.old self.new)
-            (IsLegal self.new) }
+            (IsOvertaken tally.now.key entries self.new) }
     {
         let evidence = self.again();
         self.add::<Decision, GiveUp>(tally, entries, &evidence, decision)
@@ -223,7 +224,7 @@ impl<J: Naming> Front<J> {
         ensures evidence { IsPrefix evidence.now self.new }
         ensures added { MatchBool result
             (IsAdded tally.now.key entries (ReadBegan word.now) self.old self.new)
-            (IsLegal self.new) }
+            (IsOvertaken tally.now.key entries self.new) }
         ensures behind { IsTrue result → IsPrefix evidence.now (but_last self.new) }
     {
         self.add::<u64, Add>(tally, entries, evidence, word)

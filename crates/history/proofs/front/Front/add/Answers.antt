@@ -1,8 +1,8 @@
 use Rattle.std.proofs.Common.{◌≡◌, ℕ, sym, ◌∙◌, ap, subst, nat_eq, MatchBool}
 use Rattle.history.specs.declared.entry.HistoryEntry.{HistoryEntry}
 use Rattle.history.specs.Entries.{count}
-use Rattle.history.specs.Legal.{IsLegal, MayFollow}
-use Rattle.history.specs.Rules.{IsHome, IsAdded}
+use Rattle.history.specs.Legal.{MayFollow}
+use Rattle.history.specs.Rules.{IsHome, IsAdded, IsOvertaken}
 use Rattle.history.proofs.Steps.{adds_moves, behind, told}
 use Rattle.history.proofs.front.Front.add.Goals as goal
 
@@ -36,9 +36,9 @@ returns-clause-added g c =
     let b = nat_eq c.compare_exchange-found.result entries in
     let key : c.args.tally.now.word.key ≡ c.args.tally.now.key = ap (λ w. w.key) word in
     let e = g.M.Plain.ask c.args.about.now in
-    let added : MatchBool b (IsAdded c.args.tally.now.key entries e v now) (IsLegal now) =
-    subst (λ (k : ℕ). MatchBool b (IsAdded k entries e v now) (IsLegal now)) key
-    (subst (λ (d : HistoryEntry). MatchBool b (IsAdded c.args.tally.now.word.key entries d v now) (IsLegal now)) c.plain-offer.ensures.1
+    let added : MatchBool b (IsAdded c.args.tally.now.key entries e v now) (IsOvertaken c.args.tally.now.key entries now) =
+    subst (λ (k : ℕ). MatchBool b (IsAdded k entries e v now) (IsOvertaken k entries now)) key
+    (subst (λ (d : HistoryEntry). MatchBool b (IsAdded c.args.tally.now.word.key entries d v now) (IsOvertaken c.args.tally.now.word.key entries now)) c.plain-offer.ensures.1
     c.compare_exchange-found.ensures.7) in
     rw (← c.self.view_is) (told c.args.tally.now.key entries e c.self.inside.seen.log v now c.learn.ensures.2 b added)
 
@@ -52,8 +52,8 @@ returns-clause-behind g c did =
     let b = nat_eq c.compare_exchange-found.result entries in
     let key : c.args.tally.now.word.key ≡ c.args.tally.now.key = ap (λ w. w.key) word in
     let e = g.M.Plain.ask c.args.about.now in
-    let added : MatchBool b (IsAdded c.args.tally.now.key entries e v now) (IsLegal now) =
-    subst (λ (k : ℕ). MatchBool b (IsAdded k entries e v now) (IsLegal now)) key
-    (subst (λ (d : HistoryEntry). MatchBool b (IsAdded c.args.tally.now.word.key entries d v now) (IsLegal now)) c.plain-offer.ensures.1
+    let added : MatchBool b (IsAdded c.args.tally.now.key entries e v now) (IsOvertaken c.args.tally.now.key entries now) =
+    subst (λ (k : ℕ). MatchBool b (IsAdded k entries e v now) (IsOvertaken k entries now)) key
+    (subst (λ (d : HistoryEntry). MatchBool b (IsAdded c.args.tally.now.word.key entries d v now) (IsOvertaken c.args.tally.now.word.key entries now)) c.plain-offer.ensures.1
     c.compare_exchange-found.ensures.7) in
     rw (← c.evidence.view_is) (behind c.args.tally.now.key entries e c.evidence.inside.seen.log v now c.learn.ensures.3 b did added)
