@@ -5,12 +5,12 @@ use Rattle.std.specs.List.{list_any, list_all}
 use Rattle.std.proofs.lemmas.List.{length-map}
 use Rattle.std.proofs.lemmas.List.Sums.{length-filter, count_by-le-length}
 use Rattle.stamps.specs.Record.{Record}
-use Rattle.plain_store.specs.Words.{Key}
+use Rattle.plain_store.specs.Words.{Key, Tag}
 use Rattle.plain_store.specs.declared.reading.Reading.{Reading}
 use Rattle.plain_store.proofs.ListTests.{all-map}
-use Rattle.stamps.specs.Limits.{max_keys}
+use Rattle.stamps.specs.Limits.{max_keys, max_found}
 use Rattle.get_all.specs.AskedPartition.{awaits}
-use Rattle.get_all.specs.TagSearch.{calls_left as find_left}
+use Rattle.get_all.specs.TagSearch.{calls_left as find_left, calls_asked as find_asked, listed}
 use Rattle.get_all.specs.declared.told.AskedPartition.{AskedPartition}
 use Rattle.get_all.specs.declared.tag_search.TagSearch.{TagSearch}
 use Rattle.get_all.specs.ReadProgress.{has_first, awaits_first, is_late_by, late_of, late_by, with_first, with_second}
@@ -18,7 +18,7 @@ use Rattle.get_all.specs.Reader.{calls_left, calls_asked}
 use Rattle.get_all.specs.declared.read_progress.KeyProgress.{KeyProgress}
 use Rattle.get_all.specs.declared.reader.Reader.{Reader}
 use Rattle.get_all.specs.declared.reader.ReadMove.{ReadMove}
-use Rattle.get_all.specs.declared.reader.ReadMove.TheVariants.{Wait, Ask, Read}
+use Rattle.get_all.specs.declared.reader.ReadMove.TheVariants.{Wait, Ask, Read, Restart, Torn, Ignored}
 
 abbrev are_shown : List KeyProgress → Bool
 are_shown slots = list_all has_first slots
@@ -144,3 +144,28 @@ module _ (search : TagSearch) (reader : Reader) (partition : ℕ) (goes_on : sea
 
   pub found_begins : (n : ℕ) → n ≤ 2 * max_keys → n ≤ find_left search reader
   found_begins n few = omega (arith, before)
+
+-- of what its reader answered a search asks for as many
+listed_few : (tag : Tag) (move : ReadMove) → find_asked (listed tag move) ≤ calls_asked move
+listed_few tag Wait = omega arith
+listed_few tag (Ask late) = omega arith
+listed_few tag (Read readings) = omega arith
+listed_few tag (Restart key floor) = omega arith
+listed_few tag Torn = omega arith
+listed_few tag Ignored = omega arith
+
+-- its reader took a reply
+pub found_reads : (search : TagSearch) (reader next : Reader) (tag : Tag) (move : ReadMove) → search.has_ended ≡ false → search.reads ≡ true
+    → calls_asked move + calls_left next ≤ calls_left reader → (after : TagSearch) → after.reads ≡ true → after.asked ≡ search.asked
+    → find_asked (listed tag move) + find_left after next ≤ find_left search reader
+found_reads search reader next tag move goes_on reads few after still same = omega (arith, few, open_left, left after.has_ended, listed_few tag move)
+  where
+    open_left : find_left search reader ≡ cond (have_told search.asked) 0 (2 * max_found) + calls_left reader
+    open_left =
+        ap (λ b. cond b 0 (cond (have_told search.asked) 0 (2 * max_found) + to_read search.reads reader)) goes_on
+        ∙ ap (λ b. cond (have_told search.asked) 0 (2 * max_found) + to_read b reader) reads
+
+    left : (b : Bool) → cond b 0 (cond (have_told after.asked) 0 (2 * max_found) + to_read after.reads next) ≤ cond (have_told search.asked) 0 (2 * max_found) + calls_left next
+    left true = omega arith
+    left false =
+        omega (arith, ap (λ (asked : List AskedPartition). cond (have_told asked) 0 (2 * max_found)) same, ap (λ b. to_read b next) still)

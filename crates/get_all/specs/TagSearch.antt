@@ -1,18 +1,21 @@
 -- What a search stands for.
-use Rattle.std.specs.Prelude.{◌≡◌, ℕ, ◌+◌, ◌*◌, ◌≤◌, min, List, Bool, true, false, ◌||◌, nat_lt, length, map, flat_map}
+use Rattle.std.specs.Prelude.{◌≡◌, ◌≢◌, ℕ, ◌+◌, ◌*◌, ◌≤◌, min, List, Bool, true, false, ◌||◌, nat_lt, length, map, flat_map}
 use Rattle.std.specs.Prelude.{[], cond, Option, Some, None}
 use Rattle.std.specs.List.{list_any, list_all}
 use Rattle.stamps.specs.Limits.{max_found}
 use Rattle.stamps.specs.WriteSet.{contains_key}
 use Rattle.plain_store.specs.declared.calls.Call.TheVariants.{Found}
+use Rattle.plain_store.specs.declared.calls.ReadReply.{ReadReply}
 use Rattle.plain_store.specs.declared.message.Message.{Message}
 use Rattle.plain_store.specs.declared.refusal.Refusal.TheVariants.{Torn as IsTorn, TooMany as AreTooMany}
+use Rattle.plain_store.specs.FoundKeys.{Findings}
 use Rattle.plain_store.specs.Words.{Key, Tag, Setup, home}
 use Rattle.plain_store.specs.Rounds.{first_calls}
 use Rattle.plain_store.specs.Finding.{below, says_found, keys_found, all_found, total_found, all_keys_found, carrying}
 use Rattle.plain_store.specs.Moves.{Move, Waits, Begins, Asks, Lists, Restarts, Fails, is_answered}
 use Rattle.plain_store.specs.Run.{one_twice}
-use Rattle.get_all.specs.Finding.{any_stray, has_ended, find_answer, taken_with}
+use Rattle.get_all.specs.Finding.{any_stray, has_ended, find_answer, taken_with, IsTold}
+use Rattle.get_all.specs.Reading.{IsFirst, IsSecond}
 use Rattle.get_all.specs.Reader.{ask_for, is_no_read, StandsFor as StandsForRead, calls_left as read_left}
 use Rattle.get_all.specs.declared.told.AskedPartition.{AskedPartition}
 use Rattle.get_all.specs.declared.reader.Reader.{Reader}
@@ -123,3 +126,26 @@ calls_asked (Restart key floor) = 0
 calls_asked TooMany = 0
 calls_asked Torn = 0
 calls_asked Ignored = 0
+
+-- ---- what its calls promise
+
+-- What a partition found was offered to a search, which takes it as the search does. Once the search has ended it ignores it, and
+-- nothing changes. What it asks for, and may ask for after it, is no more than what it might before.
+pub record TakesFound (partition : ℕ) (found : Findings) (old : TagSearch) (reader : Reader) (move : FindMove)
+    (new : TagSearch) (after : Reader) : Type 0 where
+  pub takes : (setup : Setup) (tag : Tag) (taken : List Message) (message : Message) → StandsFor setup tag old reader taken
+      → IsTold partition found message → TakesFind setup tag taken message move new after
+  pub ended : old.has_ended ≡ true → (move ≡ Ignored) × (new ≡ old) × (after ≡ reader)
+  pub few : calls_asked move + calls_left new after ≤ calls_left old reader
+
+-- So is the reply to the GET of a key in round 1 or 2; in any other round it is ignored.
+pub record FindsInRound (key : Key) (round : ℕ) (reply : ReadReply) (old : TagSearch) (reader : Reader) (move : FindMove)
+    (new : TagSearch) (after : Reader) : Type 0 where
+  pub first : (setup : Setup) (tag : Tag) (taken : List Message) (message : Message) → round ≡ 1
+      → StandsFor setup tag old reader taken → IsFirst key reply message → TakesFind setup tag taken message move new after
+  pub second : (setup : Setup) (tag : Tag) (taken : List Message) (message : Message) → round ≡ 2
+      → StandsFor setup tag old reader taken → IsSecond (all_keys_found taken) taken key reply message
+      → TakesFind setup tag taken message move new after
+  pub no_round : round ≢ 1 → round ≢ 2 → (move ≡ Ignored) × (new ≡ old) × (after ≡ reader)
+  pub ended : old.has_ended ≡ true → (move ≡ Ignored) × (new ≡ old) × (after ≡ reader)
+  pub few : calls_asked move + calls_left new after ≤ calls_left old reader

@@ -13,15 +13,11 @@ pub struct Finder {
 }
 
 impl Finder {
-    ghost use Rattle.std.specs.Prelude.{◌≡◌, ◌≢◌, true, ◌+◌, ◌≤◌, List, []};
+    ghost use Rattle.std.specs.Prelude.{◌≡◌, []};
     ghost use Rattle.stamps.specs.Bounds.{IsParts};
-    ghost use Rattle.plain_store.specs.declared.message.Message.{Message};
-    ghost use Rattle.plain_store.specs.Finding.{all_keys_found};
-    ghost use Rattle.plain_store.specs.Words.{Tag, Setup};
-    ghost use Rattle.get_all.specs.Reading.{IsFirst, IsSecond};
-    ghost use Rattle.get_all.specs.Finding.{IsTold};
-    ghost use Rattle.get_all.specs.TagSearch.{calls_asked};
-    ghost use Rattle.get_all.specs.Finder.{StandsFor, TakesFind, calls_left};
+    ghost use Rattle.plain_store.specs.Words.{Setup};
+    ghost use Rattle.get_all.specs.TagSearch.{TakesFound, FindsInRound};
+    ghost use Rattle.get_all.specs.Finder.{StandsFor};
 
     /// A finder of the items of this tag in a store of so many partitions (1 to `MAX_PARTS`), which took no reply yet.
     pub fn new(tag: Tag, parts: u32) -> Finder
@@ -37,13 +33,8 @@ impl Finder {
     /// Takes what this partition found. Ignored where there is no such partition, where it told before, and
     /// once the search has ended. A key that is at home elsewhere tears it at once.
     pub fn take_found(&mut self, partition: u32, found: &Found) -> FindMove
-        ensures takes { (setup : Setup) (tag : Tag) (taken : List Message) (message : Message)
-            → StandsFor setup tag self.old taken
-            → IsTold partition found.now message
-            → TakesFind setup tag taken message result self.new }
-        ensures ended { self.old.search.has_ended ≡ true
-            → (result ≡ FindMove.Ignored) × (self.new ≡ self.old) }
-        ensures few { calls_asked result + calls_left self.new ≤ calls_left self.old }
+        ensures { TakesFound partition found.now
+            self.old.search self.old.reader result self.new.search self.new.reader }
     {
         self.search.take_found(&mut self.reader, partition, found)
     }
@@ -51,19 +42,8 @@ impl Finder {
     /// Takes the reply to the GET of this key in round 1 or 2, as a `Reader` does, and lists of what is read
     /// the items of the tag. Ignored before the read has begun, too.
     pub fn take(&mut self, key: &Key, round: u8, reply: &ReadReply) -> FindMove
-        ensures first { (setup : Setup) (tag : Tag) (taken : List Message) (message : Message)
-            → round ≡ 1 → StandsFor setup tag self.old taken
-            → IsFirst key.now reply.now message
-            → TakesFind setup tag taken message result self.new }
-        ensures second { (setup : Setup) (tag : Tag) (taken : List Message) (message : Message)
-            → round ≡ 2 → StandsFor setup tag self.old taken
-            → IsSecond (all_keys_found taken) taken key.now reply.now message
-            → TakesFind setup tag taken message result self.new }
-        ensures no_round { round ≢ 1 → round ≢ 2
-            → (result ≡ FindMove.Ignored) × (self.new ≡ self.old) }
-        ensures ended { self.old.search.has_ended ≡ true
-            → (result ≡ FindMove.Ignored) × (self.new ≡ self.old) }
-        ensures few { calls_asked result + calls_left self.new ≤ calls_left self.old }
+        ensures { FindsInRound key.now round reply.now
+            self.old.search self.old.reader result self.new.search self.new.reader }
     {
         self.search.take(&mut self.reader, key, round, reply)
     }

@@ -97,7 +97,7 @@ fn no_readings() -> Readings
 }
 
 impl TagSearch {
-    ghost use Rattle.std.specs.Prelude.{◌≡◌, ◌≢◌, ℕ, ◌+◌, ◌*◌, ◌<◌, ◌≤◌, min, true, false, ◌||◌, List, [], ◌++◌, map, length, IsTrue};
+    ghost use Rattle.std.specs.Prelude.{◌≡◌, ◌+◌, ◌*◌, ◌<◌, ◌≤◌, min, true, false, ◌||◌, List, [], ◌++◌, map, length, IsTrue};
     ghost use Rattle.std.specs.List.{list_all};
     ghost use Rattle.stamps.specs.Key.{IsTransactionKeys, sorted_keys};
     ghost use Rattle.stamps.specs.Limits.{max_found};
@@ -106,12 +106,9 @@ impl TagSearch {
     ghost use Rattle.stamps.specs.Bounds.{IsParts};
     ghost use Rattle.plain_store.specs.FoundKeys.{IsFound};
     ghost use Rattle.plain_store.specs.declared.message.Message.{Message};
-    ghost use Rattle.plain_store.specs.Finding.{all_keys_found};
-    ghost use Rattle.plain_store.specs.Words.{Key, Tag, Setup};
+    ghost use Rattle.plain_store.specs.Words.{Setup};
     ghost use Rattle.get_all.specs.AskedPartition.{with_told};
-    ghost use Rattle.get_all.specs.Reading.{IsFirst, IsSecond};
-    ghost use Rattle.get_all.specs.Finding.{IsTold};
-    ghost use Rattle.get_all.specs.TagSearch.{StandsFor, TakesFind, listed, calls_left, calls_asked};
+    ghost use Rattle.get_all.specs.TagSearch.{StandsFor, TakesFound, FindsInRound, listed, calls_left, calls_asked};
 
     /// The most items that a search lists.
     const MAX_ITEMS: u32 = limits::MAX_FOUND as u32;
@@ -151,14 +148,8 @@ impl TagSearch {
     /// Takes what this partition found. Ignored where there is no such partition, where it told before, and
     /// once the search has ended. A key that is at home elsewhere tears it at once.
     pub fn take_found(&mut self, reader: &mut Reader, partition: u32, found: &Found) -> FindMove
-        ensures takes { (setup : Setup) (tag : Tag) (taken : List Message) (message : Message)
-            → StandsFor setup tag self.old reader.old taken
-            → IsTold partition found.now message
-            → TakesFind setup tag taken message result self.new reader.new }
-        ensures ended { self.old.has_ended ≡ true
-            → (result ≡ FindMove.Ignored) × (self.new ≡ self.old) × (reader.new ≡ reader.old) }
-        ensures few { calls_asked result + calls_left self.new reader.new
-            ≤ calls_left self.old reader.old }
+        ensures { TakesFound partition found.now
+            self.old reader.old result self.new reader.new }
     {
         if self.has_ended || !self.asked.await_told(partition) {
             return FindMove::Ignored;
@@ -177,20 +168,8 @@ impl TagSearch {
     /// Takes the reply to the GET of this key in round 1 or 2, as a `Reader` does, and lists of what is read
     /// the items of the tag. Ignored before the read has begun, too.
     pub fn take(&mut self, reader: &mut Reader, key: &Key, round: u8, reply: &ReadReply) -> FindMove
-        ensures first { (setup : Setup) (tag : Tag) (taken : List Message) (message : Message)
-            → round ≡ 1 → StandsFor setup tag self.old reader.old taken
-            → IsFirst key.now reply.now message
-            → TakesFind setup tag taken message result self.new reader.new }
-        ensures second { (setup : Setup) (tag : Tag) (taken : List Message) (message : Message)
-            → round ≡ 2 → StandsFor setup tag self.old reader.old taken
-            → IsSecond (all_keys_found taken) taken key.now reply.now message
-            → TakesFind setup tag taken message result self.new reader.new }
-        ensures no_round { round ≢ 1 → round ≢ 2
-            → (result ≡ FindMove.Ignored) × (self.new ≡ self.old) × (reader.new ≡ reader.old) }
-        ensures ended { self.old.has_ended ≡ true
-            → (result ≡ FindMove.Ignored) × (self.new ≡ self.old) × (reader.new ≡ reader.old) }
-        ensures few { calls_asked result + calls_left self.new reader.new
-            ≤ calls_left self.old reader.old }
+        ensures { FindsInRound key.now round reply.now
+            self.old reader.old result self.new reader.new }
     {
         if self.has_ended {
             return FindMove::Ignored;
