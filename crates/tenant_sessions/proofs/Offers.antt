@@ -1,5 +1,6 @@
 -- What a reply to a transaction's call is to the machine that takes it: for `offer_reply`, `take_written`, `take_read` and `take_found`.
 use Rattle.std.proofs.Common.{◌≡◌, ℕ, zero, suc, ◌<◌, List, [], ◌∷◌, ◌++◌, Bool, true, false, ap, sym, ◌∙◌, refl, subst, cond, arith, Option, Some, None, ◌⊎◌, inl, inr}
+use Rattle.plain_store.specs.declared.calls.Call.{Call}
 use Rattle.plain_store.specs.declared.calls.Call.TheVariants.{Prepare, Commit, Get, Found}
 use Rattle.plain_store.specs.declared.calls.PrepareReply.{PrepareReply}
 use Rattle.plain_store.specs.declared.calls.ReadReply.{ReadReply}
@@ -149,3 +150,15 @@ is_found_reply tag reply h = cc
 pub is_get_reply : (key : Key) (s : Option Stamp) (reply : Option Reply) → is_reply_of (Get key s) reply ≡ true → (r : ReadReply) × (reply ≡ Some (ToGet r))
 is_get_reply key s (Some (ToGet r)) h = (r, refl)
 is_get_reply key s reply h = cc
+
+pub of_get : (call : Call) (reply : Option Reply) (key : Key) (s : Option Stamp) (r : ReadReply) → call ≡ Get key s → reply ≡ Some (ToGet r) → is_reply_of call reply ≡ true
+of_get call reply key s r asked replied = ap (λ c. is_reply_of c reply) asked ∙ ap (is_reply_of (Get key s)) replied
+
+pub of_found : (call : Call) (reply : Option Reply) (tag : Tag) (told : Findings) → call ≡ Found tag → reply ≡ Some (ToFound told) → is_reply_of call reply ≡ true
+of_found call reply tag told asked replied = ap (λ c. is_reply_of c reply) asked ∙ ap (is_reply_of (Found tag)) replied
+
+pub of_prepare : (call : Call) (reply : Option Reply) (version : Record) (r : PrepareReply) → call ≡ Prepare version → reply ≡ Some (ToPrepare r) → is_reply_of call reply ≡ true
+of_prepare call reply version r asked replied = ap (λ c. is_reply_of c reply) asked ∙ ap (is_reply_of (Prepare version)) replied
+
+pub of_commit : (call : Call) (reply : Option Reply) (stamp : Stamp) (count : ℕ) → call ≡ Commit stamp → reply ≡ Some (ToCommit count) → is_reply_of call reply ≡ true
+of_commit call reply stamp count asked replied = ap (λ c. is_reply_of c reply) asked ∙ ap (is_reply_of (Commit stamp)) replied

@@ -24,7 +24,7 @@ use Rattle.tenant_sessions.specs.CallsLeft.{calls_left, calls_sent, calls_waitin
 use Rattle.tenant_sessions.specs.Held.{TakesReply}
 use Rattle.tenant_sessions.specs.Moves.{Move, moved, is_last}
 use Rattle.tenant_sessions.specs.Parts.{outgoing_of}
-use Rattle.tenant_sessions.specs.Running.{IsReplyTo, RunningStands}
+use Rattle.tenant_sessions.specs.Running.{IsReplyTo, RunningStands, is_reply_of}
 use Rattle.tenant_sessions.specs.Sessions.{IsBegin, IsBeginOf, IsRun, IsTaken, StandsFor}
 use Rattle.tenant_sessions.specs.Sending.{SendsSo, waiting_of}
 use Rattle.tenant_sessions.specs.Showing.{IsShown, Shows}
@@ -67,8 +67,8 @@ pub record StartsIf (test : Result (Unit {0}) Refusal) (parts : ℕ) (request : 
   pub begun : OnOk result (HasBegun parts request old new)
   pub still_open : new.is_open ≡ old.is_open
 
--- What a session does when a message comes. Where no transaction runs, and where the message's ticket is another one, it
--- ignores it, and nothing changes. A reply to what runs is taken as the plain store takes it. Whatever the message is: what runs
+-- What a session does when a message comes. Where no transaction runs, where the message's ticket is another one, and where its
+-- reply is of another kind than its call, it ignores it, and nothing changes. A reply to what runs is taken as the plain store takes it. Whatever the message is: what runs
 -- is forgotten where the answer ends it, and else goes on; what is answered was shown by the replies, what is sent with it and may
 -- be asked for after it is no more than what might be before, and a write that is decided sends COMMITs of its stamp and a read
 -- GETs.
@@ -76,6 +76,7 @@ pub record TakesIn (message : Message) (old : ClientSession) (kind : MoveKind) (
     : Type 0 where
   pub idle : old.running ≡ None → (kind ≡ Ignored) × (new ≡ old)
   pub late : message.ticket ≢ old.ticket → (kind ≡ Ignored) × (new ≡ old)
+  pub foreign : is_reply_of message.call message.reply ≡ false → (kind ≡ Ignored) × (new ≡ old)
   pub ended : is_last (moved kind readings) ≡ true → new.running ≡ None
   pub goes_on : is_last (moved kind readings) ≡ false → is_some new.running ≡ is_some old.running
   pub taken : (setup : Setup) (request : Intent) (taken : List Message) (running : Running) → message.ticket ≡ old.ticket

@@ -5,6 +5,7 @@ pub mod Running
 pub mod Content
 pub mod Held
 pub mod Showing
+pub mod Offering
 pub mod CallsLeft
 pub mod Begins
 pub mod Sessions

@@ -30,7 +30,7 @@ impl Model for Current {
 }
 
 impl Current {
-    ghost use Rattle.std.specs.Prelude.{◌≡◌, ◌+◌, ◌≤◌, List, Some, None, IsSome, IfSome, IfOk, is_some};
+    ghost use Rattle.std.specs.Prelude.{◌≡◌, ◌+◌, ◌≤◌, List, Some, None, false, IsSome, IfSome, IfOk, is_some};
     ghost use Rattle.std.specs.Option.{option_copied};
     ghost use Rattle.plain_store.specs.declared.message.Message.{Message as Sent};
     ghost use Rattle.plain_store.specs.History.{Intent, Writes, Gets, Finds};
@@ -38,7 +38,7 @@ impl Current {
     ghost use Rattle.tenant_sessions.specs.Held.{IsTested, request_begun, GoesOn};
     ghost use Rattle.tenant_sessions.specs.CallsLeft.{calls_left, calls_sent, calls_waiting};
     ghost use Rattle.tenant_sessions.specs.Moves.{moved};
-    ghost use Rattle.tenant_sessions.specs.Running.{MayBegin, IsReplyTo, RunningStands, Starts, TakesMessage};
+    ghost use Rattle.tenant_sessions.specs.Running.{MayBegin, IsReplyTo, RunningStands, Starts, TakesMessage, is_reply_of};
     ghost use Rattle.tenant_sessions.specs.Sending.{SendsSo, waiting_of};
     ghost use Rattle.tenant_sessions.specs.Showing.{IsShown, Shows};
 
@@ -142,6 +142,8 @@ impl Current {
         ensures sent { SendsSo (moved kind.new readings.new) (waiting_of self.new) }
         ensures calls { calls_sent (moved kind.new readings.new) (calls_waiting self.new)
             + calls_left self.new ≤ calls_left self.old }
+        ensures foreign { is_reply_of message.now.call message.now.reply ≡ false
+            → (kind.new ≡ MoveKind.Ignored) × (self.new ≡ self.old) }
     {
         if !self.is_running {
             *kind = MoveKind::Ignored;

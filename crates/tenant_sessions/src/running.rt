@@ -63,7 +63,7 @@ impl Running {
     ghost use Rattle.tenant_sessions.specs.Held.{IsTested, request_begun};
     ghost use Rattle.tenant_sessions.specs.CallsLeft.{calls_sent, machine_left};
     ghost use Rattle.tenant_sessions.specs.Moves.{moved};
-    ghost use Rattle.tenant_sessions.specs.Running.{MayBegin, IsReplyTo, RunningStands, Starts, TakesMessage, waiting_calls};
+    ghost use Rattle.tenant_sessions.specs.Running.{MayBegin, IsReplyTo, RunningStands, Starts, TakesMessage, is_reply_of, waiting_calls};
     ghost use Rattle.tenant_sessions.specs.Sending.{SendsSo};
     ghost use Rattle.tenant_sessions.specs.Showing.{HasTaken, Shows};
 
@@ -149,6 +149,8 @@ impl Running {
         ensures calls { calls_sent (moved kind.new readings.new) (length self.new.waiting)
             + machine_left self.new.machine ≤ machine_left self.old.machine }
         ensures sent { SendsSo (moved kind.new readings.new) self.new.waiting }
+        ensures foreign { is_reply_of message.now.call message.now.reply ≡ false
+            → (kind.new ≡ MoveKind.Ignored) × (self.new ≡ self.old) }
     {
         match self.kind {
             TransactionKind::Put => take_written(

@@ -1,18 +1,19 @@
 //! Running reads.
-ghost use Rattle.std.specs.Prelude.{◌≡◌, ◌+◌, ◌≤◌, All, List, length};
+ghost use Rattle.std.specs.Prelude.{◌≡◌, ◌+◌, ◌≤◌, All, List, false, length};
 ghost use Rattle.stamps.specs.Bounds.{IsParts};
 ghost use Rattle.plain_store.specs.declared.message.Message.{Message};
 ghost use Rattle.plain_store.specs.History.{Gets};
 ghost use Rattle.plain_store.specs.Words.{Key, Setup};
-ghost use Rattle.get_all.specs.Reader.{StandsFor, TakesRead, told_by, calls_left, calls_asked};
+ghost use Rattle.get_all.specs.Reader.{StandsFor, calls_left};
 ghost use Rattle.get_all.specs.ReadProgress.{late_by};
 ghost use Rattle.tenant_sessions.specs.Asking.{Awaits};
 ghost use Rattle.tenant_sessions.specs.CallsLeft.{calls_sent};
 ghost use Rattle.tenant_sessions.specs.Moves.{moved};
+ghost use Rattle.tenant_sessions.specs.Offering.{OffersToReader};
 ghost use Rattle.tenant_sessions.specs.Parts.{Second, batch_calls};
-ghost use Rattle.tenant_sessions.specs.Running.{IsReplyTo, IsReading, TakesMessage};
+ghost use Rattle.tenant_sessions.specs.Running.{IsReplyTo, IsReading, TakesMessage, is_reply_of};
 ghost use Rattle.tenant_sessions.specs.Sending.{IsGet, SendsSo};
-ghost use Rattle.tenant_sessions.specs.Showing.{Offers, Shows};
+ghost use Rattle.tenant_sessions.specs.Showing.{Shows};
 
 use crate::waiting::Waiting;
 use crate::{Discards, MoveKind};
@@ -21,16 +22,7 @@ use plain_store::{Call, Message, Readings, Refusal, Reply};
 
 /// Offers a reply to the reader.
 fn offer(reader: &mut Reader, message: &Message) -> ReadMoveKind
-    ensures shown { (keys : List Key) (taken : List Message)
-        → StandsFor keys reader.old taken
-        → Offers keys taken message.now (told_by reader.new result) reader.new }
-    ensures takes { (setup : Setup) (keys : List Key) (taken : List Message)
-        → StandsFor keys reader.old taken
-        → IsReplyTo setup (Gets keys) taken message.now
-        → TakesRead keys taken message.now
-        (told_by reader.new result) reader.new }
-    ensures few { calls_asked (told_by reader.new result) + calls_left reader.new
-        ≤ calls_left reader.old }
+    ensures { OffersToReader message.now reader.old result reader.new }
 {
     match &message.reply {
         Some(reply) => offer_reply(reader, message, reply),
@@ -40,16 +32,8 @@ fn offer(reader: &mut Reader, message: &Message) -> ReadMoveKind
 
 /// Offers the message's reply to the reader.
 fn offer_reply(reader: &mut Reader, message: &Message, reply: &Reply) -> ReadMoveKind
-    ensures shown { (keys : List Key) (taken : List Message) → message.now.reply ≡ Some reply.now
-        → StandsFor keys reader.old taken
-        → Offers keys taken message.now (told_by reader.new result) reader.new }
-    ensures takes { (setup : Setup) (keys : List Key) (taken : List Message)
-        → message.now.reply ≡ Some reply.now → StandsFor keys reader.old taken
-        → IsReplyTo setup (Gets keys) taken message.now
-        → TakesRead keys taken message.now
-        (told_by reader.new result) reader.new }
-    ensures few { calls_asked (told_by reader.new result) + calls_left reader.new
-        ≤ calls_left reader.old }
+    ensures { message.now.reply ≡ Some reply.now
+        → OffersToReader message.now reader.old result reader.new }
 {
     match (&message.call, reply) {
         (Call::Get(key, _), Reply::Get(reply)) => reader.take_kind(key, message.round(), reply),
@@ -92,6 +76,9 @@ pub(crate) fn take_read(
     ensures calls { calls_sent (moved kind.new readings.new) (length waiting.new)
         + calls_left reader.new ≤ calls_left reader.old }
     ensures sent { SendsSo (moved kind.new readings.new) waiting.new }
+    ensures foreign { is_reply_of message.now.call message.now.reply ≡ false
+        → (kind.new ≡ MoveKind.Ignored) × (reader.new ≡ reader.old)
+        × (waiting.new ≡ waiting.old) }
 {
     match offer(reader, message) {
         ReadMoveKind::Wait => {

@@ -1,16 +1,17 @@
 //! Running searches.
-ghost use Rattle.std.specs.Prelude.{◌≡◌, ◌+◌, ◌≤◌, List, length};
+ghost use Rattle.std.specs.Prelude.{◌≡◌, ◌+◌, ◌≤◌, List, false, length};
 ghost use Rattle.stamps.specs.Bounds.{IsParts};
 ghost use Rattle.plain_store.specs.declared.message.Message.{Message};
 ghost use Rattle.plain_store.specs.Finding.{keys_found, count_found};
 ghost use Rattle.plain_store.specs.History.{Finds};
 ghost use Rattle.plain_store.specs.Words.{Tag, Setup};
-ghost use Rattle.get_all.specs.TagSearch.{StandsFor, TakesFind, calls_left, calls_asked};
+ghost use Rattle.get_all.specs.TagSearch.{StandsFor, calls_left};
 ghost use Rattle.tenant_sessions.specs.CallsLeft.{calls_sent};
 ghost use Rattle.tenant_sessions.specs.Moves.{moved};
-ghost use Rattle.tenant_sessions.specs.Running.{IsReplyTo, IsFinding, TakesMessage};
+ghost use Rattle.tenant_sessions.specs.Offering.{OffersToSearch};
+ghost use Rattle.tenant_sessions.specs.Running.{IsReplyTo, IsFinding, TakesMessage, is_reply_of};
 ghost use Rattle.tenant_sessions.specs.Sending.{SendsSo};
-ghost use Rattle.tenant_sessions.specs.Showing.{found_move, Shows};
+ghost use Rattle.tenant_sessions.specs.Showing.{Shows};
 
 use crate::waiting::Waiting;
 use crate::{Discards, MoveKind};
@@ -28,17 +29,8 @@ fn read_keys(reply: &Reply)
 
 /// Offers a reply to the search.
 fn offer(search: &mut TagSearch, reader: &mut Reader, message: &Message) -> FindMove
-    ensures few { length (keys_found message.now.reply) ≤ count_found message.now.reply }
-    ensures shown { (setup : Setup) (tag : Tag) (taken : List Message)
-        → StandsFor setup tag search.old reader.old taken
-        → Shows setup (Finds tag) taken message.now (found_move result)
-        (StandsFor setup tag search.new reader.new) }
-    ensures takes { (setup : Setup) (tag : Tag) (taken : List Message)
-        → StandsFor setup tag search.old reader.old taken
-        → IsReplyTo setup (Finds tag) taken message.now
-        → TakesFind setup tag taken message.now result search.new reader.new }
-    ensures calls { calls_asked result + calls_left search.new reader.new
-        ≤ calls_left search.old reader.old }
+    ensures { OffersToSearch message.now
+        search.old reader.old result search.new reader.new }
 {
     match &message.reply {
         Some(reply) => offer_reply(search, reader, message, reply),
@@ -53,17 +45,8 @@ fn offer_reply(
     message: &Message,
     reply: &Reply,
 ) -> FindMove
-    ensures few { length (keys_found (Some reply.now)) ≤ count_found (Some reply.now) }
-    ensures shown { (setup : Setup) (tag : Tag) (taken : List Message)
-        → message.now.reply ≡ Some reply.now → StandsFor setup tag search.old reader.old taken
-        → Shows setup (Finds tag) taken message.now (found_move result)
-        (StandsFor setup tag search.new reader.new) }
-    ensures takes { (setup : Setup) (tag : Tag) (taken : List Message)
-        → message.now.reply ≡ Some reply.now → StandsFor setup tag search.old reader.old taken
-        → IsReplyTo setup (Finds tag) taken message.now
-        → TakesFind setup tag taken message.now result search.new reader.new }
-    ensures calls { calls_asked result + calls_left search.new reader.new
-        ≤ calls_left search.old reader.old }
+    ensures { message.now.reply ≡ Some reply.now → OffersToSearch message.now
+        search.old reader.old result search.new reader.new }
 {
     read_keys(reply);
     match (&message.call, reply) {
@@ -102,6 +85,9 @@ pub(crate) fn take_found(
     ensures calls { calls_sent (moved kind.new readings.new) (length waiting.new)
         + calls_left search.new reader.new ≤ calls_left search.old reader.old }
     ensures sent { SendsSo (moved kind.new readings.new) waiting.new }
+    ensures foreign { is_reply_of message.now.call message.now.reply ≡ false
+        → (kind.new ≡ MoveKind.Ignored) × (search.new ≡ search.old)
+        × (reader.new ≡ reader.old) × (waiting.new ≡ waiting.old) }
 {
     match offer(search, reader, message) {
         FindMove::Wait => {

@@ -1,20 +1,21 @@
 //! Running writes.
-ghost use Rattle.std.specs.Prelude.{◌≡◌, ◌+◌, ◌≤◌, All, List, length};
+ghost use Rattle.std.specs.Prelude.{◌≡◌, ◌+◌, ◌≤◌, All, List, false, length};
 ghost use Rattle.plain_store.specs.declared.calls.Call.TheVariants.{Commit};
 ghost use Rattle.stamps.specs.Bounds.{IsParts};
 ghost use Rattle.stamps.specs.declared.record.Item.{Item};
 ghost use Rattle.plain_store.specs.declared.message.Message.{Message};
 ghost use Rattle.plain_store.specs.History.{Writes};
 ghost use Rattle.plain_store.specs.Words.{Setup};
-ghost use Rattle.put_all.specs.Writer.{StandsFor, TakesWrite, ending_calls, calls_left, calls_asked};
+ghost use Rattle.put_all.specs.Writer.{StandsFor, ending_calls, calls_left};
 ghost use Rattle.plain_store.specs.declared.reading.Reading.{Reading};
 ghost use Rattle.tenant_sessions.specs.Asking.{Awaits};
 ghost use Rattle.tenant_sessions.specs.CallsLeft.{calls_sent};
 ghost use Rattle.tenant_sessions.specs.Moves.{moved};
+ghost use Rattle.tenant_sessions.specs.Offering.{OffersToWriter};
 ghost use Rattle.tenant_sessions.specs.Parts.{Commits, batch_calls};
-ghost use Rattle.tenant_sessions.specs.Running.{IsReplyTo, IsWriting, TakesMessage};
+ghost use Rattle.tenant_sessions.specs.Running.{IsReplyTo, IsWriting, TakesMessage, is_reply_of};
 ghost use Rattle.tenant_sessions.specs.Sending.{SendsSo};
-ghost use Rattle.tenant_sessions.specs.Showing.{OffersWrite, Shows};
+ghost use Rattle.tenant_sessions.specs.Showing.{Shows};
 
 use crate::waiting::Waiting;
 use crate::{Discards, MoveKind};
@@ -24,14 +25,7 @@ use stamps::{Item, Stamp};
 
 /// Offers a reply to the writer.
 fn offer(writer: &mut Writer, message: &Message) -> WriteMove
-    ensures shown { (setup : Setup) (stamp : Stamp) (items : List Item) (taken : List Message)
-        → StandsFor setup stamp items writer.old taken
-        → OffersWrite setup stamp items taken message.now result writer.new }
-    ensures takes { (setup : Setup) (stamp : Stamp) (items : List Item) (taken : List Message)
-        → StandsFor setup stamp items writer.old taken
-        → IsReplyTo setup (Writes stamp items) taken message.now
-        → TakesWrite setup stamp items taken message.now result writer.new }
-    ensures few { calls_asked result writer.new + calls_left writer.new ≤ calls_left writer.old }
+    ensures { OffersToWriter message.now writer.old result writer.new }
 {
     match &message.reply {
         Some(reply) => offer_reply(writer, message, reply),
@@ -41,14 +35,8 @@ fn offer(writer: &mut Writer, message: &Message) -> WriteMove
 
 /// Offers the message's reply to the writer.
 fn offer_reply(writer: &mut Writer, message: &Message, reply: &Reply) -> WriteMove
-    ensures shown { (setup : Setup) (stamp : Stamp) (items : List Item) (taken : List Message)
-        → message.now.reply ≡ Some reply.now → StandsFor setup stamp items writer.old taken
-        → OffersWrite setup stamp items taken message.now result writer.new }
-    ensures takes { (setup : Setup) (stamp : Stamp) (items : List Item) (taken : List Message)
-        → message.now.reply ≡ Some reply.now → StandsFor setup stamp items writer.old taken
-        → IsReplyTo setup (Writes stamp items) taken message.now
-        → TakesWrite setup stamp items taken message.now result writer.new }
-    ensures few { calls_asked result writer.new + calls_left writer.new ≤ calls_left writer.old }
+    ensures { message.now.reply ≡ Some reply.now
+        → OffersToWriter message.now writer.old result writer.new }
 {
     match (&message.call, reply) {
         (Call::Prepare(version), Reply::Prepare(reply)) => {
@@ -108,6 +96,9 @@ pub(crate) fn take_written(
         (readings : List Reading) → StandsFor setup stamp items writer.old taken
         → Shows setup (Writes stamp items) taken message.now (moved kind.new readings)
         (StandsFor setup stamp items writer.new) }
+    ensures foreign { is_reply_of message.now.call message.now.reply ≡ false
+        → (kind.new ≡ MoveKind.Ignored) × (writer.new ≡ writer.old)
+        × (waiting.new ≡ waiting.old) }
 {
     match offer(writer, message) {
         WriteMove::Wait => {

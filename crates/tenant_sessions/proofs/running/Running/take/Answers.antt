@@ -1,9 +1,11 @@
-use Rattle.std.proofs.Common.{◌≡◌, List, refl, sym, subst, ap}
+use Rattle.std.proofs.Common.{◌≡◌, ◌∙◌, ℕ, List, refl, sym, subst, ap}
 use Rattle.plain_store.specs.declared.message.Message.{Message}
 use Rattle.plain_store.specs.Words.{Stamp, Setup, Item}
 use Rattle.plain_store.specs.History.{Intent, Writes}
 use Rattle.plain_store.specs.Writing.{Outgoing}
 use Rattle.put_all.specs.declared.writer.Writer.{Writer}
+use Rattle.get_all.specs.declared.reader.Reader.{Reader}
+use Rattle.get_all.specs.declared.tag_search.TagSearch.{TagSearch}
 use Rattle.tenant_sessions.specs.Holding.{RunningMachine, Machine, Write, machine_of}
 use Rattle.tenant_sessions.specs.Moves.{Move, moved}
 use Rattle.tenant_sessions.specs.Running.{IsReplyTo, IsWriting, RunsAs, RunningStands, TakesMessage}
@@ -75,3 +77,30 @@ returns-in-Find-clause-shown c = λ setup request taken has.
     let finds = subst (λ (k : TransactionKind). HasTaken setup request taken (machine_of k w.stamp w.writer w.reader w.search)) c.in-Find.is at in
     subst (λ (k : TransactionKind). Shows setup request taken c.args.message.now (moved c.take_found.new.kind c.take_found.new.readings) (λ replies. HasTaken setup request replies (machine_of k w.stamp w.writer c.take_found.new.reader c.take_found.new.search)))
     (sym c.in-Find.is) (shown_found setup request taken c.args.message.now _ w.search c.take_found.new.search w.reader c.take_found.new.reader (λ tag. c.take_found.ensures.shown setup tag taken) finds)
+
+-- where nothing is taken it is as it was
+abbrev viewed : TransactionKind → Stamp → ℕ → Writer → Reader → TagSearch → List Outgoing → RunningMachine
+viewed kind stamp parts writer reader search waiting = record { machine = machine_of kind stamp writer reader search; waiting = waiting; parts = parts }
+
+same_view : (kind : TransactionKind) (stamp : Stamp) (parts : ℕ) (writer new_writer : Writer) (reader new_reader : Reader) (search new_search : TagSearch) (waiting new_waiting : List Outgoing)
+    → new_writer ≡ writer → new_reader ≡ reader → new_search ≡ search → new_waiting ≡ waiting
+    → viewed kind stamp parts new_writer new_reader new_search new_waiting ≡ viewed kind stamp parts writer reader search waiting
+same_view kind stamp parts writer new_writer reader new_reader search new_search waiting new_waiting a b c d = λ i. viewed kind stamp parts (a i) (b i) (c i) (d i)
+
+pub returns-in-Put-clause-foreign : goal.returns-in-Put-clause-foreign
+returns-in-Put-clause-foreign c = λ other.
+    let w = c.self.inside in
+    let left = c.take_written.ensures.foreign other in
+    (left.0, same_view w.kind w.stamp w.parts w.writer _ w.reader _ w.search _ w.waiting _ left.1 refl refl left.2 ∙ c.self.view_is)
+
+pub returns-in-Get-clause-foreign : goal.returns-in-Get-clause-foreign
+returns-in-Get-clause-foreign c = λ other.
+    let w = c.self.inside in
+    let left = c.take_read.ensures.foreign other in
+    (left.0, same_view w.kind w.stamp w.parts w.writer _ w.reader _ w.search _ w.waiting _ refl left.1 refl left.2 ∙ c.self.view_is)
+
+pub returns-in-Find-clause-foreign : goal.returns-in-Find-clause-foreign
+returns-in-Find-clause-foreign c = λ other.
+    let w = c.self.inside in
+    let left = c.take_found.ensures.foreign other in
+    (left.0, same_view w.kind w.stamp w.parts w.writer _ w.reader _ w.search _ w.waiting _ refl left.2 left.1 left.3 ∙ c.self.view_is)

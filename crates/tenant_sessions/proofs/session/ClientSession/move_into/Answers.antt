@@ -1,7 +1,8 @@
-use Rattle.std.proofs.Common.{sym, ap, ◌∙◌, subst, Option, None, rules}
+use Rattle.std.proofs.Common.{sym, ap, ◌∙◌, subst, Option, None, rules, []}
+use Rattle.std.proofs.lemmas.Bool.{both_ways}
 use Rattle.tenant_sessions.specs.declared.running.Running.{Running}
 use Rattle.tenant_sessions.specs.declared.session.ClientSession.{ClientSession}
-use Rattle.tenant_sessions.specs.Moves.{moved}
+use Rattle.tenant_sessions.specs.Moves.{moved, is_ignored}
 use Rattle.tenant_sessions.specs.Sending.{SendsSo, waiting_of}
 use Rattle.tenant_sessions.specs.Showing.{IsShown, Shows}
 use Rattle.tenant_sessions.proofs.Sent.{sends_none}
@@ -13,6 +14,9 @@ pub returns : goal.returns
 returns c = record {
   idle = search rules;
   late = search rules;
+  foreign = λ other.
+      let left = c.take.ensures.foreign other in
+      absurd (both_ways _ c.if-is_ignored.false (c.is_ignored.ensures [] ∙ ap (λ k. is_ignored (moved k [])) left.0));
   ended = search rules;
   goes_on = search rules;
   taken = search rules;
