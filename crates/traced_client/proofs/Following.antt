@@ -1,5 +1,8 @@
 -- What a client has of the history, from one step to the next.
-use Rattle.std.proofs.Common.{◌≡◌, ◌∙◌, ℕ, ◌+◌, ◌<◌, ◌≤◌, ◌⊎◌, Bool, true, false, List, [], ◌∷◌, ◌++◌, length, length-append, inl, inr, refl, ap, sym, subst, arith, append_assoc}
+use Rattle.std.proofs.Common.{◌≡◌, ◌∙◌, ℕ, ◌+◌, ◌<◌, ◌≤◌, ◌⊎◌, ◌↔◌, Bool, true, false, List, [], ◌∷◌, ◌++◌, length, length-append, ⊎_elim, inl, inr, refl, ap, sym, subst, arith, append_assoc}
+use Rattle.std.specs.Prelude.{IsTrue}
+use Rattle.std.proofs.lemmas.Bool.{both_ways}
+use Rattle.std.proofs.lemmas.Bool.Decides.{eqb_tells}
 use mathlib.Core.List.{IsPrefix}
 use Rattle.stamps.specs.Limits.{max_parts}
 use Rattle.stamps.specs.Stamp.{client_of}
@@ -16,7 +19,7 @@ use Rattle.history.specs.Rules.{IsAdded}
 use Rattle.history.proofs.Counts.{count_later, equal_test, own_append, own_one, own_same}
 use Rattle.history.proofs.Lists.{last_in, prefix_has, prefix_join, prefix_of_itself, prefix_of_more, prefixes_compare}
 use Rattle.history.proofs.Steps.{before_added}
-use Rattle.traced_client.specs.Clients.{HasReadEntry, HasWith, IsTracedClient}
+use Rattle.traced_client.specs.Clients.{CannotEnd, ClientTrace, HasReadEntry, HasWith, IsTracedClient}
 
 -- the entry is behind those of the word that were seen
 pub own_added : (k entries : ℕ) (e : HistoryEntry) (seen now : List HistoryEntry) → is_of k e ≡ true → count k seen ≡ entries → IsAdded k entries e seen now
@@ -84,10 +87,31 @@ end_later k entries e d seen now its counted a none may = record {
     go other same (inl before) = may.unended other before same
     go other same (inr last) = none other last
 
+-- and one that may end behind an entry that begins none could end before it
+end_before : (k entries : ℕ) (e : HistoryEntry) (d : Decision) (seen now : List HistoryEntry) → is_of k e ≡ true → count k seen ≡ entries → IsAdded k entries e seen now
+    → ((write : Write) → Began write ≡ e → ⊥) → MayEnd (own k now) d → MayEnd (own k seen) d
+end_before k entries e d seen now its counted a none may = record {
+  write = may.write;
+  began = go (own_cases k entries e (Began may.write) seen now its counted a may.began);
+  its = may.its;
+  unended = λ other has same. may.unended other (later other has) same;
+}
+  where
+    go : (Began may.write ∈ own k seen) ⊎ (Began may.write ≡ e) → Began may.write ∈ own k seen
+    go (inl before) = before
+    go (inr same) = absurd (none may.write same)
+
+    still : (x : HistoryEntry) → x ∈ own k seen → x ∈ own k now
+    still x has = subst (λ (l : List HistoryEntry). x ∈ l) (sym (own_added k entries e seen now its counted a)) (in_left (own k seen) (e ∷ []) x has)
+
+    later : (other : Decision) → (Decided other ∈ own k seen) ⊎ (GivenUp other ∈ own k seen) → (Decided other ∈ own k now) ⊎ (GivenUp other ∈ own k now)
+    later other (inl has) = inl (still (Decided other) has)
+    later other (inr has) = inr (still (GivenUp other) has)
+
 -- what holds of a client with one entry more
 traced_more : (word tenant client before last : ℕ) (was is_open : Bool) (entries : ℕ) (e : HistoryEntry) (seen now : List HistoryEntry) → IsTracedClient word tenant client before was seen
     → before ≤ last → is_of word e ≡ true → count word seen ≡ entries → IsAdded word entries e seen now → ((write : Write) → Began write ≡ e → write.stamp ≤ last)
-    → ((d : Decision) → (Decided d ≡ e) ⊎ (GivenUp d ≡ e) → d.stamp ≤ last) → (is_open ≡ true → MayEnd (own word now) (record { word = word; tenant = tenant; stamp = last }))
+    → ((d : Decision) → (Decided d ≡ e) ⊎ (GivenUp d ≡ e) → d.stamp ≤ last) → ((is_open ≡ true) ↔ MayEnd (own word now) (record { word = word; tenant = tenant; stamp = last }))
     → IsTracedClient word tenant client last is_open now
 traced_more word tenant client before last was is_open entries e seen now its low one counted a begun ends may = record {
   high = its.high;
@@ -114,7 +138,7 @@ pub traced_began : (write : Write) (client last : ℕ) (was : Bool) (entries : �
     → last < write.stamp → count write.word seen ≡ entries → IsAdded write.word entries (Began write) seen now
     → IsTracedClient write.word write.tenant client write.stamp true now
 traced_began write client last was entries seen now its higher counted a =
-    traced_more write.word write.tenant client last write.stamp was true entries e seen now its (omega (arith, higher)) one counted a begun (λ d same. absurd (none d same)) (λ _. may)
+    traced_more write.word write.tenant client last write.stamp was true entries e seen now its (omega (arith, higher)) one counted a begun (λ d same. absurd (none d same)) ((λ _. may), (λ _. refl))
   where
     e : HistoryEntry
     e = Began write
@@ -146,8 +170,15 @@ pub traced_ended : (d : Decision) (client last : ℕ) (was : Bool) (entries : �
     → IsTracedClient d.word d.tenant client last false now
 traced_ended d client last was entries e seen now which at its one counted a =
     traced_more d.word d.tenant client last last was false entries e seen now its (omega arith) one counted a (λ write same. absurd (other write same which)) (λ o same. low o same which)
-    (λ is. absurd (cc is))
+    ((λ is. absurd (cc is)), (λ may. absurd (may.unended d (ends which) at)))
   where
+    here : e ∈ own d.word now
+    here = subst (λ (l : List HistoryEntry). e ∈ l) (sym (own_added d.word entries e seen now one counted a)) (last_in (own d.word seen) e)
+
+    ends : (e ≡ Decided d) ⊎ (e ≡ GivenUp d) → (Decided d ∈ own d.word now) ⊎ (GivenUp d ∈ own d.word now)
+    ends (inl is) = inl (subst (λ (x : HistoryEntry). x ∈ own d.word now) is here)
+    ends (inr is) = inr (subst (λ (x : HistoryEntry). x ∈ own d.word now) is here)
+
     other : (write : Write) → Began write ≡ e → (e ≡ Decided d) ⊎ (e ≡ GivenUp d) → ⊥
     other write same (inl is) = let no : Began write ≡ Decided d = same ∙ is in cc
     other write same (inr is) = let no : Began write ≡ GivenUp d = same ∙ is in cc
@@ -158,6 +189,12 @@ traced_ended d client last was entries e seen now which at its one counted a =
     low o (inr same) (inl is) = let no : GivenUp o ≡ Decided d = same ∙ is in cc
     low o (inr same) (inr is) = let both : GivenUp o ≡ GivenUp d = same ∙ is in let eq : o ≡ d = cc in omega (arith, ap (λ (x : Decision). x.stamp) eq, at)
 
+-- a put that is not the client's last one or may not end
+pub cannot_end : (stamp : ℕ) (its : ClientTrace) (b : Bool) → b ≡ false → IsTrue b ↔ ((stamp ≡ its.last) × MayEnd (own its.word its.seen) (record { word = its.word; tenant = its.tenant; stamp = stamp }))
+    → CannotEnd stamp its
+cannot_end stamp its b not exact =
+    ⊎_elim (λ same. inr (inl (λ may. both_ways b not (exact.1 (same.1, may))))) (λ apart. inl apart.1) (eqb_tells stamp its.last)
+
 -- a client that has just arrived wrote nothing
 pub traced_new : (word tenant client : ℕ) (seen : List HistoryEntry) → max_parts < word → Joined (record { word = word; tenant = tenant; client = client }) ∈ seen
     → own word seen ≡ Arrived word ∷ [] → IsTracedClient word tenant client 0 false seen
@@ -167,7 +204,7 @@ traced_new word tenant client seen high joined alone = record {
   joined = joined;
   above = λ other has. absurd (begun other (subst (λ (l : List HistoryEntry). Began other ∈ l) alone has));
   ended = λ d has. absurd (ended d has);
-  unended = λ is. absurd (cc is);
+  unended = ((λ is. absurd (cc is)), (λ may. absurd (begun may.write (subst (λ (l : List HistoryEntry). Began may.write ∈ l) alone may.began))));
 }
   where
     begun : (other : Write) → Began other ∈ (Arrived word ∷ []) → ⊥
@@ -190,8 +227,10 @@ traced_new word tenant client seen high joined alone = record {
 pub traced_asked : (word tenant client last : ℕ) (is_open : Bool) (entries : ℕ) (seen now : List HistoryEntry) → IsTracedClient word tenant client last is_open seen
     → count word seen ≡ entries → IsAdded word entries (ReadBegan word) seen now → IsTracedClient word tenant client last is_open now
 traced_asked word tenant client last is_open entries seen now its counted a =
-    traced_more word tenant client last last is_open is_open entries e seen now its (omega arith) one counted a (λ write same. absurd (cc same)) (λ d same. absurd (none d same))
-    (λ is. end_later word entries e (record { word = word; tenant = tenant; stamp = last }) seen now one counted a none (its.unended is))
+    traced_more word tenant client last last is_open is_open entries e seen now its (omega arith) one counted a (λ write same. absurd (cc same)) (λ d same. absurd (none d same)) (
+      (λ is. end_later word entries e (record { word = word; tenant = tenant; stamp = last }) seen now one counted a none (its.unended.0 is)),
+      (λ may. its.unended.1 (end_before word entries e (record { word = word; tenant = tenant; stamp = last }) seen now one counted a (λ write same. cc same) may)),
+    )
   where
     e : HistoryEntry
     e = ReadBegan word

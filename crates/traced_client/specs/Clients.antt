@@ -1,7 +1,8 @@
 -- What a client has of the history.
-use Rattle.std.specs.Prelude.{ℕ, ◌≡◌, ◌⊎◌, ◌<◌, ◌≤◌, ◌+◌, ◌*◌, Bool, true, false, List, [], ◌∷◌, ◌++◌, Option, Some, IsSome, nat_eq}
+use Rattle.std.specs.Prelude.{ℕ, ◌≡◌, ◌≢◌, ◌⊎◌, ◌↔◌, ◌<◌, ◌≤◌, ◌+◌, ◌*◌, Bool, true, false, List, [], ◌∷◌, ◌++◌, Option, Some, IsSome, nat_eq}
 use mathlib.Core.List.{IsPrefix}
 use Rattle.stamps.specs.Limits.{max_parts}
+use Rattle.stamps.specs.Stamp.{client_of}
 use Rattle.indexmap.specs.IndexMap.{IndexMap, get}
 use Rattle.plain_store.specs.declared.refusal.Refusal.{Refusal}
 use Rattle.plain_store.specs.declared.refusal.Refusal.TheVariants.{Busy, RowsUsed, OutOfMemory}
@@ -14,6 +15,7 @@ use Rattle.history.specs.declared.entry.Mark.{Mark}
 use Rattle.history.specs.declared.entry.Write.{Write}
 use Rattle.history.specs.Entries.{HasMark, own, count}
 use Rattle.history.specs.Legal.{MayEnd}
+use Rattle.history.specs.Rules.{TakesNoEntry}
 
 -- the client's word, whose it is, the stamp of its last write, and what was seen of the history
 pub record ClientTrace : Type 0 where
@@ -23,21 +25,36 @@ pub record ClientTrace : Type 0 where
   pub last : ℕ
   pub seen : List HistoryEntry
 
--- The client joined under the word, and what was seen has each of its writes, none above this stamp. One that is open, which is the last
--- one, may end.
+-- The client joined under the word, and what was seen has each of its writes, none above this stamp. The last one is open if and only if it
+-- may end.
 pub record IsTracedClient (word tenant client last : ℕ) (is_open : Bool) (seen : List HistoryEntry) : Type 0 where
   pub high : max_parts < word
   pub some : 0 < count word seen
   pub joined : Joined (record { word = word; tenant = tenant; client = client }) ∈ seen
   pub above : (write : Write) → Began write ∈ own word seen → write.stamp ≤ last
   pub ended : (decision : Decision) → (Decided decision ∈ own word seen) ⊎ (GivenUp decision ∈ own word seen) → decision.stamp ≤ last
-  pub unended : is_open ≡ true → MayEnd (own word seen) (record { word = word; tenant = tenant; stamp = last })
+  pub unended : (is_open ≡ true) ↔ MayEnd (own word seen) (record { word = word; tenant = tenant; stamp = last })
 
--- the same client, under the same word
+-- the same client, under the same word, which has seen what it had seen
 pub record IsSameClient (old new : ClientTrace) : Type 0 where
   pub word : new.word ≡ old.word
   pub tenant : new.tenant ≡ old.tenant
   pub client : new.client ≡ old.client
+  pub later : IsPrefix old.seen new.seen
+
+-- the client joined under this word, by what it has seen
+abbrev pub HasJoined : ℕ → ClientTrace → Type 0
+HasJoined word its = Joined (record { word = word; tenant = its.tenant; client = its.client }) ∈ its.seen
+
+-- no write of the client begins under the stamp: it is another client's, or not above that of the last write, or no entry is taken
+abbrev pub CannotBegin : ℕ → ClientTrace → Type 0
+CannotBegin stamp its = (client_of stamp ≢ its.client) ⊎ ((stamp ≤ its.last) ⊎ TakesNoEntry its.word its.seen)
+
+-- the write of the stamp does not end: it is not the client's last one, or has ended, or no entry is taken
+abbrev pub CannotEnd : ℕ → ClientTrace → Type 0
+CannotEnd stamp its =
+    (stamp ≢ its.last)
+    ⊎ ((MayEnd (own its.word its.seen) (record { word = its.word; tenant = its.tenant; stamp = stamp }) → ⊥) ⊎ TakesNoEntry its.word its.seen)
 
 -- what has the mark has all of this, if it and what was seen are beginnings of one history
 abbrev pub HasWith : Mark → (seen evidence : List HistoryEntry) → Type 0

@@ -6,7 +6,8 @@ ghost use Rattle.plain_store.specs.Words.{◌∈◌};
 ghost use Rattle.history.specs.declared.entry.HistoryEntry.TheVariants.{Joined, Arrived, Began, Decided, GivenUp, ReadBegan};
 ghost use Rattle.history.specs.Entries.{HasMark, own};
 ghost use Rattle.history.specs.Legal.{MayDecide, MayEnd};
-ghost use Rattle.traced_client.specs.Clients.{HasReadEntry, IsEntered, IsSameClient};
+ghost use Rattle.history.specs.Rules.{TakesNoEntry};
+ghost use Rattle.traced_client.specs.Clients.{CannotBegin, CannotEnd, HasJoined, HasReadEntry, IsEntered, IsSameClient};
 
 use history::{Decision, Front, Mark, Naming, Tally, WriteToBegin};
 use stamps::{Client, Item, Stamp};
@@ -88,8 +89,8 @@ impl<J: Naming> TracedClient<J> {
             (Began (record { word = self.old.word; tenant = self.old.tenant; stamp = stamp; items = items.now }))
             self.old self.new }
         ensures last { self.new.last ≡ cond result stamp self.old.last }
-        ensures later { IsPrefix self.old.seen self.new.seen }
         ensures whose { IsSameClient self.old self.new }
+        ensures refused { result ≡ false → CannotBegin stamp self.old }
         ensures unchanged { result ≡ false → self.new ≡ self.old }
     {
         if stamp.client() != self.client.get() || stamp.number() <= self.last.number() {
@@ -120,11 +121,12 @@ impl<J: Naming> TracedClient<J> {
     pub fn begin_read(&mut self, evidence: &Front<J>) -> Option<Mark>
         ensures since { IfSome result (λ mark. HasReadEntry mark self.new.seen evidence.now) }
         ensures marked { IfSome result (λ mark. HasMark self.new.seen mark) }
+        ensures joined { IfSome result (λ mark. HasJoined mark.word self.old) }
         ensures entered { IfSome result
             (λ _. IsEntered (ReadBegan self.old.word) self.old self.new) }
         ensures last { self.new.last ≡ self.old.last }
-        ensures later { IsPrefix self.old.seen self.new.seen }
         ensures whose { IsSameClient self.old self.new }
+        ensures refused { IfNone result (TakesNoEntry self.old.word self.old.seen) }
         ensures unchanged { IfNone result (self.new ≡ self.old) }
     {
         if self.entries >= MOST {
@@ -145,10 +147,10 @@ impl<J: Naming> TracedClient<J> {
 
     /// Whether the write of this stamp may end: it is the client's last one, and was neither decided nor refused.
     fn may_end(&self, stamp: Stamp) -> bool
-        ensures last { IsTrue result → stamp ≡ self.now.last }
-        ensures unended { IsTrue result
-            → MayEnd (own self.now.word self.now.seen)
-            (record { word = self.now.word; tenant = self.now.tenant; stamp = stamp }) }
+        ensures { IsTrue result
+            ↔ ((stamp ≡ self.now.last)
+            × MayEnd (own self.now.word self.now.seen)
+            (record { word = self.now.word; tenant = self.now.tenant; stamp = stamp })) }
     {
         self.is_open && stamp == self.last
     }
@@ -168,8 +170,8 @@ impl<J: Naming> TracedClient<J> {
             self.old self.new }
         ensures evidence { IsTrue result → IsPrefix evidence.now self.new.seen }
         ensures last { self.new.last ≡ self.old.last }
-        ensures later { IsPrefix self.old.seen self.new.seen }
         ensures whose { IsSameClient self.old self.new }
+        ensures refused { result ≡ false → CannotEnd stamp self.old }
         ensures unchanged { result ≡ false → self.new ≡ self.old }
     {
         if self.entries >= MOST || !self.may_end(stamp) {
@@ -201,8 +203,8 @@ impl<J: Naming> TracedClient<J> {
             → GivenUp
             (record { word = self.old.word; tenant = self.old.tenant; stamp = stamp }) ∈ self.new.seen }
         ensures last { self.new.last ≡ self.old.last }
-        ensures later { IsPrefix self.old.seen self.new.seen }
         ensures whose { IsSameClient self.old self.new }
+        ensures refused { result ≡ false → CannotEnd stamp self.old }
         ensures unchanged { result ≡ false → self.new ≡ self.old }
     {
         if self.entries >= MOST || !self.may_end(stamp) {

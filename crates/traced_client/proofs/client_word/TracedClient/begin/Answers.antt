@@ -1,15 +1,15 @@
-use Rattle.std.proofs.Common.{◌≡◌, ◌∙◌, ◌<◌, ◌++◌, List, [], ◌∷◌, sym, subst, arith, refl}
+use Rattle.std.proofs.Common.{◌≡◌, ◌∙◌, ◌^◌, ◌<◌, ◌≤◌, ◌++◌, List, [], ◌∷◌, inl, inr, sym, subst, arith, refl}
 use Rattle.stamps.specs.Stamp.{client_of}
 use Rattle.plain_store.specs.Words.{◌∈◌}
 use Rattle.history.specs.declared.entry.HistoryEntry.{HistoryEntry}
 use Rattle.history.specs.declared.entry.HistoryEntry.TheVariants.{Began}
 use Rattle.history.specs.declared.entry.Write.{Write}
-use Rattle.history.specs.Entries.{own}
+use Rattle.history.specs.Entries.{count, own}
 use Rattle.history.specs.Legal.{MayBegin}
 use Rattle.history.specs.Rules.{IsAdded}
 use Rattle.history.proofs.Counts.{equal_test}
 use Rattle.history.proofs.Servings.{added_count}
-use Rattle.traced_client.specs.Clients.{ClientTrace}
+use Rattle.traced_client.specs.Clients.{CannotBegin, ClientTrace}
 use Rattle.traced_client.proofs.Following.{added_in, may_begin, own_added, traced_began}
 use Rattle.traced_client.proofs.client_word.TracedClient.begin.Goals as goal
 
@@ -51,3 +51,11 @@ returns-clause-entered g c did =
     let P : ClientTrace → Type 0 =
     λ t. own t.word c.begin.new.self ≡ own t.word t.seen ++ Began (record { word = t.word; tenant = t.tenant; stamp = c.args.stamp; items = c.args.items.now }) ∷ [] in
     subst P c.self.view_is (own_added b.tally.key b.entries (Began write) b.front c.begin.new.self its c.self.invariant.1 added)
+
+-- the word has as many entries as it can have
+pub returns-then-self-ge-MOST-clause-refused : goal.returns-then-self-ge-MOST-clause-refused
+returns-then-self-ge-MOST-clause-refused g c = λ _.
+    let b = c.self.inside in
+    let full : 2 ^ 62 ≤ count b.tally.key b.front = omega (arith, c.self.invariant.1, c.if-self-ge-MOST.true) in
+    let P : ClientTrace → Type 0 = λ t. CannotBegin c.args.stamp t in
+    subst P c.self.view_is (inr (inr (inl full)))

@@ -1,11 +1,11 @@
-use Rattle.std.proofs.Common.{◌≡◌, ◌++◌, ◌∷◌, [], List, arith, refl, subst}
+use Rattle.std.proofs.Common.{◌≡◌, ◌^◌, ◌≤◌, ◌++◌, ◌∷◌, [], List, arith, inl, refl, subst}
 use Rattle.history.specs.declared.entry.HistoryEntry.{HistoryEntry}
 use Rattle.history.specs.declared.entry.HistoryEntry.TheVariants.{ReadBegan}
-use Rattle.history.specs.Entries.{own}
-use Rattle.history.specs.Rules.{IsAdded}
+use Rattle.history.specs.Entries.{count, own}
+use Rattle.history.specs.Rules.{IsAdded, TakesNoEntry}
 use Rattle.history.proofs.Counts.{equal_test}
 use Rattle.history.proofs.Servings.{added_count}
-use Rattle.traced_client.specs.Clients.{ClientTrace}
+use Rattle.traced_client.specs.Clients.{ClientTrace, HasJoined}
 use Rattle.traced_client.proofs.Following.{own_added, read_entry, traced_asked}
 use Rattle.traced_client.proofs.client_word.TracedClient.begin_read.Goals as goal
 
@@ -40,3 +40,16 @@ returns-clause-entered g c =
     let added : Q b.front = subst Q c.again-front.ensures.same c.if-not-begin_read.ensures.added in
     let P : ClientTrace → Type 0 = λ t. own t.word c.begin_read.new.self ≡ own t.word t.seen ++ ReadBegan t.word ∷ [] in
     subst P c.self.view_is (own_added b.tally.key b.entries (ReadBegan b.tally.key) b.front c.begin_read.new.self (equal_test b.tally.key b.tally.key refl) c.self.invariant.1 added)
+
+-- the word has as many entries as it can have
+pub returns-then-self-ge-MOST-clause-refused : goal.returns-then-self-ge-MOST-clause-refused
+returns-then-self-ge-MOST-clause-refused g c =
+    let b = c.self.inside in
+    let full : 2 ^ 62 ≤ count b.tally.key b.front = omega (arith, c.self.invariant.1, c.if-self-ge-MOST.true) in
+    let P : ClientTrace → Type 0 = λ t. TakesNoEntry t.word t.seen in
+    subst P c.self.view_is (inl full)
+
+-- the word is the client's own
+pub returns-clause-joined : goal.returns-clause-joined
+returns-clause-joined g c =
+    subst (HasJoined c.self.inside.tally.key) c.self.view_is c.self.invariant.0.joined

@@ -1,16 +1,17 @@
-use Rattle.std.proofs.Common.{◌≡◌, ◌∙◌, ◌++◌, List, [], ◌∷◌, ap, inl, inr, refl, subst, sym}
+use Rattle.std.proofs.Common.{◌≡◌, ◌∙◌, ◌^◌, ◌≤◌, ◌++◌, List, [], ◌∷◌, ap, arith, inl, inr, refl, subst, sym}
 use Rattle.plain_store.specs.Words.{◌∈◌}
 use Rattle.history.specs.declared.entry.Decision.{Decision}
 use Rattle.history.specs.declared.entry.HistoryEntry.{HistoryEntry}
 use Rattle.history.specs.declared.entry.HistoryEntry.TheVariants.{Decided}
-use Rattle.history.specs.Entries.{own}
+use Rattle.history.specs.Entries.{count, own}
 use Rattle.history.specs.Legal.{MayEnd}
-use Rattle.history.specs.Rules.{IsAdded}
+use Rattle.history.specs.Rules.{IsAdded, TakesNoEntry}
 use Rattle.history.proofs.Counts.{equal_test}
-use Rattle.history.proofs.Servings.{added_count}
-use Rattle.traced_client.specs.Clients.{ClientTrace}
-use Rattle.traced_client.proofs.Following.{added_in, own_added, traced_ended}
+use Rattle.history.proofs.Servings.{added_count, none_taken}
+use Rattle.traced_client.specs.Clients.{CannotEnd, ClientTrace}
+use Rattle.traced_client.proofs.Following.{added_in, cannot_end, own_added, traced_ended}
 use Rattle.traced_client.proofs.client_word.TracedClient.decide.Goals as goal
+use Rattle.traced_client.proofs.client_word.TracedClient.decide.Goals.{then-self-ge-MOST-via-then-self-ge-MOST, then-self-ge-MOST-via-else-self-ge-MOST+then-not-may_end}
 
 -- the put may end
 pub decide-requires-clause-unended : goal.decide-requires-clause-unended
@@ -18,7 +19,7 @@ decide-requires-clause-unended g c =
     let b = c.self.inside in
     let P : ClientTrace → Type 0 = λ t. MayEnd (own t.word t.seen) (record { word = t.word; tenant = t.tenant; stamp = c.args.stamp }) in
     let Q : List HistoryEntry → Type 0 = λ seen. MayEnd (own b.tally.key seen) (record { word = b.tally.key; tenant = b.tenant; stamp = c.args.stamp }) in
-    subst Q (sym c.again-front.ensures.same) (subst P (sym c.self.view_is) (c.may_end.ensures.unended c.if-not-may_end.false))
+    subst Q (sym c.again-front.ensures.same) (subst P (sym c.self.view_is) (c.may_end.ensures.0 c.if-not-may_end.false).1)
 
 pub invariant_of-self : goal.invariant_of-self
 invariant_of-self g c =
@@ -27,7 +28,7 @@ invariant_of-self g c =
     let P : List HistoryEntry → Type 0 = λ seen. IsAdded b.tally.key b.entries (Decided decision) seen c.decide.new.self in
     let added : P b.front = subst P c.again-front.ensures.same c.if-not-decide.ensures.added in
     let its = equal_test b.tally.key b.tally.key refl in
-    let last : c.args.stamp ≡ b.last = c.may_end.ensures.last c.if-not-may_end.false ∙ ap (λ (t : ClientTrace). t.last) (sym c.self.view_is) in (
+    let last : c.args.stamp ≡ b.last = (c.may_end.ensures.0 c.if-not-may_end.false).0 ∙ ap (λ (t : ClientTrace). t.last) (sym c.self.view_is) in (
       traced_ended decision b.client b.last b.is_open b.entries (Decided decision) b.front c.decide.new.self (inl refl) last c.self.invariant.0 its c.self.invariant.1 added,
       added_count b.tally.key b.entries (Decided decision) b.front c.decide.new.self its added,
     )
@@ -49,3 +50,24 @@ returns-clause-entered g c did =
     let P : ClientTrace → Type 0 =
     λ t. own t.word c.decide.new.self ≡ own t.word t.seen ++ Decided (record { word = t.word; tenant = t.tenant; stamp = c.args.stamp }) ∷ [] in
     subst P c.self.view_is (own_added b.tally.key b.entries (Decided decision) b.front c.decide.new.self its c.self.invariant.1 added)
+
+-- the word has as many entries as it can have, or the put may not end
+pub returns-then-self-ge-MOST-clause-refused : goal.returns-then-self-ge-MOST-clause-refused
+returns-then-self-ge-MOST-clause-refused g c = λ _.
+    let b = c.self.inside in
+    let P : ClientTrace → Type 0 = λ t. CannotEnd c.args.stamp t in
+    elim c.then-self-ge-MOST.branch [
+      | then-self-ge-MOST-via-then-self-ge-MOST w ↦
+          let full : 2 ^ 62 ≤ count b.tally.key b.front = omega (arith, c.self.invariant.1, w.if-self-ge-MOST.true) in
+          subst P c.self.view_is (inr (inr (inl full)))
+      | then-self-ge-MOST-via-else-self-ge-MOST+then-not-may_end w ↦ cannot_end c.args.stamp c.args.self.now w.may_end.result w.if-not-may_end.true w.may_end.ensures
+    ]
+
+-- the history has other entries of the word
+pub returns-then-not-decide-clause-refused : goal.returns-then-not-decide-clause-refused
+returns-then-not-decide-clause-refused g c = λ _.
+    let b = c.self.inside in
+    let none : TakesNoEntry b.tally.key b.front =
+    none_taken b.tally.key b.entries b.front c.again-front.result c.decide.new.self c.again-front.ensures.same c.self.invariant.1 c.decide.ensures.later c.if-not-decide.ensures.added in
+    let P : ClientTrace → Type 0 = λ t. CannotEnd c.args.stamp t in
+    subst P c.self.view_is (inr (inr none))
