@@ -1,6 +1,6 @@
 -- What a book has of the history, from one step to the next.
-use Rattle.std.proofs.Common.{◌≡◌, ◌≢◌, ◌∙◌, ℕ, ◌+◌, ◌<◌, Bool, true, false, List, [], ◌∷◌, ◌++◌, length, map, reverse, filter_map, Option, Some, None, ⊎_elim, refl, ap, sym, subst, arith, append_assoc, length-append}
-use Rattle.std.specs.Prelude.{◌^◌, ⊤, slice_get, IfOk, IsSomeAnd, IsTrue, MatchBool, OnErr, Result, Ok, Err}
+use Rattle.std.proofs.Common.{◌≡◌, ◌≢◌, ◌⊎◌, ◌∙◌, ℕ, ◌+◌, ◌<◌, ◌≤◌, Bool, true, false, List, [], ◌∷◌, ◌++◌, length, map, reverse, filter_map, Option, Some, None, ⊎_elim, inl, inr, refl, ap, sym, subst, arith, append_assoc, length-append}
+use Rattle.std.specs.Prelude.{◌^◌, slice_get, IfOk, IfErr, IsErrAnd, IsSomeAnd, IsTrue, MatchBool, OnErr, Result, Ok, Err}
 use Rattle.std.specs.List.{cons_option}
 use Rattle.std.specs.Option.{option_map}
 use Rattle.std.proofs.lemmas.Bool.Decides.{eqb_tells}
@@ -25,17 +25,19 @@ use Rattle.history.specs.declared.entry.CallToServe.{CallToServe}
 use Rattle.history.specs.declared.entry.HistoryEntry.{HistoryEntry}
 use Rattle.history.specs.Asking.{served_by}
 use Rattle.history.specs.declared.entry.HistoryEntry.TheVariants.{Opened, Joined, Arrived, Began, Decided, GivenUp, ReadBegan, Served}
+use Rattle.plain_store.specs.declared.refusal.Refusal.{Refusal}
+use Rattle.plain_store.specs.declared.refusal.Refusal.TheVariants.{Late, OutOfMemory, NoTenant}
 use Rattle.history.specs.declared.entry.ServedCall.{ServedCall}
 use Rattle.history.specs.declared.entry.StoreOpening.{StoreOpening}
 use Rattle.history.specs.Entries.{but_last, calls_of, calls_served, count, limits_of, reply_in, room_in, room_of, served_at, served_to, StandsBehind}
 use Rattle.history.specs.Legal.{IsLegal}
-use Rattle.history.specs.Rules.{IsAdded, is_opening}
-use Rattle.history.proofs.Counts.{equal_test, other_test}
+use Rattle.history.specs.Rules.{IsAdded, IsOvertaken, TakesNoEntry, is_opening}
+use Rattle.history.proofs.Counts.{count_later, equal_test, other_test}
 use Rattle.history.proofs.Shown.{to_is}
-use Rattle.history.proofs.Servings.{is_served, room_later, served_added}
+use Rattle.history.proofs.Servings.{is_served, none_taken, room_later, served_added, served_same}
 use Rattle.history.proofs.Steps.{before_added}
 use Rattle.traced_book.specs.Entering.{HasEntered}
-use Rattle.traced_book.specs.Traced.{AreTraced, IsLatestEpoch, IsStretch, IsTraced, served_of}
+use Rattle.traced_book.specs.Traced.{AreTraced, IsLatestEpoch, IsStretch, IsTraced, WereMoreServed, served_of}
 
 -- a history with the same calls there has as much of the account
 moved : (v log : List HistoryEntry) (partition tenant : ℕ) (account : Account) → room_of v tenant ≡ room_of log tenant
@@ -167,6 +169,40 @@ module _ (log now : List HistoryEntry) (partition tenant entries : ℕ) (e : Eve
       (λ apart. other_added other account (λ e. apart.1 (sym e)) (traced other account (sym (entered.others other apart.1) ∙ is)))
       (eqb_tells other tenant)
 
+-- ---- no call more
+
+-- of two beginnings of a history that have all calls of the partition, one has of the accounts what the other has
+pub still_traced : (v seen now : List HistoryEntry) (partition : ℕ) (accounts : List Account) → IsLegal v → IsLegal seen → IsPrefix v now → IsPrefix seen now
+    → count (partition + 1) v ≡ count (partition + 1) now → count (partition + 1) seen ≡ count (partition + 1) now
+    → AreTraced v partition accounts → AreTraced seen partition accounts
+still_traced v seen now partition accounts legal other first second same equal traced tenant account is =
+    moved v seen partition tenant account (room_later v now tenant legal first ∙ sym (room_later seen now tenant other second))
+    (served_same tenant partition v now first same ∙ sym (served_same tenant partition seen now second equal)) (traced tenant account is)
+
+-- a book entered others than so many calls
+pub other_calls : (front : List HistoryEntry) (partition key entries calls : ℕ) → key ≡ partition + 1 → count key front ≡ entries → entries ≢ calls
+    → calls ≢ count (partition + 1) front
+other_calls front partition key entries calls word counted apart is = apart (sym counted ∙ ap (λ (k : ℕ). count k front) word ∙ sym is)
+
+-- what a book has seen of the history, what was seen beside it, and what the history has now of the book's partition
+module _ (front seen now : List HistoryEntry) (partition key entries calls found : ℕ) (word : key ≡ partition + 1) (first : IsPrefix front now)
+    (counted : count key front ≡ entries) (looked : found ≡ count key now) where
+  -- it has no other calls than the book, and as many were seen
+  pub whole_traced : (accounts : List Account) → IsLegal front → IsLegal seen → IsPrefix seen now → entries ≡ calls → found ≡ calls → calls ≤ count (partition + 1) seen
+      → AreTraced front partition accounts → AreTraced seen partition accounts
+  whole_traced accounts legal other second entered all few traced =
+      let same : count (partition + 1) front ≡ count (partition + 1) now =
+      subst (λ (k : ℕ). count k front ≡ count k now) word (counted ∙ entered ∙ sym all ∙ looked) in
+      let most : calls ≡ count (partition + 1) now = subst (λ (k : ℕ). calls ≡ count k now) word (sym all ∙ looked) in
+      let equal : count (partition + 1) seen ≡ count (partition + 1) now = omega (arith, count_later (partition + 1) seen now second, few, most) in
+      still_traced front seen now partition accounts legal other first second same equal traced
+
+  -- it has more than the book
+  pub more_served : IsLegal now → entries ≡ calls → found ≢ calls → WereMoreServed front partition
+  more_served legal entered apart =
+      let more : count key front < count key now = omega (arith, count_later key front now first, counted, entered, apart, looked) in
+      record { log = now; legal = legal; later = first; more = subst (λ (k : ℕ). count k front < count k now) word more }
+
 -- ---- an epoch that is cut
 
 pub cut_traced : (log : List HistoryEntry) (partition tenant : ℕ) (epoch : Epoch) (old new : List Account) → tenant < length old → IsCut old new tenant epoch
@@ -211,24 +247,6 @@ traced_stretch log partition tenant a r =
       places = r.places;
       leads = subst (λ (room : Room). Leaves a.start.base (L room)) (sym r.room) r.base;
       replies = subst (λ (room : Room). log_after a.events ++ L room ≡ log_of room (calls_of (r.earlier ++ map f a.events))) (sym r.room) told;
-    }
-
--- a stretch of what was seen is one of what is seen later
-pub stretch_later : (v log : List HistoryEntry) (partition tenant : ℕ) (start : EpochStart) (events : List Event) → IsLegal v → IsPrefix v log
-    → IsStretch v partition tenant start events → IsStretch log partition tenant start events
-stretch_later v log partition tenant start events legal pre s =
-    let f : Event → ServedCall = served_of partition tenant in
-    let g : HistoryEntry → Option ServedCall = served_to tenant partition in
-    let room : room_of v tenant ≡ room_of log tenant = room_later v log tenant legal pre in
-    let whole : served_at tenant partition log ≡ served_at tenant partition v ++ filter_map g pre.0 =
-    ap (filter_map g) (sym pre.1) ∙ filter_map-append g v pre.0 in
-    record {
-      earlier = s.earlier;
-      later = s.later ++ filter_map g pre.0;
-      calls = whole ∙ ap (λ (l : List ServedCall). l ++ filter_map g pre.0) s.calls ∙ append_assoc (s.earlier ++ map f events) s.later (filter_map g pre.0);
-      places = s.places;
-      leads = subst (λ (r : Room). Leaves start.base (log_of r (calls_of s.earlier))) room s.leads;
-      replies = subst (λ (r : Room). log_after events ++ log_of r (calls_of s.earlier) ≡ log_of r (calls_of (s.earlier ++ map f events))) room s.replies;
     }
 
 -- the epoch that it gave has the last of the calls
@@ -299,10 +317,20 @@ opened_traced (Served served ∷ log) partition opens tenant account is = absurd
 
 -- ---- what an admission comes to
 
-pub entered_or_not : (b : Bool) (k entries : ℕ) (asked : CallToServe) (mine evidence now : List HistoryEntry) → entries < 2 ^ 62 → IsPrefix evidence now
-    → MatchBool b (IsAdded k entries (served_by asked) mine now) (IsLegal now) → (IsTrue b → IsPrefix evidence (but_last now)) → MatchBool b (HasEntered k entries asked mine evidence now) ⊤
-entered_or_not true k entries asked mine evidence now few shown added behind = record { few = few; added = added; shown = shown; behind = behind refl }
-entered_or_not false k entries asked mine evidence now few shown added behind = tt
+pub entered_or_not : (b : Bool) (k entries : ℕ) (asked : CallToServe) (mine start evidence now : List HistoryEntry) → entries < 2 ^ 62 → start ≡ mine → count k mine ≡ entries
+    → IsPrefix start now → IsPrefix evidence now → MatchBool b (IsAdded k entries (served_by asked) start now) (IsOvertaken k entries now)
+    → (IsTrue b → IsPrefix evidence (but_last now)) → MatchBool b (HasEntered k entries asked mine evidence now) (TakesNoEntry k mine)
+entered_or_not true k entries asked mine start evidence now few same counted pre shown added behind =
+    record { few = few; added = subst (λ (l : List HistoryEntry). IsAdded k entries (served_by asked) l now) same added; shown = shown; behind = behind refl }
+entered_or_not false k entries asked mine start evidence now few same counted pre shown other behind = none_taken k entries mine start now same counted pre other
+
+-- a book that passes a fault on refuses so
+pub refused_so : (r : Result ℕ Refusal) (e : Refusal) (A B : Type 0) → (A → B) → ((e ≡ Late) ⊎ ((e ≡ OutOfMemory) ⊎ ((e ≡ NoTenant) × A))) → IsErrAnd r (λ x. x ≡ e)
+    → IfErr r (λ x. (x ≡ Late) ⊎ ((x ≡ OutOfMemory) ⊎ ((x ≡ NoTenant) × B)))
+refused_so (Ok x) e A B f told is = absurd is
+refused_so (Err x) e A B f (inl late) is = inl (is ∙ late)
+refused_so (Err x) e A B f (inr (inl memory)) is = inr (inl (is ∙ memory))
+refused_so (Err x) e A B f (inr (inr other)) is = inr (inr (is ∙ other.0, f other.1))
 
 -- ---- what serving a call comes to
 

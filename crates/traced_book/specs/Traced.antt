@@ -1,5 +1,6 @@
 -- What a partition's book has of the history.
-use Rattle.std.specs.Prelude.{ℕ, ◌≡◌, ◌+◌, ◌++◌, List, length, map, slice_get, Some}
+use Rattle.std.specs.Prelude.{ℕ, ◌≡◌, ◌+◌, ◌<◌, ◌++◌, List, length, map, slice_get, Some}
+use mathlib.Core.List.{IsPrefix}
 use Rattle.plain_store.specs.Replies.{log_of}
 use Rattle.prepare_commit.specs.Bases.{Leaves}
 use Rattle.partition.specs.declared.journal.Epoch.{Epoch}
@@ -8,7 +9,8 @@ use Rattle.partition.specs.Events.{Event}
 use Rattle.partition.specs.Journals.{log_after, room_for}
 use Rattle.history.specs.declared.entry.HistoryEntry.{HistoryEntry}
 use Rattle.history.specs.declared.entry.ServedCall.{ServedCall}
-use Rattle.history.specs.Entries.{calls_of, room_of, served_at}
+use Rattle.history.specs.Entries.{calls_of, count, room_of, served_at}
+use Rattle.history.specs.Legal.{IsLegal}
 
 -- an event of a tenant's journal at a partition, as a call of the history
 abbrev pub served_of : ℕ → ℕ → Event → ServedCall
@@ -51,3 +53,10 @@ pub record IsLatestEpoch (log : List HistoryEntry) (partition tenant : ℕ) (epo
   pub before : ℕ
   pub stretch : IsStretch log partition tenant (record { number = epoch.number; before = before; base = epoch.base }) epoch.events.items
   pub latest : length (served_at tenant partition log) ≡ before + length epoch.events.items
+
+-- a longer history has more calls of the partition than were seen
+pub record WereMoreServed (seen : List HistoryEntry) (partition : ℕ) : Type 0 where
+  pub log : List HistoryEntry
+  pub legal : IsLegal log
+  pub later : IsPrefix seen log
+  pub more : count (partition + 1) seen < count (partition + 1) log

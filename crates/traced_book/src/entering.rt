@@ -29,12 +29,12 @@ pub(crate) struct Entering<'t, 'm, 'e, 'c, J: Naming> {
 }
 
 impl<'t, 'm, 'e, 'c, J: Naming> CallAdmission for Entering<'t, 'm, 'e, 'c, J> {
-    ghost use Rattle.std.specs.Prelude.{⊤};
+    ghost use Rattle.history.specs.Rules.{TakesNoEntry};
     ghost use Rattle.traced_book.specs.Entering.{HasEntered};
 
     ghost admits = { λ before after. HasEntered before.tally.now.key before.entries before.asked before.mine.now before.evidence.now after.now };
 
-    ghost refuses = { λ before after. ⊤ };
+    ghost refuses = { λ before after. TakesNoEntry before.tally.now.key before.mine.now };
 
     fn admit(&mut self) -> bool {
         if self.entries >= MOST {

@@ -1,14 +1,14 @@
 //! A partition's book beside what it has seen of the history.
-ghost use Rattle.std.specs.Prelude.{◌≡◌, ◌⊎◌, ◌+◌, ◌<◌, ◌↔◌, map, length, true, IfOk, IfErr, OnErr, IsErrOf, IsSomeAnd};
+ghost use Rattle.std.specs.Prelude.{◌≡◌, ◌≢◌, ◌⊎◌, ◌+◌, ◌<◌, ◌≤◌, ◌↔◌, map, length, true, None, IfOk, IfErr, IfSome, OnErr, IsErrOf, IsSomeAnd};
 ghost use mathlib.Core.List.{IsPrefix};
 ghost use Rattle.stamps.specs.Limits.{max_parts};
 ghost use Rattle.partition.specs.Accounts.{events_at, new_account, IsCut, IsPastAt};
 ghost use Rattle.partition.specs.Journals.{IsLate};
 ghost use Rattle.partition.specs.Serving.{EntersCall};
-ghost use Rattle.history.specs.Entries.{limits_of, StandsBehind};
-ghost use Rattle.history.specs.Legal.{IsLegal, MayServe};
-ghost use Rattle.history.specs.Rules.{is_opening};
-ghost use Rattle.traced_book.specs.Traced.{AreTraced, IsLatestEpoch};
+ghost use Rattle.history.specs.Entries.{count, limits_of, StandsBehind};
+ghost use Rattle.history.specs.Legal.{MayServe};
+ghost use Rattle.history.specs.Rules.{TakesNoEntry, is_opening};
+ghost use Rattle.traced_book.specs.Traced.{AreTraced, IsLatestEpoch, WereMoreServed};
 
 use crate::entering::Entering;
 use history::{CallToServe, Front, Naming, Tally};
@@ -72,21 +72,37 @@ impl<J: Naming> TracedBook<J> {
         self.front.again()
     }
 
-    /// The book, and what was seen of the history.
-    pub fn into_parts(self) -> (Book, Front<J>)
-        ensures book { result.0 ≡ self.accounts }
-        ensures seen { result.1 ≡ self.seen }
-        ensures traced { AreTraced self.seen self.partition self.accounts }
-        ensures legal { IsLegal self.seen }
+    /// Sees the history as it is now, and answers how many calls it has of the book's partition.
+    pub fn look(&self, seen: &mut Front<J>) -> u64
+        ensures seen { IsPrefix seen.old seen.new }
+        ensures calls { result ≡ count (self.now.partition + 1) seen.new }
+    {
+        seen.look(&self.tally)
+    }
+
+    /// The book, where it entered just so many calls and the history, as it is now, has no more of its partition; else None. What was
+    /// seen has as many of it, so all that it has of the partition are in the book, or in epochs that were cut off it.
+    pub fn into_book(self, seen: &Front<J>, calls: u64) -> Option<Book>
+        requires calls { calls ≤ count (self.partition + 1) seen.now }
+        ensures whole { IfSome result
+            (λ book. (book ≡ self.accounts) × AreTraced seen.now self.partition book) }
+        ensures others { result ≡ None → (calls ≢ count (self.partition + 1) self.seen)
+            ⊎ WereMoreServed self.seen self.partition }
     {
         let TracedBook {
             partition: _,
             book,
-            tally: _,
-            entries: _,
+            tally,
+            entries,
             front,
         } = self;
-        (book, front.again())
+        if entries != calls {
+            return None;
+        }
+        let mut now = front.again();
+        now.learn(&seen.again());
+        let found = now.look(&tally);
+        if found == calls { Some(book) } else { None }
     }
 
     /// Has a tenant's cell serve a call, enters its event, and enters the call into the history. Writes the reply
@@ -94,7 +110,7 @@ impl<J: Naming> TracedBook<J> {
     /// served, and has seen then that it was.
     ///
     /// It fails where the number is not above the seat's last one in this epoch (25), where an allocation failed (30), and where the
-    /// history has other calls of the partition than were seen here (10). Then nothing has changed.
+    /// history has other calls of the partition than were seen here, or 2^62 (10). Then nothing has changed.
     pub fn serve_into(
         &mut self,
         caller: Caller,
@@ -122,7 +138,8 @@ impl<J: Naming> TracedBook<J> {
         ensures late { IsErrOf result Refusal.Late
             ↔ IsLate (events_at self.old.accounts tenant) caller.seat caller.number }
         ensures refusals { IfErr result (λ e. (e ≡ Refusal.Late)
-            ⊎ ((e ≡ Refusal.OutOfMemory) ⊎ (e ≡ Refusal.NoTenant))) }
+            ⊎ ((e ≡ Refusal.OutOfMemory)
+            ⊎ ((e ≡ Refusal.NoTenant) × TakesNoEntry (self.old.partition + 1) self.old.seen))) }
         ensures unchanged { OnErr result ((self.new ≡ self.old) × (reply.new ≡ reply.old)
             × (evidence.new ≡ evidence.old)) }
     {
