@@ -1,10 +1,10 @@
 //! One partition, as all that serve there reach it: its book behind a lock, and the numbers of its calls.
-ghost use Rattle.std.specs.Prelude.{◌≡◌, ◌<◌, ◌≤◌, ◌*◌, ◌^◌, ◌↔◌, Some, false, true, All, map, length, replicate, IfOk, IfSome, OnErr, IsSomeAnd, IsTrue};
+ghost use Rattle.std.specs.Prelude.{◌≡◌, ◌+◌, ◌<◌, ◌≤◌, ◌*◌, ◌^◌, ◌↔◌, ◌⊎◌, Some, false, true, All, map, length, replicate, IfOk, IfSome, OnErr, IsSomeAnd, IsTrue};
 ghost use Rattle.std.specs.Sync.Mutex.{mutex_guard_value};
 ghost use Rattle.std.specs.VecDeque.{deque_capacity, deque_len};
 ghost use Rattle.partition.specs.Accounts.{events_at};
 ghost use mathlib.Core.List.{IsPrefix};
-ghost use Rattle.history.specs.Entries.{StandsBehind};
+ghost use Rattle.history.specs.Entries.{count, StandsBehind};
 ghost use Rattle.history.specs.Legal.{MayServe};
 ghost use Rattle.shard.specs.Counted.{IsCounted, NotesEvent, NotesEvents, nothing_due};
 ghost use Rattle.shard.specs.Journals.{AreOf, CameSo, came_to};
@@ -139,6 +139,7 @@ impl FollowUp {
 
 impl<J: Naming> Shard<J> {
     ghost use Rattle.shard.specs.Held.{HasItsJournals, IsHandedOut};
+    ghost use Rattle.shard.specs.UsedAt.{WasElsewhere};
 
     /// A partition with this book, whose journals are its own. What it begins with behind its lock is that of `ShardState::new`.
     pub fn new(config: ShardConfig, collector: Arc<Collector>, book: TracedBook<J>) -> Shard<J>
@@ -208,10 +209,31 @@ impl<J: Naming> Shard<J> {
         None
     }
 
+    /// Sees the history as it is now, and answers how many calls it has of this partition, one of so many: 0 where the state behind
+    /// the lock is not that partition's.
+    pub fn look_at_calls<R: Wait>(
+        &self,
+        rt: &R,
+        parts: u32,
+        partition: u32,
+        seen: &mut Front<J>,
+    ) -> u64
+        ensures seen { IsPrefix seen.old seen.new }
+        ensures calls { (result ≡ count (partition + 1) seen.new)
+            ⊎ ((result ≡ 0) × WasElsewhere parts partition) }
+    {
+        let guard = self.lock(rt);
+        let state = &*guard;
+        if state.parts != parts || state.partition != partition {
+            return 0;
+        }
+        state.book.look(seen)
+    }
+
     /// The book, which no thread has any more. None where it is not this partition's, or has not so many tenants: what lies
     /// behind a lock is known only by its type.
-    pub fn into_book(self) -> Option<(Book, Front<J>)>
-        ensures { IfSome result (λ parts. IsHandedOut self.config parts.0 parts.1) }
+    pub fn into_book(self) -> Option<TracedBook<J>>
+        ensures { IfSome result (λ book. IsHandedOut self.config book) }
     {
         let Shard {
             config,
@@ -229,7 +251,7 @@ impl<J: Naming> Shard<J> {
         } = state.into_inner();
         let is_here = partition == config.partition && parts == config.parts;
         if is_here && book.book().tenants() == config.tenants {
-            Some(book.into_parts())
+            Some(book)
         } else {
             None
         }
