@@ -1,6 +1,5 @@
 -- What contracts see of a hub, and what it leaves.
-use Rattle.std.specs.Prelude.{◌≡◌, ◌⊎◌, ◌+◌, ℕ, List, [], ◌∷◌, length, map, slice_get, Some}
-use mathlib.Core.List.{IsPrefix}
+use Rattle.std.specs.Prelude.{◌≡◌, ◌⊎◌, ◌+◌, ◌≤◌, ℕ, List, [], ◌∷◌, length, map, get_or}
 use Rattle.std.specs.Global.{Vec}
 use Rattle.stamps.specs.declared.bounds.Limits.{Limits}
 use Rattle.partition.specs.declared.book.Counts.{Counts}
@@ -10,9 +9,9 @@ use Rattle.shard.specs.Journals.{AreOf}
 use Rattle.closed_store.specs.declared.config.Config.{Config}
 use Rattle.closed_store.specs.declared.closed.Closed.{Closed}
 use Rattle.closed_store.specs.declared.transcript.Transcript.{Transcript}
-use Rattle.history.specs.Legal.{IsLegal}
 use Rattle.history.specs.declared.entry.HistoryEntry.{HistoryEntry}
-use Rattle.traced_book.specs.Traced.{IsStretch}
+use Rattle.history.specs.Entries.{count}
+use Rattle.traced_book.specs.Traced.{AreTraced}
 
 -- partitions, tenants, and the numbers that set the pace
 pub record ConfigView : Type 0 where
@@ -51,20 +50,16 @@ AllSoundBooks config at [] [] = Unit {0}
 AllSoundBooks config at (j ∷ js) (c ∷ cs) = IsSoundBook config at j c × AllSoundBooks config (at + 1) js cs
 AllSoundBooks config at _ _ = ⊥
 
--- the events of each tenant's journal at this partition are a stretch of what was seen of the history
-abbrev pub AreStretches : List HistoryEntry → ℕ → List Account → Type 0
-AreStretches seen at accounts =
-    (tenant : ℕ) (account : Account) → slice_get accounts tenant ≡ Some account → IsStretch seen at tenant account.start account.events
+-- Partition by partition, in their order from this one on: all calls that the history has of a tenant at a partition are in the
+-- journal that is left there of this tenant, or in its earlier epochs.
+abbrev pub AllTraced : List HistoryEntry → ℕ → List (Vec Journal) → Type 0
+AllTraced seen at [] = Unit {0}
+AllTraced seen at (j ∷ js) = AreTraced seen at (map account_of j.items) × AllTraced seen (at + 1) js
 
--- partition by partition, in their order from this one on
-abbrev pub AllStretches : List HistoryEntry → ℕ → List (Vec Journal) → Type 0
-AllStretches seen at [] = Unit {0}
-AllStretches seen at (j ∷ js) = AreStretches seen at (map account_of j.items) × AllStretches seen (at + 1) js
-
--- more was seen of the history, which is legal if what was seen before is
-pub record SeesMore (old new : List HistoryEntry) : Type 0 where
-  pub later : IsPrefix old new
-  pub legal : IsLegal old → IsLegal new
+-- these are numbers of calls of so many partitions, and the history that was seen has as many calls of each, or more
+pub record AreSeen (parts : ℕ) (seen : List HistoryEntry) (calls : List ℕ) : Type 0 where
+  pub of_parts : length calls ≡ parts
+  pub each : (partition : ℕ) → get_or calls partition 0 ≤ count (partition + 1) seen
 
 -- what a hub of this config leaves, with the transcripts that it was given
 pub record IsLeftBy (hub : ConfigView) (given : List Transcript) (closed : Closed) : Type 0 where

@@ -10,6 +10,7 @@ pub record AreEmptyFor {G : Type 0} {naming : Ghosts G} (parts : ℕ) (lists : P
   pub shards : (lists.shards.items ≡ []) × (vec_len lists.shards ≡ 0) × (parts ≤ vec_capacity lists.shards)
   pub queues : (lists.queues.items ≡ []) × (vec_len lists.queues ≡ 0) × (parts ≤ vec_capacity lists.queues)
   pub threads : (vec_len lists.threads ≡ 0) × (parts ≤ vec_capacity lists.threads)
+  pub calls : (vec_len lists.calls ≡ 0) × (parts ≤ vec_capacity lists.calls)
   pub journals : (vec_len lists.journals ≡ 0) × (parts ≤ vec_capacity lists.journals)
   pub counts : (vec_len lists.counts ≡ 0) × (parts ≤ vec_capacity lists.counts)
 

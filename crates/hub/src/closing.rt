@@ -1,38 +1,78 @@
 //! What a hub's partitions leave.
-ghost use Rattle.std.specs.Prelude.{◌≡◌, IfSome, IsTrue, map};
+ghost use Rattle.std.specs.Prelude.{◌≡◌, ◌≤◌, ◌+◌, IfSome, IsTrue, length, map, vec_capacity, vec_len};
 ghost use Rattle.std.specs.Arc.{arc_value};
+ghost use mathlib.Core.List.{IsPrefix};
 ghost use Rattle.partition.specs.Accounts.{account_of};
-ghost use Rattle.shard.specs.Journals.{AreOf};
-ghost use Rattle.hub.specs.Hubs.{config_view, AreStretches, IsSoundBook, SeesMore};
+ghost use Rattle.history.specs.Entries.{count};
+ghost use Rattle.shard.specs.Held.{IsHandedOut};
+ghost use Rattle.traced_book.specs.Traced.{AreTraced};
+ghost use Rattle.hub.specs.Hubs.{config_view, AreSeen, IsSoundBook};
 ghost use Rattle.hub.specs.Shards.{IsConfigOf};
 
 use closed_store::Config;
 use history::{Front, Naming};
-use partition::{Book, Counts, Journal};
+use partition::{Counts, Journal};
 use shard::Shard;
 use stamps::Limits;
 use std::alloc::Global;
-use std::sync::Arc;
+use std::sync::{Arc, Wait};
+use traced_book::TracedBook;
+
+/// What was seen, with what seats had seen, if they left that.
+pub fn seen_with<G: Naming>(seen: Front<G>, seats: &Option<Front<G>>) -> Front<G>
+    ensures { IfSome seats.now (λ theirs. IsPrefix theirs result) }
+{
+    match seats {
+        Some(theirs) => {
+            let mut all = seen;
+            all.learn(theirs);
+            all
+        }
+        None => seen,
+    }
+}
+
+/// Sees the history as it is now, and puts how many calls it has of each partition into the list, which has room for them.
+pub fn look_at_calls<G: Naming, R: Wait>(
+    rt: &R,
+    parts: u32,
+    shards: &[Arc<Shard<G>>],
+    calls: &mut Vec<u64>,
+    seen: &mut Front<G>,
+)
+    requires room { (length shards.now ≡ parts) × (vec_len calls.old ≡ 0)
+        × (parts ≤ vec_capacity calls.old) }
+    ensures calls { AreSeen parts seen.new calls.new.items }
+    ensures seen { IsPrefix seen.old seen.new }
+{
+    for partition in 0..parts {
+        let its = shards[partition as usize].look_at_calls(rt, parts, partition, seen);
+        calls.push_reserved(its);
+    }
+}
 
 /// The journals of a partition that no thread has any more. None where its book is not there, is not that of this partition, or
-/// is not of these tenants: what lies behind a lock is known only by its type. It sees what the book's partition has seen of the
-/// history: their events are a stretch of it.
+/// is not of these tenants: what lies behind a lock is known only by its type. And none where the history has other calls of the
+/// partition than these, of which there are so many: all that were seen are in the journals, or in epochs that were cut off them.
 pub fn take_out<G: Naming>(
     alloc: Global,
     config: &Config,
     partition: u32,
     shard: Arc<Shard<G>>,
-    seen: &mut Front<G>,
+    seen: &Front<G>,
+    calls: u64,
 ) -> (Vec<Journal>, Counts)
-    requires { IsConfigOf config.now partition (arc_value shard).config }
+    requires shard { IsConfigOf config.now partition (arc_value shard).config }
+    requires calls { calls ≤ count (partition + 1) seen.now }
     ensures book { IsSoundBook (config_view config.now) partition result.0 result.1 }
-    ensures stretches { AreStretches seen.new partition (map account_of result.0.items) }
-    ensures seen { SeesMore seen.old seen.new }
+    ensures traced { AreTraced seen.now partition (map account_of result.0.items) }
 {
-    if let Some(book) = book_of(shard, seen) {
-        let (journals, counts) = book.into_journals();
-        if are_under(journals.as_slice(), config.limits.as_slice()) {
-            return (journals, counts);
+    if let Some(book) = book_of(shard) {
+        if let Some(whole) = book.into_book(seen, calls) {
+            let (journals, counts) = whole.into_journals();
+            if are_under(journals.as_slice(), config.limits.as_slice()) {
+                return (journals, counts);
+            }
         }
     }
     let counts = Counts {
@@ -42,33 +82,12 @@ pub fn take_out<G: Naming>(
     (Vec::new(alloc), counts)
 }
 
-/// The book of a shard that no thread has any more, where it is there. It sees what the book's partition has seen of the history.
-fn book_of<G: Naming>(shard: Arc<Shard<G>>, seen: &mut Front<G>) -> Option<Book>
-    ensures journals { IfSome result
-        (λ book.
-        ∥ AreOf (arc_value shard).config.parts (arc_value shard).config.partition book ∥₁) }
-    ensures stretches { IfSome result
-        (λ book. AreStretches seen.new (arc_value shard).config.partition book) }
-    ensures seen { SeesMore seen.old seen.new }
+/// The book of a shard that no thread has any more, where it is there.
+fn book_of<G: Naming>(shard: Arc<Shard<G>>) -> Option<TracedBook<G>>
+    ensures { IfSome result (λ book. IsHandedOut (arc_value shard).config book) }
 {
     match Arc::into_inner(shard) {
-        Some(shard) => book_in(shard, seen),
-        None => None,
-    }
-}
-
-/// The book that lies in a shard, if it is that shard's.
-fn book_in<G: Naming>(shard: Shard<G>, seen: &mut Front<G>) -> Option<Book>
-    ensures journals { IfSome result
-        (λ book. ∥ AreOf shard.config.parts shard.config.partition book ∥₁) }
-    ensures stretches { IfSome result (λ book. AreStretches seen.new shard.config.partition book) }
-    ensures seen { SeesMore seen.old seen.new }
-{
-    match shard.into_book() {
-        Some((book, its)) => {
-            seen.learn(&its);
-            Some(book)
-        }
+        Some(shard) => shard.into_book(),
         None => None,
     }
 }

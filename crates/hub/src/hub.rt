@@ -1,12 +1,13 @@
 //! A hub: what seats share, and the threads that serve them.
+ghost use mathlib.Core.List.{IsPrefix};
 ghost use Rattle.stamps.specs.Bounds.{IsParts};
-ghost use Rattle.hub.specs.Hubs.{config_view, AllStretches, IsLeftBy};
+ghost use Rattle.hub.specs.Hubs.{config_view, AllTraced, IsLeftBy};
 ghost use Rattle.hub.specs.Registered.{IsDeparture, is_unopened};
 ghost use Rattle.shard.specs.Queues.{unsent};
 ghost use Rattle.shard.specs.UsedAt.{AreUsagesAt, WasElsewhere};
 ghost use Rattle.std.specs.Prelude.{◌≡◌, ◌≤◌, ◌<◌, ◌+◌, ◌↔◌, ◌⊎◌, true, false, [], length, map, slice_get, vec_len, vec_capacity, Ok, IfOk, IfErr, IfSome, OnOk, IsErrOf, IsTrue};
 
-use crate::closing::take_out;
+use crate::closing::{look_at_calls, seen_with, take_out};
 use crate::dispatcher::Dispatcher;
 use crate::new_store::NewStore;
 use crate::register::{Departure, Register};
@@ -46,6 +47,8 @@ pub struct Hub<G: Naming> {
     gate: Arc<G>,
     shards: Vec<Arc<Shard<G>>>,
     threads: Sealed<Vec<Worker>>,
+    /// Room for the numbers of calls that the close sees.
+    calls: Vec<u64>,
     journals: Vec<Vec<Journal>>,
     counts: Vec<Counts>,
     /// Its opening: what each seat has seen of the history at first.
@@ -62,7 +65,7 @@ impl<G: Naming> Model for Hub<G> {
 
     ghost view = { λ h. config_view h.config };
 
-    ghost invariant = { λ h. (length h.shards.items ≡ h.config.parts) × (vec_len h.journals ≡ 0) × (vec_len h.counts ≡ 0) × (h.config.parts ≤ vec_capacity h.journals) × (h.config.parts ≤ vec_capacity h.counts) × AreShardsFrom h.config 0 h.shards.items × ∥ HasParts h.seen h.config.parts ∥₁ };
+    ghost invariant = { λ h. (length h.shards.items ≡ h.config.parts) × (vec_len h.journals ≡ 0) × (vec_len h.counts ≡ 0) × (vec_len h.calls ≡ 0) × (h.config.parts ≤ vec_capacity h.journals) × (h.config.parts ≤ vec_capacity h.counts) × (h.config.parts ≤ vec_capacity h.calls) × AreShardsFrom h.config 0 h.shards.items × ∥ HasParts h.seen h.config.parts ∥₁ };
 }
 
 impl<G: Gate + Naming + Send + Sync + Drop + 'static> Hub<G> {
@@ -95,6 +98,7 @@ impl<G: Gate + Naming + Send + Sync + Drop + 'static> Hub<G> {
             shards,
             queues,
             threads,
+            calls,
             journals,
             counts,
         } = lists;
@@ -112,6 +116,7 @@ impl<G: Gate + Naming + Send + Sync + Drop + 'static> Hub<G> {
             gate,
             shards,
             threads: Sealed::new(threads),
+            calls,
             journals,
             counts,
             seen,
@@ -119,23 +124,26 @@ impl<G: Gate + Naming + Send + Sync + Drop + 'static> Hub<G> {
     }
 
     /// Ends and joins the threads, and takes each book out of its lock. The seats have ended, since they borrow the hub. A
-    /// book that is not there, which no proof excludes, gives no journals and counts of 0. Takes no memory.
+    /// book that is not there, or that has not all calls of its partition, gives no journals and counts of 0: no proof excludes
+    /// that. Takes no memory.
     pub fn close<R: Threads + Wait>(self, rt: &R, transcripts: Vec<Transcript>) -> Closed
         ensures { IsLeftBy self transcripts.items result }
     {
-        let (closed, _) = self.close_with_history(rt, transcripts);
+        let (closed, _) = self.close_with_history(rt, transcripts, &None);
         closed
     }
 
-    /// As `close`, and answers what was seen of the history at last. The events of each journal are a stretch of it: all journals are
-    /// of this one history.
+    /// As `close`, and answers what was seen of the history at last, by the seats too, if they left that. Where there are journals of
+    /// a partition, all calls that this one history has of it are in them, or in epochs that were cut off them.
     pub fn close_with_history<R: Threads + Wait>(
         self,
         rt: &R,
         transcripts: Vec<Transcript>,
+        seats: &Option<Front<G>>,
     ) -> (Closed, Front<G>)
         ensures left { IsLeftBy self transcripts.items result.0 }
-        ensures history { AllStretches result.1 0 result.0.journals.items }
+        ensures history { AllTraced result.1 0 result.0.journals.items }
+        ensures seats { IfSome seats.now (λ theirs. IsPrefix theirs result.1) }
     {
         let Hub {
             config,
@@ -146,16 +154,19 @@ impl<G: Gate + Naming + Send + Sync + Drop + 'static> Hub<G> {
             gate: _,
             shards,
             threads,
+            mut calls,
             mut journals,
             mut counts,
             seen,
         } = self;
-        let mut seen = seen.again();
+        let mut seen = seen_with(seen, seats);
         drop(queues);
         let _ = join_all(rt, threads.into_inner());
+        look_at_calls(rt, config.parts, shards.as_slice(), &mut calls, &mut seen);
         for shard in shards {
             let partition = journals.len() as u32;
-            let (of_book, count) = take_out(alloc, &config, partition, shard, &mut seen);
+            let its = calls[partition as usize];
+            let (of_book, count) = take_out(alloc, &config, partition, shard, &seen, its);
             journals.push_reserved(of_book);
             counts.push_reserved(count);
         }

@@ -96,6 +96,7 @@ pub struct PartitionLists<G: Naming> {
     pub shards: Vec<Arc<Shard<G>>>,
     pub queues: Vec<JobSender<G>>,
     pub threads: Vec<Worker>,
+    pub calls: Vec<u64>,
     pub journals: Vec<Vec<Journal>>,
     pub counts: Vec<Counts>,
 }
@@ -109,6 +110,7 @@ impl<G: Naming> PartitionLists<G> {
             shards: Vec::with_capacity(alloc, parts)?,
             queues: Vec::with_capacity(alloc, parts)?,
             threads: Vec::with_capacity(alloc, parts)?,
+            calls: Vec::with_capacity(alloc, parts)?,
             journals: Vec::with_capacity(alloc, parts)?,
             counts: Vec::with_capacity(alloc, parts)?,
         })
@@ -150,7 +152,7 @@ pub fn start_all<
     requires words { words.old.next ≡ 0 }
     requires opened { IsOpeningOf config.now seen.now }
     ensures started { OnOk result (AreStarted config.now lists.old lists.new) }
-    ensures rest { (lists.new.journals ≡ lists.old.journals)
+    ensures rest { (lists.new.calls ≡ lists.old.calls) × (lists.new.journals ≡ lists.old.journals)
         × (lists.new.counts ≡ lists.old.counts) }
 {
     for partition in 0..config.parts {

@@ -4,7 +4,7 @@ use Rattle.closed_store.specs.declared.closed.Closed.{Closed}
 use Rattle.closed_store.specs.declared.transcript.Transcript.{Transcript}
 use Rattle.history.specs.declared.entry.HistoryEntry.{HistoryEntry}
 use Rattle.history.specs.Legal.{IsLegal}
-use Rattle.hub.specs.Hubs.{AllStretches}
+use Rattle.hub.specs.Hubs.{AllTraced}
 use Rattle.hub.specs.Replies.{AreServed}
 use Rattle.hub.specs.Sights.{SeatSight}
 
@@ -21,9 +21,9 @@ abbrev pub AreGivenIn : Option (List HistoryEntry) → List Transcript → Type 
 AreGivenIn None transcripts = transcripts ≡ []
 AreGivenIn (Some seen) transcripts = All (IsGivenIn seen) transcripts
 
--- A store that was closed is that of this history: the events of each journal are a stretch of it, and each reply in a
--- transcript has its place there.
+-- A store that was closed is that of this history: where there are journals of a partition, all calls that the history has of it are
+-- in them or in earlier epochs; and each reply in a transcript has its place there.
 pub record IsOfHistory (seen : List HistoryEntry) (closed : Closed) : Type 0 where
   pub legal : IsLegal seen
-  pub journals : AllStretches seen 0 closed.journals.items
+  pub journals : AllTraced seen 0 closed.journals.items
   pub transcripts : All (IsGivenIn seen) closed.transcripts.items

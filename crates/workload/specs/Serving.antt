@@ -51,8 +51,8 @@ TellsPortFirst port old new (Err Device) = Unit {0}
 abbrev pub TellsPortFor : ℕ → Option (List ℕ) → Option (List ℕ) → Result (Unit {0}) ProgramFault → Type 0
 TellsPortFor asked old new ended = (port : ℕ) × IsPortFor asked port × TellsPortFirst port old new ended
 
--- A store that was closed is that of one history: the events of its journals are stretches of that, and each reply in its
--- transcripts has its place there.
+-- A store that was closed is that of one history: where there are journals of a partition, all calls that this has of it are in
+-- them or in earlier epochs; and each reply in its transcripts has its place there.
 abbrev pub HasHistory : Closed → Type 0
 HasHistory closed = ∥ ((seen : List HistoryEntry) × IsOfHistory seen closed) ∥₁
 

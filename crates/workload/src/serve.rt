@@ -1,8 +1,6 @@
 //! A server: sessions over TCP, and the verdicts over the store that they left.
-ghost use Rattle.std.specs.Prelude.{◌≡◌, ◌<◌, ◌≤◌, ◌⊎◌, cond, Ok, Err, IfOk, IfErr, IfSome, string_bytes};
+ghost use Rattle.std.specs.Prelude.{◌≡◌, ◌<◌, ◌≤◌, ◌⊎◌, cond, Ok, Err, IfOk, IfErr, string_bytes};
 ghost use Rattle.line_runs.specs.declared.fault.ProgramFault.TheVariants.{Device, OutOfMemory as NoMemory};
-ghost use mathlib.Core.List.{IsPrefix};
-ghost use Rattle.history.specs.Legal.{IsLegal};
 ghost use Rattle.hub.specs.Hubs.{config_view};
 ghost use Rattle.workload.specs.Serving.{DoneOrRefused, IsClosed, IsFaultBefore, ServesAndTells, TellsOfPort, TellsPortFirst, TellsPortFor, greater_fault, listening_line};
 ghost use Rattle.server_sessions.specs.Histories.{IsOfHistory};
@@ -302,8 +300,9 @@ pub(crate) fn open_hub<
     }
 }
 
-/// Closes a hub whose sessions left these transcripts, and answers what was seen of its history: the events of its journals are a
-/// stretch of that, and each reply in the transcripts has its place there.
+/// Closes a hub whose sessions left these transcripts, and answers what was seen of its history: where there are journals of a
+/// partition, they have all calls that this has of it, but for epochs that were cut off, and each reply in the transcripts has its place
+/// there.
 pub(crate) fn close_store<J: Naming + Send + Sync + Drop + 'static, H: Threads + Wait>(
     rt: &H,
     hub: OpenHub<J>,
@@ -314,25 +313,8 @@ pub(crate) fn close_store<J: Naming + Send + Sync + Drop + 'static, H: Threads +
     ensures history { ∥ IsOfHistory result.1 result.0 ∥₁ }
 {
     let (transcripts, told) = kept.into_both();
-    let (closed, seen) = hub.close_with_history(rt, transcripts);
-    let seen = seen_by_all(seen.again(), &told);
-    (closed, seen)
-}
-
-// What was seen at the close of a store and by its seats, if any has seen something.
-fn seen_by_all<G: Naming>(at_close: Front<G>, by_seats: &Option<Front<G>>) -> Front<G>
-    ensures close { IsPrefix at_close result }
-    ensures seats { IfSome by_seats.now (λ seen. IsPrefix seen result) }
-    ensures legal { IsLegal at_close → IsLegal result }
-{
-    match by_seats {
-        Some(seen) => {
-            let mut all = at_close;
-            all.learn(seen);
-            all
-        }
-        None => at_close,
-    }
+    let (closed, seen) = hub.close_with_history(rt, transcripts, &told);
+    (closed, seen.again())
 }
 
 // Reports the port, and serves the connections, and the status port beside them.

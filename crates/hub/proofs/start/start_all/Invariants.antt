@@ -10,6 +10,7 @@ invariant-loop-partition g l = record {
   queues : vec_len l.lists.queues + l.config.parts ≤ vec_capacity l.lists.queues + l.partition;
   started : length l.lists.shards.items ≡ length l.fn.lists.shards.items + l.partition;
   threads : vec_len l.lists.threads + l.config.parts ≤ vec_capacity l.lists.threads + l.partition;
+  calls : l.lists.calls ≡ l.fn.lists.calls;
   journals : l.lists.journals ≡ l.fn.lists.journals;
   counts : l.lists.counts ≡ l.fn.lists.counts;
   of_room : l.fn.lists.queues.items ≡ [] → All (λ queue. (queue.capacity ≡ l.config.queue) × (queue.count ≡ 0)) l.lists.queues.items;
