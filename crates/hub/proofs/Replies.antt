@@ -1,6 +1,6 @@
 -- What a seat answers: for the functions of an operation.
 use Rattle.std.proofs.Common.{◌≡◌, ℕ, List, [], ◌∷◌, ◌++◌, refl, sym, ap, ◌∙◌, subst, Option, Some, None, inl, inr, Bool, true, false, cond, is_some, Result, Ok, Err}
-use Rattle.std.specs.Prelude.{OnOk, IfErr, IsSome, IsNone, nat_le}
+use Rattle.std.specs.Prelude.{OnOk, IfErr, IfSome, IsSome, IsNone, nat_le}
 use Rattle.std.proofs.Math.Logic.{∥∥₁_map}
 use Rattle.std.proofs.lemmas.List.{append_assoc, append-nil}
 use Rattle.plain_store.specs.declared.answer.Answer.{Answer}
@@ -9,7 +9,7 @@ use Rattle.plain_store.specs.declared.calls.Call.{Call}
 use Rattle.plain_store.specs.declared.calls.Reply.{Reply}
 use Rattle.plain_store.specs.declared.message.Message.{Message}
 use Rattle.plain_store.specs.declared.reading.Reading.{Reading}
-use Rattle.plain_store.specs.Words.{Item, Stamp, Setup}
+use Rattle.plain_store.specs.Words.{◌∈◌, Item, Stamp, Setup}
 use Rattle.plain_store.specs.Writing.{keys_written}
 use Rattle.entry_list.specs.declared.kinds.Entry.{Entry}
 use Rattle.entry_list.specs.declared.kinds.Entry.TheVariants.{Began as began, Took, Answered}
@@ -30,10 +30,11 @@ use Rattle.hub.specs.declared.seat_request.SeatRequest.TheVariants as ask
 use Rattle.history.specs.declared.entry.Mark.{Mark}
 use mathlib.Core.List.{IsPrefix}
 use Rattle.history.specs.declared.entry.HistoryEntry.{HistoryEntry}
-use Rattle.history.specs.declared.entry.HistoryEntry.TheVariants.{ReadBegan}
+use Rattle.history.specs.declared.entry.HistoryEntry.TheVariants.{Joined, ReadBegan}
 use Rattle.history.proofs.Lists.{prefix_has, prefix_join}
-use Rattle.traced_client.specs.Clients.{HasReadEntry}
-use Rattle.hub.specs.Evidence.{HasBegunIn, IsMarkedSince}
+use Rattle.shard.specs.declared.seat_name.SeatName.{SeatName}
+use Rattle.traced_client.specs.Clients.{ClientTrace, HasJoined, HasReadEntry}
+use Rattle.hub.specs.Evidence.{HasBegunIn, HasOwnReadEntry, IsMarkedSince, IsOfClient}
 use Rattle.hub.specs.Sights.{OperationSight}
 use Rattle.hub.proofs.Given.{IsLaterOperation, operation-later}
 use Rattle.hub.proofs.Entries.{told-none, told-some}
@@ -506,15 +507,20 @@ with_later mark after before seen now has pre same =
     } in
     subst P (sym same) later
 
+own_later : (name : SeatName) (mark after : Mark) (before seen now : List HistoryEntry) → HasOwnReadEntry name mark seen before → IsPrefix seen now → after ≡ mark → HasOwnReadEntry name after now before
+own_later name mark after before seen now has pre same =
+    let P : Mark → Type 0 = λ m. HasOwnReadEntry name m now before in
+    subst P (sym same) (record { entry = with_later mark mark before seen now has.entry pre refl; joined = prefix_has seen now _ pre has.joined })
+
 -- it has what was seen before that, and so where what was seen has grown
-pub shows_since : (name : OperationSight) (parts : ℕ) (Drawn : Stamp → Type 0) (request : SeatRequest) (answer : Answer) (start entries : List Entry) (mark after : Mark) (before seen now : List HistoryEntry)
-    → IsMarkedSince request mark seen before → IsPrefix seen now → after ≡ mark → IsToldFor name parts Drawn request answer start entries → IfShows request answer (HasReadEntry after now before)
-shows_since name parts Drawn (ask.Put items) answer start entries mark after before seen now since pre same told = tt
-shows_since name parts Drawn (ask.Get keys) answer start entries mark after before seen now since pre same told =
-    if_read answer (IsReadOf name keys.now start entries) (λ readings. HasReadEntry after now before) (λ readings is. with_later mark after before seen now since pre same) told
-shows_since name parts Drawn (ask.Find tag) answer start entries mark after before seen now since pre same told =
+pub shows_since : (whose : SeatName) (name : OperationSight) (parts : ℕ) (Drawn : Stamp → Type 0) (request : SeatRequest) (answer : Answer) (start entries : List Entry) (mark after : Mark) (before seen now : List HistoryEntry)
+    → IsMarkedSince whose request mark seen before → IsPrefix seen now → after ≡ mark → IsToldFor name parts Drawn request answer start entries → IfShows request answer (HasOwnReadEntry whose after now before)
+shows_since whose name parts Drawn (ask.Put items) answer start entries mark after before seen now since pre same told = tt
+shows_since whose name parts Drawn (ask.Get keys) answer start entries mark after before seen now since pre same told =
+    if_read answer (IsReadOf name keys.now start entries) (λ readings. HasOwnReadEntry whose after now before) (λ readings is. own_later whose mark after before seen now since pre same) told
+shows_since whose name parts Drawn (ask.Find tag) answer start entries mark after before seen now since pre same told =
     let setup : Setup = record { partitions = parts; room = record { slots = 0; items = 0; clients = 0 }; keep = 0 } in
-    if_listed answer (IsListOf name setup tag start entries) (λ readings. HasReadEntry after now before) (λ readings is. with_later mark after before seen now since pre same) (told setup refl)
+    if_listed answer (IsListOf name setup tag start entries) (λ readings. HasOwnReadEntry whose after now before) (λ readings is. own_later whose mark after before seen now since pre same) (told setup refl)
 
 -- a refusal shows nothing
 pub shows_refused : (request : SeatRequest) (refusal : Refusal) (answer : Answer) (P : Type 0) → answer ≡ says.Refused refusal → IfShows request answer P
@@ -535,10 +541,26 @@ begun_in_later seen now tenant (Writes own items) pre has = (has.0, prefix_has s
 begun_in_later seen now tenant (Gets keys) pre has = tt
 begun_in_later seen now tenant (Finds tag) pre has = tt
 
-pub marked_since_later : (request : SeatRequest) (mark : Mark) (seen now before : List HistoryEntry) → IsPrefix seen now → IsMarkedSince request mark seen before → IsMarkedSince request mark now before
-marked_since_later (ask.Put items) mark seen now before pre since = tt
-marked_since_later (ask.Get keys) mark seen now before pre since = with_later mark mark before seen now since pre refl
-marked_since_later (ask.Find tag) mark seen now before pre since = with_later mark mark before seen now since pre refl
+pub marked_since_later : (name : SeatName) (request : SeatRequest) (mark : Mark) (seen now before : List HistoryEntry) → IsPrefix seen now → IsMarkedSince name request mark seen before → IsMarkedSince name request mark now before
+marked_since_later name (ask.Put items) mark seen now before pre since = tt
+marked_since_later name (ask.Get keys) mark seen now before pre since = own_later name mark mark before seen now since pre refl
+marked_since_later name (ask.Find tag) mark seen now before pre since = own_later name mark mark before seen now since pre refl
+
+-- a read's entry is that of the client whose word began it
+own_read : (name : SeatName) (result : Option Mark) (old new : ClientTrace) (before : List HistoryEntry) → IsOfClient name (Some old) → IsPrefix old.seen new.seen → IfSome result (λ mark. HasJoined mark.word old)
+    → IfSome result (λ mark. HasReadEntry mark new.seen before) → IfSome result (λ mark. HasOwnReadEntry name mark new.seen before)
+own_read name None old new before its later joined since = tt
+own_read name (Some mark) old new before its later joined since =
+    let P : ℕ → Type 0 = λ t. Joined (record { word = mark.word; tenant = t; client = name.client }) ∈ new.seen in
+    let Q : ℕ → Type 0 = λ n. Joined (record { word = mark.word; tenant = old.tenant; client = n }) ∈ new.seen in
+    record { entry = since; joined = subst P its.0 (subst Q its.1 (prefix_has old.seen new.seen _ later joined)) }
+
+pub marked_read : (name : SeatName) (request : SeatRequest) (result : Option Mark) (old new : ClientTrace) (before : List HistoryEntry) → IsOfClient name (Some old) → IsPrefix old.seen new.seen
+    → IfSome result (λ mark. HasJoined mark.word old) → IfSome result (λ mark. HasReadEntry mark new.seen before) → IfSome result (λ mark. IsMarkedSince name request mark new.seen before)
+marked_read name (ask.Put items) None old new before its later joined since = tt
+marked_read name (ask.Put items) (Some mark) old new before its later joined since = tt
+marked_read name (ask.Get keys) result old new before its later joined since = own_read name result old new before its later joined since
+marked_read name (ask.Find tag) result old new before its later joined since = own_read name result old new before its later joined since
 
 -- ---- what is said twice of an answer
 

@@ -6,12 +6,13 @@ use Rattle.plain_store.specs.Words.{◌∈◌, Setup, Stamp}
 use Rattle.plain_store.specs.Writing.{Outgoing}
 use Rattle.entry_list.specs.declared.kinds.Entry.{Entry}
 use Rattle.history.specs.declared.entry.HistoryEntry.{HistoryEntry}
-use Rattle.history.specs.declared.entry.HistoryEntry.TheVariants.{Began}
+use Rattle.history.specs.declared.entry.HistoryEntry.TheVariants.{Began, Joined}
 use Rattle.history.specs.Legal.{IsOfPut, MayDecide}
 use Rattle.tenant_sessions.specs.Running.{MayBegin}
 use Rattle.tenant_sessions.specs.declared.running.Running.{Running}
 use Rattle.history.specs.declared.entry.Mark.{Mark}
 use Rattle.traced_client.specs.Clients.{ClientTrace, HasReadEntry}
+use Rattle.shard.specs.declared.seat_name.SeatName.{SeatName}
 use Rattle.hub.specs.declared.seat_request.SeatRequest.{SeatRequest}
 use Rattle.hub.specs.declared.seat_request.SeatRequest.TheVariants.{Put, Get, Find}
 use Rattle.hub.specs.Replies.{IsStampOf, Reads}
@@ -38,19 +39,28 @@ pub record IsUnderWay (sight : OperationSight) (own : Stamp) (entries : List Ent
 abbrev pub no_mark : Mark
 no_mark = record { word = 0; entries = 0 }
 
--- a read or a search has its entry, behind all that was seen before; nothing is said of a put
-abbrev pub IsMarkedSince : SeatRequest → Mark → (seen before : List HistoryEntry) → Type 0
-IsMarkedSince (Put items) mark seen before = Unit {0}
-IsMarkedSince (Get keys) mark seen before = HasReadEntry mark seen before
-IsMarkedSince (Find tag) mark seen before = HasReadEntry mark seen before
+-- a read or a search has its entry, behind all that was seen before, under the word of the session's client
+pub record HasOwnReadEntry (name : SeatName) (mark : Mark) (seen before : List HistoryEntry) : Type 0 where
+  pub entry : HasReadEntry mark seen before
+  pub joined : Joined (record { word = mark.word; tenant = name.tenant; client = name.client }) ∈ seen
 
--- a client's word, where it is here, is of the tenant
+-- nothing is said of a put
+abbrev pub IsMarkedSince : SeatName → SeatRequest → Mark → (seen before : List HistoryEntry) → Type 0
+IsMarkedSince name (Put items) mark seen before = Unit {0}
+IsMarkedSince name (Get keys) mark seen before = HasOwnReadEntry name mark seen before
+IsMarkedSince name (Find tag) mark seen before = HasOwnReadEntry name mark seen before
+
 abbrev pub tenant_or : ℕ → Option ClientTrace → ℕ
 tenant_or tenant None = tenant
 tenant_or tenant (Some its) = its.tenant
 
-abbrev pub IsOfTenant : ℕ → Option ClientTrace → Type 0
-IsOfTenant tenant client = tenant_or tenant client ≡ tenant
+abbrev pub client_or : ℕ → Option ClientTrace → ℕ
+client_or client None = client
+client_or client (Some its) = its.client
+
+-- a client's word, where it is here, is that of the session's client
+abbrev pub IsOfClient : SeatName → Option ClientTrace → Type 0
+IsOfClient name client = (tenant_or name.tenant client ≡ name.tenant) × (client_or name.client client ≡ name.client)
 
 -- the put of this stamp may be decided, whichever word enters that
 abbrev pub MayBeDecided : List HistoryEntry → ℕ → Stamp → Type 0

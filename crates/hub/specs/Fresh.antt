@@ -5,23 +5,25 @@ use Rattle.plain_store.specs.declared.reading.Reading.{Reading}
 use Rattle.plain_store.specs.Words.{◌∈◌, Item, Key, Stamp}
 use Rattle.plain_store.specs.Writing.{keys_written}
 use Rattle.history.specs.declared.entry.HistoryEntry.{HistoryEntry}
-use Rattle.history.specs.declared.entry.HistoryEntry.TheVariants.{ReadBegan}
+use Rattle.history.specs.declared.entry.HistoryEntry.TheVariants.{Joined, ReadBegan}
 use Rattle.history.specs.Fresh.{IsCommittedIn}
+use Rattle.shard.specs.declared.seat_name.SeatName.{SeatName}
 
 -- no key is read below a stamp that was committed at its home by then
 abbrev pub IsReadFresh : List HistoryEntry → ℕ → List Reading → Type 0
 IsReadFresh before tenant readings =
     (reading : Reading) (stamp : Stamp) → reading ∈ readings → IsCommittedIn before tenant reading.item.key stamp → stamp ≤ reading.stamp
 
--- The read has an entry in the history, behind all that its seat had seen. It is fresh by all that stands before that entry, whoever had been
--- told of it.
-pub record IsFreshByEntry (old seen : List HistoryEntry) (tenant : ℕ) (readings : List Reading) : Type 0 where
+-- The read has an entry in the history, behind all that its seat had seen, under the word of the seat's client. It is fresh by all that
+-- stands before that entry, whoever had been told of it.
+pub record IsFreshByEntry (old seen : List HistoryEntry) (name : SeatName) (readings : List Reading) : Type 0 where
   pub word : ℕ
+  pub joined : Joined (record { word = word; tenant = name.tenant; client = name.client }) ∈ seen
   pub before : List HistoryEntry
   pub after : List HistoryEntry
   pub stands : seen ≡ before ++ ReadBegan word ∷ after
   pub behind : IsPrefix old before
-  pub fresh : IsReadFresh before tenant readings
+  pub fresh : IsReadFresh before name.tenant readings
 
 -- what a put wrote to each of its keys, under this stamp, is committed at the home of the key
 abbrev pub AreCommittedIn : List HistoryEntry → ℕ → List Item → Stamp → Type 0

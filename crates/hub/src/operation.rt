@@ -1,15 +1,16 @@
 //! One operation of a seat: its calls go out, and their replies come in until each is answered.
-ghost use Rattle.std.specs.Prelude.{◌≡◌, ◌<◌, ◌≤◌, ◌+◌, ◌^◌, ◌↔◌, ℕ, true, None, IfSome, IsTrue};
+ghost use Rattle.std.specs.Prelude.{◌≡◌, ◌<◌, ◌≤◌, ◌+◌, ◌^◌, ◌↔◌, ℕ, true, None, Some, IfSome, IsTrue};
 ghost use mathlib.Core.List.{IsPrefix};
 ghost use Rattle.history.specs.Entries.{HasMark};
 ghost use Rattle.history.specs.Legal.{IsDecided, IsGivenUp, IsLegal};
-ghost use Rattle.hub.specs.Evidence.{HasBegunIn, IsMarkedSince, IsOfTenant, MayBeDecided};
+ghost use Rattle.hub.specs.Evidence.{HasBegunIn, IsMarkedSince, IsOfClient, MayBeDecided};
 ghost use Rattle.hub.specs.Requests.{intent_of};
 ghost use Rattle.tenant_sessions.specs.declared.moves.MoveKind.TheVariants.{Decided as Decides};
 ghost use Rattle.hub.specs.Replies.{IsUnder};
 ghost use Rattle.hub.specs.Rooms.{has_commits};
 ghost use Rattle.plain_store.specs.declared.answer.Rows.{Rows as Told};
 ghost use Rattle.tenant_sessions.specs.Moves.{moved, is_last, answer_of};
+ghost use Rattle.traced_client.specs.Clients.{IsSameClient};
 ghost use Rattle.hub.specs.Seats.{at_seat, is_final};
 
 use crate::dispatcher::{Dispatcher, MOST_CALLS};
@@ -61,7 +62,7 @@ pub(crate) struct RunningOperation<'a, G: Naming> {
     readings: Box<Readings>,
     ghost numbers: { first ≤ 2 ^ 62 },
     ghost opened: { session.is_open ≡ true },
-    ghost of_tenant: { IsOfTenant name.tenant client },
+    ghost whose: { IsOfClient name client },
     ghost legal: { ∥ IsLegal seen ∥₁ },
     ghost marked: { HasMark seen mark },
 }
@@ -116,28 +117,30 @@ fn tell_end(taken: &MoveKind, readings: &Readings, answer: &mut Answer)
     }
 }
 
-/// Enters what has begun: a put of this tenant's client under this stamp, or a read or a search, and answers its mark. What has the mark
+/// Enters what has begun: a put of the session's client under this stamp, or a read or a search, and answers its mark. What has the mark
 /// of a read or a search has all that stands before its entry. A put has that of no entries. None where the word is not here, or has other
 /// entries than were seen: nothing was entered then.
 fn enter_begun<G: Naming>(
     client: &mut Option<TracedClient<G>>,
     seen: &mut Front<G>,
-    tenant: u32,
+    name: &SeatName,
     own: Stamp,
     request: &SeatRequest<'_>,
 ) -> Option<Mark>
-    requires { IsOfTenant tenant client.old }
-    ensures began { IfSome result (λ _. HasBegunIn seen.new tenant (intent_of own request.now)) }
-    ensures since { IfSome result (λ mark. IsMarkedSince request.now mark seen.new seen.old) }
+    requires { IsOfClient name.now client.old }
+    ensures began { IfSome result
+        (λ _. HasBegunIn seen.new name.now.tenant (intent_of own request.now)) }
+    ensures since { IfSome result
+        (λ mark. IsMarkedSince name.now request.now mark seen.new seen.old) }
     ensures marked { IfSome result (λ mark. HasMark seen.new mark) }
     ensures later { IsPrefix seen.old seen.new }
     ensures legal { ∥ IsLegal seen.old ∥₁ → ∥ IsLegal seen.new ∥₁ }
-    ensures of_tenant { IsOfTenant tenant client.new }
+    ensures whose { IsOfClient name.now client.new }
 {
     let Some(its) = client else {
         return None;
     };
-    let Some(mark) = begun_mark(its, seen, own, request) else {
+    let Some(mark) = begun_mark(its, seen, name, own, request) else {
         return None;
     };
     seen.learn(&its.seen());
@@ -148,14 +151,17 @@ fn enter_begun<G: Naming>(
 fn begun_mark<G: Naming>(
     its: &mut TracedClient<G>,
     seen: &Front<G>,
+    name: &SeatName,
     own: Stamp,
     request: &SeatRequest<'_>,
 ) -> Option<Mark>
+    requires { IsOfClient name.now (Some its.old) }
     ensures began { IfSome result
-        (λ _. HasBegunIn its.new.seen its.old.tenant (intent_of own request.now)) }
-    ensures since { IfSome result (λ mark. IsMarkedSince request.now mark its.new.seen seen.now) }
+        (λ _. HasBegunIn its.new.seen name.now.tenant (intent_of own request.now)) }
+    ensures since { IfSome result
+        (λ mark. IsMarkedSince name.now request.now mark its.new.seen seen.now) }
     ensures marked { IfSome result (λ mark. HasMark its.new.seen mark) }
-    ensures tenant { its.new.tenant ≡ its.old.tenant }
+    ensures whose { IsSameClient its.old its.new }
 {
     let SeatRequest::Put(items) = request else {
         return its.begin_read(seen);
@@ -166,22 +172,22 @@ fn begun_mark<G: Naming>(
     Some(NO_MARK)
 }
 
-/// Enters that a put of this tenant's client is decided, if the move says so, and says whether that was done. It was not where the
+/// Enters that a put of the session's client is decided, if the move says so, and says whether that was done. It was not where the
 /// word is not here, or has other entries than were seen.
 fn enter_decided<G: Naming>(
     client: &mut Option<TracedClient<G>>,
     seen: &mut Front<G>,
-    tenant: u32,
+    name: &SeatName,
     taken: &MoveKind,
 ) -> bool
-    requires of_tenant { IsOfTenant tenant client.old }
+    requires whose { IsOfClient name.now client.old }
     requires decided { (stamp : ℕ) → taken.now ≡ Decides stamp
-        → ∥ MayBeDecided seen.old tenant stamp ∥₁ }
+        → ∥ MayBeDecided seen.old name.now.tenant stamp ∥₁ }
     ensures decided { IsTrue result → (stamp : ℕ) → taken.now ≡ Decides stamp
-        → IsDecided seen.new tenant stamp }
+        → IsDecided seen.new name.now.tenant stamp }
     ensures later { IsPrefix seen.old seen.new }
     ensures legal { ∥ IsLegal seen.old ∥₁ → ∥ IsLegal seen.new ∥₁ }
-    ensures of_tenant { IsOfTenant tenant client.new }
+    ensures whose { IsOfClient name.now client.new }
 {
     let MoveKind::Decided(stamp) = taken else {
         return true;
@@ -196,19 +202,19 @@ fn enter_decided<G: Naming>(
     true
 }
 
-/// Enters that the put of this stamp of this tenant's client was refused, and says whether that was done. It was not where the word is
+/// Enters that the put of this stamp of the session's client was refused, and says whether that was done. It was not where the word is
 /// not here, or has other entries than were seen, and where this is not the client's last put or has ended.
 fn enter_given_up<G: Naming>(
     client: &mut Option<TracedClient<G>>,
     seen: &mut Front<G>,
-    tenant: u32,
+    name: &SeatName,
     stamp: Stamp,
 ) -> bool
-    requires { IsOfTenant tenant client.old }
-    ensures given_up { IsTrue result → IsGivenUp seen.new tenant stamp }
+    requires { IsOfClient name.now client.old }
+    ensures given_up { IsTrue result → IsGivenUp seen.new name.now.tenant stamp }
     ensures later { IsPrefix seen.old seen.new }
     ensures legal { ∥ IsLegal seen.old ∥₁ → ∥ IsLegal seen.new ∥₁ }
-    ensures of_tenant { IsOfTenant tenant client.new }
+    ensures whose { IsOfClient name.now client.new }
 {
     let Some(its) = client else {
         return false;
@@ -242,7 +248,7 @@ impl<'a, G: Gate + Naming> RunningOperation<'a, G> {
     ghost use Rattle.hub.specs.Sights.{OperationSight, operation_of, sight_of};
     ghost use mathlib.Core.List.{IsPrefix};
     ghost use Rattle.hub.specs.Replies.{AreServed, IsDrawn, IsStampOf, IfShows, IsToldFor, IsToldOf, IsUnder};
-    ghost use Rattle.traced_client.specs.Clients.{HasReadEntry};
+    ghost use Rattle.hub.specs.Evidence.{HasOwnReadEntry};
     ghost use Rattle.hub.specs.Evidence.{no_mark};
     ghost use Rattle.stamps.specs.Stamp.{stamp};
     ghost use Rattle.hub.specs.Seats.{at_seat, is_final, is_unrecorded, outcome_of, spare, EndsSo, Follows, Extends};
@@ -270,7 +276,7 @@ impl<'a, G: Gate + Naming> RunningOperation<'a, G> {
         client: TracedClient<G>,
     ) -> RunningOperation<'a, G>
         requires open { session.is_open ≡ true }
-        requires of_tenant { client.tenant ≡ name.tenant }
+        requires whose { IsOfClient name (Some client) }
         requires legal { ∥ IsLegal seen ∥₁ }
         ensures given { (result.name ≡ name) × (result.dispatcher ≡ dispatcher.entry)
             × (result.session ≡ session) × (result.readings ≡ readings) × (result.seen ≡ seen) }
@@ -360,15 +366,15 @@ impl<'a, G: Gate + Naming> RunningOperation<'a, G> {
         // A read has its entry behind all that was seen before.
         ensures since { OnOk result
             (IfShows request.now answer.new
-            (HasReadEntry self.new.mark self.new.seen self.old.seen)) }
+            (HasOwnReadEntry self.old.name self.new.mark self.new.seen self.old.seen)) }
         ensures goes_on { IsSameSeat self.old self.new }
     {
         let client = self.name.client;
         match request.start(&mut self.session, client, parts) {
             Ok(()) => {
                 let own = self.last_stamp();
-                let tenant = self.name.tenant;
-                let Some(mark) = enter_begun(&mut self.client, &mut self.seen, tenant, own, request)
+                let name = &self.name;
+                let Some(mark) = enter_begun(&mut self.client, &mut self.seen, name, own, request)
                 else {
                     self.fault = Some(Fault::NoTenant);
                     return Err(Fault::NoTenant);
@@ -411,8 +417,7 @@ impl<'a, G: Gate + Naming> RunningOperation<'a, G> {
 
     /// Hands out the entries so far.
     pub(crate) fn drain(&mut self) -> EntryList
-        ensures handed { result.items ≡ self.old.entries.items }
-        ensures empty { self.new.entries.items ≡ [] }
+        ensures handed { (result.items ≡ self.old.entries.items) × (self.new.entries.items ≡ []) }
         ensures rest { (self.new.name ≡ self.old.name) × (self.new.dispatcher ≡ self.old.dispatcher)
             × (self.new.session ≡ self.old.session) × (self.new.first ≡ self.old.first)
             × (self.new.place ≡ self.old.place) × (self.new.fault ≡ self.old.fault)
@@ -741,8 +746,8 @@ impl<'a, G: Gate + Naming> RunningOperation<'a, G> {
             × (self.new.place ≡ self.old.place) × (self.new.fault ≡ self.old.fault)
             × (self.new.readings ≡ self.old.readings) × (self.new.mark ≡ self.old.mark) }
     {
-        let tenant = self.name.tenant;
-        if !enter_decided(&mut self.client, &mut self.seen, tenant, taken) {
+        let name = &self.name;
+        if !enter_decided(&mut self.client, &mut self.seen, name, taken) {
             return false;
         }
         self.stage_calls(sends_commits(taken));
@@ -888,8 +893,8 @@ impl<'a, G: Gate + Naming> RunningOperation<'a, G> {
         if !taken.has_ending(0) {
             return true;
         }
-        let tenant = self.name.tenant;
-        if !enter_given_up(&mut self.client, &mut self.seen, tenant, taken.discarded()) {
+        let name = &self.name;
+        if !enter_given_up(&mut self.client, &mut self.seen, name, taken.discarded()) {
             return false;
         }
         self.stage_ending(taken, ticket);

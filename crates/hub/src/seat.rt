@@ -8,9 +8,8 @@ ghost use Rattle.hub.specs.Limits.{last_call, max_calls};
 ghost use Rattle.hub.specs.Operations.{IsLater, IsOperation, ReportsList, ReportsRead, ReportsWrite};
 ghost use Rattle.hub.specs.Atomic.{IsReadAtomic};
 ghost use Rattle.hub.specs.Fresh.{AreCommittedIn, IsFreshByEntry};
-ghost use Rattle.hub.specs.Evidence.{no_mark};
+ghost use Rattle.hub.specs.Evidence.{HasOwnReadEntry, IsOfClient, no_mark};
 ghost use Rattle.hub.specs.Replies.{IfDone, IfListed, IfRead, IfShows, IsDrawn, IsToldFor};
-ghost use Rattle.traced_client.specs.Clients.{HasReadEntry};
 ghost use Rattle.hub.specs.Requests.{act_of};
 ghost use Rattle.hub.specs.Seats.{SeatView, Extends, IsEntered, IsNamed, begun_entries, is_unbegun, last_operation};
 ghost use Rattle.hub.specs.Taken.{replies_in};
@@ -77,7 +76,7 @@ impl<'a, G: Gate + Naming> Seat<'a, G> {
         seen: Front<G>,
         client: TracedClient<G>,
     ) -> Seat<'a, G>
-        requires of_tenant { client.tenant ≡ name.tenant }
+        requires whose { IsOfClient name (Some client) }
         requires legal { ∥ IsLegal seen ∥₁ }
         requires of_store { ∥ HasParts seen hub.now.parts ∥₁ }
         ensures seen { result.seen ≡ seen }
@@ -191,7 +190,7 @@ impl<'a, G: Gate + Naming> Seat<'a, G> {
         ensures atomic { IfRead result
             (λ told. ∥ IsReadAtomic self.new.seen self.new.name.tenant told ∥₁) }
         ensures fresh { IfRead result
-            (λ told. IsFreshByEntry self.old.seen self.new.seen self.new.name.tenant told) }
+            (λ told. IsFreshByEntry self.old.seen self.new.seen self.new.name told) }
     {
         let mut answer = Answer::Ignored;
         self.get_all_into(rt, keys, &mut answer);
@@ -206,7 +205,7 @@ impl<'a, G: Gate + Naming> Seat<'a, G> {
         ensures atomic { IfRead answer.new
             (λ told. ∥ IsReadAtomic self.new.seen self.new.name.tenant told ∥₁) }
         ensures fresh { IfRead answer.new
-            (λ told. IsFreshByEntry self.old.seen self.new.seen self.new.name.tenant told) }
+            (λ told. IsFreshByEntry self.old.seen self.new.seen self.new.name told) }
     {
         self.run(rt, &SeatRequest::Get(keys), usize::MAX, answer);
     }
@@ -222,7 +221,7 @@ impl<'a, G: Gate + Naming> Seat<'a, G> {
         ensures atomic { IfListed result
             (λ told. ∥ IsReadAtomic self.new.seen self.new.name.tenant told ∥₁) }
         ensures fresh { IfListed result
-            (λ told. IsFreshByEntry self.old.seen self.new.seen self.new.name.tenant told) }
+            (λ told. IsFreshByEntry self.old.seen self.new.seen self.new.name told) }
     {
         let mut answer = Answer::Ignored;
         self.find_into(rt, tag, &mut answer);
@@ -237,7 +236,7 @@ impl<'a, G: Gate + Naming> Seat<'a, G> {
         ensures atomic { IfListed answer.new
             (λ told. ∥ IsReadAtomic self.new.seen self.new.name.tenant told ∥₁) }
         ensures fresh { IfListed answer.new
-            (λ told. IsFreshByEntry self.old.seen self.new.seen self.new.name.tenant told) }
+            (λ told. IsFreshByEntry self.old.seen self.new.seen self.new.name told) }
     {
         self.run(rt, &SeatRequest::Find(tag), usize::MAX, answer);
     }
@@ -295,7 +294,7 @@ impl<'a, G: Gate + Naming> Seat<'a, G> {
         ensures few { replies_in self.new.entries ≤ replies_in self.old.entries + takes }
         // A read has its entry behind all that was seen before.
         ensures since { IfShows request.now answer.new
-            (HasReadEntry self.new.mark self.new.seen self.old.seen) }
+            (HasOwnReadEntry self.new.name self.new.mark self.new.seen self.old.seen) }
         ensures legal { ∥ IsLegal self.new.seen ∥₁ }
         ensures of_store { ∥ HasParts self.new.seen self.old.parts ∥₁ }
     {

@@ -41,13 +41,13 @@ ReportsPut items old answer new =
 abbrev pub ReportsGet : List Key → SeatView → Answer → SeatView → Type 0
 ReportsGet keys old answer new =
     ReportsRead keys old answer new × IfRead answer (λ told. ∥ IsReadAtomic new.seen new.name.tenant told ∥₁)
-    × IfRead answer (λ told. IsFreshByEntry old.seen new.seen new.name.tenant told)
+    × IfRead answer (λ told. IsFreshByEntry old.seen new.seen new.name told)
 
 -- and so is what a search reports
 abbrev pub ReportsFind : Tag → SeatView → Answer → SeatView → Type 0
 ReportsFind tag old answer new =
     ReportsList tag old answer new × IfListed answer (λ told. ∥ IsReadAtomic new.seen new.name.tenant told ∥₁)
-    × IfListed answer (λ told. IsFreshByEntry old.seen new.seen new.name.tenant told)
+    × IfListed answer (λ told. IsFreshByEntry old.seen new.seen new.name told)
 
 -- a put is served; or, where puts read first, its keys are read and then it is
 abbrev pub IsPut : Bool → List Item → SeatView → Answer → SeatView → Type 0

@@ -6,7 +6,7 @@ use Rattle.history.specs.declared.entry.HistoryEntry.TheVariants.{Decided}
 use Rattle.history.specs.Legal.{MayDecide}
 use Rattle.history.proofs.Lists.{prefix_has}
 use Rattle.tenant_sessions.specs.declared.moves.MoveKind.TheVariants.{Decided as Decides}
-use Rattle.hub.specs.Evidence.{tenant_or}
+use Rattle.hub.specs.Evidence.{IsOfClient}
 use Rattle.hub.proofs.operation.enter_decided.Goals as goal
 
 pub returns-clause-legal : goal.returns-clause-legal
@@ -16,7 +16,7 @@ returns-clause-legal g c was = ∣ c.learn-2.ensures.legal ∣₁
 pub decide-requires : goal.decide-requires
 decide-requires g c =
     let its = c.in-Some.its in
-    let of_tenant : its.tenant ≡ c.args.tenant = ap (tenant_or c.args.tenant) (sym c.in-Some.is) ∙ c.requires.of_tenant in
+    let of_tenant : its.tenant ≡ c.args.name.now.tenant = (subst (IsOfClient c.args.name.now) c.in-Some.is c.requires.whose).0 in
     let P : ℕ → Type 0 = λ t. MayDecide c.args.seen.now (record { word = its.word; tenant = t; stamp = c.in-Decided.stamp }) in
     ∥∥₁_map (c.requires.decided c.in-Decided.stamp c.in-Decided.is) (λ may. subst P (sym of_tenant) (may its.word))
 
@@ -25,7 +25,7 @@ pub returns-clause-decided : goal.returns-clause-decided
 returns-clause-decided g c did stamp is =
     let its = c.in-Some.its in
     let seen = c.learn-2.new.self in
-    let of_tenant : its.tenant ≡ c.args.tenant = ap (tenant_or c.args.tenant) (sym c.in-Some.is) ∙ c.requires.of_tenant in
+    let of_tenant : its.tenant ≡ c.args.name.now.tenant = (subst (IsOfClient c.args.name.now) c.in-Some.is c.requires.whose).0 in
     let both : Decides c.in-Decided.stamp ≡ Decides stamp = sym c.in-Decided.is ∙ is in
     let same : c.in-Decided.stamp ≡ stamp = cc in
     let P : List HistoryEntry → Type 0 = λ l. Decided (record { word = its.word; tenant = its.tenant; stamp = c.in-Decided.stamp }) ∈ l in

@@ -160,7 +160,7 @@ returns-in-Some-clause-since g c =
     let now = c.exchange.new.self in
     on_ok _ _
     (λ told.
-    shows_since (operation_of before.name now.mark now.seen) c.args.parts (IsDrawn before.name.client before.session.counter now.session.counter) c.args.request.now c.exchange.new.answer before.entries.items now.entries.items
+    shows_since before.name (operation_of before.name now.mark now.seen) c.args.parts (IsDrawn before.name.client before.session.counter now.session.counter) c.args.request.now c.exchange.new.answer before.entries.items now.entries.items
     c.in-Some.mark now.mark before.seen c.enter_begun.new.seen now.seen c.in-Some.ensures.since c.exchange.ensures.goes_on.seen c.exchange.ensures.goes_on.mark told)
     c.exchange.result (returns-in-Some-clause-read g c)
 

@@ -27,11 +27,12 @@ returns-clause-fresh g c =
     both_listed c.run.new.answer _ _ _
     (λ told since is. record {
       word = now.mark.word;
-      before = since.before;
-      after = since.after;
-      stands = since.stands;
-      behind = since.behind;
+      joined = since.joined;
+      before = since.entry.before;
+      after = since.entry.after;
+      stands = since.entry.stands;
+      behind = since.entry.behind;
       fresh = λ reading stamp has committed. ∥∥₁_elim c.run.ensures.legal le_prop (λ legal.
-          lists_fresh (last_operation now) since.before setup c.args.tag _ now.entries told legal since.marked is reading stamp has committed);
+          lists_fresh (last_operation now) since.entry.before setup c.args.tag _ now.entries told legal since.entry.marked is reading stamp has committed);
     })
     c.run.ensures.since (c.run.ensures.told setup refl)

@@ -16,7 +16,7 @@ use Rattle.hub.specs.Sights.{OperationSight, operation_of, sight_of}
 use Rattle.history.specs.declared.entry.Mark.{Mark}
 use Rattle.history.proofs.Following.{has_parts_later}
 use Rattle.history.proofs.Lists.{prefix_join}
-use Rattle.traced_client.specs.Clients.{HasReadEntry}
+use Rattle.hub.specs.Evidence.{HasOwnReadEntry}
 use Rattle.hub.specs.Taken.{replies_in}
 use Rattle.hub.proofs.Taking.{replies-other}
 use Rattle.hub.proofs.Entries.{follows-extends, extends-after, answer-entered, on_ok, fault-left, recorded-goes-on}
@@ -143,11 +143,14 @@ returns-clause-since g c =
     let kept = c.in-Ok.ensures.keeps.seen ∙ ap (λ (s : SeatView). s.seen) c.self.view_is in
     let seen = ap (λ (s : SeatView). s.seen) c.finish.ensures.stays ∙ c.count-sent.ensures.keeps.seen in
     let marked = ap (λ (s : SeatView). s.mark) c.finish.ensures.stays ∙ c.count-sent.ensures.keeps.mark in
-    let P : List HistoryEntry → Type 0 = λ l. IfShows request c.finish.new.answer (HasReadEntry now.mark now.seen l) in
-    let Q : Mark → Type 0 = λ m. IfShows request c.finish.new.answer (HasReadEntry m now.seen c.prepare.new.self.seen) in
-    let R : List HistoryEntry → Type 0 = λ l. IfShows request c.finish.new.answer (HasReadEntry ran.mark l c.prepare.new.self.seen) in
-    subst P kept (subst Q (sym marked) (subst R (sym seen)
-    (shows_run c.perform-told.result request c.perform-told.new.answer c.finish.new.answer (HasReadEntry ran.mark ran.seen c.prepare.new.self.seen) c.perform-told.ensures.since c.finish.ensures.served c.finish.ensures.refused)))
+    let whose = c.prepare.new.self.name in
+    let named = ap (λ (s : SeatView). s.name) c.finish.ensures.stays ∙ (c.count-sent.ensures.keeps.name ∙ c.perform-told.ensures.goes_on.name) in
+    let N : SeatName → Type 0 = λ n. IfShows request c.finish.new.answer (HasOwnReadEntry n now.mark now.seen c.args.self.now.seen) in
+    let P : List HistoryEntry → Type 0 = λ l. IfShows request c.finish.new.answer (HasOwnReadEntry whose now.mark now.seen l) in
+    let Q : Mark → Type 0 = λ m. IfShows request c.finish.new.answer (HasOwnReadEntry whose m now.seen c.prepare.new.self.seen) in
+    let R : List HistoryEntry → Type 0 = λ l. IfShows request c.finish.new.answer (HasOwnReadEntry whose ran.mark l c.prepare.new.self.seen) in
+    subst N (sym named) (subst P kept (subst Q (sym marked) (subst R (sym seen)
+    (shows_run c.perform-told.result request c.perform-told.new.answer c.finish.new.answer (HasOwnReadEntry whose ran.mark ran.seen c.prepare.new.self.seen) c.perform-told.ensures.since c.finish.ensures.served c.finish.ensures.refused))))
 
 pub returns-in-Some-clause-since : goal.returns-in-Some-clause-since
 returns-in-Some-clause-since g c = shows_refused c.args.request.now c.in-Some.refusal _ _ c.tell_refusal.ensures
