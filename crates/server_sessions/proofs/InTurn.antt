@@ -1,13 +1,12 @@
 -- Lines are answered in their turn: for `answer_next`, `answer_waiting`, `answer_piece`, `answer_lines` and `run_session`.
 use Rattle.std.proofs.Common.{◌≡◌, ℕ, ◌+◌, zero, suc, List, [], ◌∷◌, ◌++◌, length, take, Option, Some, None, Result, Ok, Err, refl, sym, ap, subst, ◌∙◌, append_assoc, inl, inr, arith}
-use Rattle.std.specs.Prelude.{IfErr, IfOk, IfSome, IsSome, OnOk, is_some, true, false}
+use Rattle.std.specs.Prelude.{Bool, IfErr, IfOk, IfSome, OnOk, is_some, true, false}
 use Rattle.std.specs.Io.KnownBytes.{Appends, Consumes, IsAtEnd, Keeps}
 use Rattle.std.proofs.KnownBytes.{Appends-kept, Appends-nil, Appends-trans}
 use Rattle.std.proofs.lemmas.List.{append-nil}
 use Rattle.plain_store.specs.declared.refusal.Refusal.{Refusal}
 use Rattle.plain_store.specs.declared.refusal.Refusal.TheVariants.{LineTooLong, OutOfMemory}
 use Rattle.plain_store.specs.declared.answer.Answer.{Answer}
-use Rattle.plain_store.specs.declared.answer.Answer.TheVariants.{Refused}
 use Rattle.hub.specs.Hubs.{ConfigView}
 use Rattle.hub.specs.Seats.{IsNamed, SeatView}
 use Rattle.line_protocol.specs.AnswerSpelling.{answer_line}
@@ -23,7 +22,7 @@ use Rattle.server_sessions.specs.declared.session_options.SessionOptions.{Sessio
 use Rattle.server_sessions.specs.declared.line_session.SessionEnd.{SessionEnd}
 use Rattle.server_sessions.specs.declared.line_session.SessionEnd.TheVariants.{Silent, Bye as SaysBye, Unread, Refused as IsRefused}
 use Rattle.server_sessions.specs.Answering.{GoesOnBehind, IsAnsweredAlone, IsAnsweredBy, IsEndOfInput, IsLineAnswered, last_line, refused_as}
-use Rattle.server_sessions.specs.Answered.{AnswersLines, AnswersUpTo, EndsBefore, EndsFor, HasAnswered, IsOfSeat, BreaksOffIn, HasAnsweredSome, StaysBehind, TakesBytes, TakesInput}
+use Rattle.server_sessions.specs.Answered.{AnswersLines, AnswersUpTo, EndsBefore, EndsFor, HasAnswered, IsOfSeat, IsOverBehind, BreaksOffIn, HasAnsweredSome, SessionState, StaysBehind, TakesBytes, TakesInput, state_of}
 use Rattle.server_sessions.specs.SeatAnswers.{IsAnsweredAndDrained, IsDrained}
 use Rattle.server_sessions.specs.Telling.{IsLastLine, SessionLeft}
 use Rattle.server_sessions.proofs.SeatsGiven.{drained_name}
@@ -36,7 +35,7 @@ pub record SoFar (options : SessionOptions) (hub : ConfigView) (names : List (Li
     (old new : Option (List ℕ)) (before after : List ℕ) : Type 0 where
   pub text : List ℕ
   pub gathers : Gathers old new before after text
-  pub answers : AnswersUpTo options hub names first now stream left text
+  pub answers : AnswersUpTo options hub names first (state_of now false) stream left text
 
 -- so far of an input, where its bytes and those that are left are known
 abbrev pub RunsSo : SessionOptions → ConfigView → List (List ℕ) → Option SeatView → Option SeatView → (held : List ℕ)
@@ -66,72 +65,70 @@ refused_same None cause not = refl
 
 -- ---- a prefix of a stream
 
-pub up_to_none : (options : SessionOptions) (hub : ConfigView) (names : List (List ℕ)) (seat : Option SeatView) (stream : List ℕ) → AnswersUpTo options hub names seat seat stream stream []
-up_to_none options hub names seat stream last = AnswersFront-refl (AnswersLines options hub names last) seat stream
+pub up_to_none : (options : SessionOptions) (hub : ConfigView) (names : List (List ℕ)) (seat : Option SeatView) (stream : List ℕ) → AnswersUpTo options hub names seat (state_of seat false) stream stream []
+up_to_none options hub names seat stream last = AnswersFront-refl (AnswersLines options hub names last) (state_of seat false) stream
 
-pub up_to_line : (options : SessionOptions) (hub : ConfigView) (names : List (List ℕ)) (old new : Option SeatView) (line : List ℕ) (answer : Answer) → IsLine line → IsLineAnswered options hub names line old answer new → GoesOnBehind options old line
-    → AnswersUpTo options hub names old new (terminated line) [] (answer_line answer)
-up_to_line options hub names old new line answer is answered goes last =
-    AnswersFront-line (AnswersLines options hub names last) old new line (answer_line answer) is (λ lines others h. (answer, new, others, answered, goes, refl, h))
+pub up_to_line : (options : SessionOptions) (hub : ConfigView) (names : List (List ℕ)) (old new : Option SeatView) (line : List ℕ) (answer : Answer) (over : Bool) → IsLine line → IsLineAnswered options hub names line old answer new
+    → GoesOnBehind options old line → IsOverBehind over new answer → AnswersUpTo options hub names old (state_of new over) (terminated line) [] (answer_line answer)
+up_to_line options hub names old new line answer over is answered goes ends last =
+    AnswersFront-line (AnswersLines options hub names last) (state_of old false) (state_of new over) line (answer_line answer) is (λ lines others h. (answer, state_of new over, others, refl, answered, ends, goes, refl, h))
 
-pub up_to_trans : (options : SessionOptions) (hub : ConfigView) (names : List (List ℕ)) (a b c : Option SeatView) (stream mid held kept after w v : List ℕ) → AnswersUpTo options hub names a b stream mid w
+pub up_to_trans : (options : SessionOptions) (hub : ConfigView) (names : List (List ℕ)) (a b : Option SeatView) (c : SessionState) (stream mid held kept after w v : List ℕ) → AnswersUpTo options hub names a (state_of b false) stream mid w
     → AnswersUpTo options hub names b c held kept v → mid ≡ held ++ after → AnswersUpTo options hub names a c stream (kept ++ after) (w ++ v)
 up_to_trans options hub names a b c stream mid held kept after w v h k is last =
-    AnswersFront-trans (AnswersLines options hub names last) a b c stream mid held kept after w v (h last) (k last) is
+    AnswersFront-trans (AnswersLines options hub names last) (state_of a false) (state_of b false) c stream mid held kept after w v (h last) (k last) is
 
 -- ---- how a session ends
-
--- more was answered before
-ends_behind : (options : SessionOptions) (seat : Option SeatView) (ending : SessionEnd) (left before text : List ℕ) → EndsFor options seat ending left text → EndsFor options seat ending left (before ++ text)
-ends_behind options seat Silent left before text (inl none) = inl none
-ends_behind options seat Silent left before text (inr (seated, (so_far, is))) = inr (seated, (before ++ so_far, ap (λ (t : List ℕ). before ++ t) is ∙ sym (append_assoc before so_far (answer_line (Refused OutOfMemory)))))
-ends_behind options seat SaysBye left before text h = h
-ends_behind options seat Unread left before text h = h
-ends_behind options seat (IsRefused cause) left before text h = h
 
 not_terminated : (line : List ℕ) → HasNoLineFeed (terminated line) → ⊥
 not_terminated [] h = let e = h.0 in cc
 not_terminated (b ∷ line) h = not_terminated line h.1
 
 -- the input is at its end
-pub ends_here : (options : SessionOptions) (seat : Option SeatView) (ending : SessionEnd) (held text : List ℕ) → HasNoLineFeed held → IsEndOfInput held ending → EndsFor options seat ending held text
-ends_here options seat Silent held text open_ended (inl none) = inl none
-ends_here options seat Silent held text open_ended (inr waits) = absurd (not_terminated waits.0 (subst HasNoLineFeed waits.2 open_ended))
-ends_here options seat SaysBye held text open_ended h = absurd h
-ends_here options seat Unread held text open_ended h = absurd h
-ends_here options seat (IsRefused cause) held text open_ended h = h
+pub ends_here : (options : SessionOptions) (seat : Option SeatView) (ending : SessionEnd) (held : List ℕ) → HasNoLineFeed held → IsEndOfInput held ending → EndsFor options (state_of seat false) ending held
+ends_here options seat Silent held open_ended (inl none) = inl none
+ends_here options seat Silent held open_ended (inr waits) = absurd (not_terminated waits.0 (subst HasNoLineFeed waits.2 open_ended))
+ends_here options seat SaysBye held open_ended h = absurd h
+ends_here options seat Unread held open_ended h = absurd h
+ends_here options seat (IsRefused cause) held open_ended h = (refl, h)
 
 -- ---- what is taken of bytes that came
 
 -- a line is answered, and the session goes on
-pub goes_on : (options : SessionOptions) (hub : ConfigView) (names : List (List ℕ)) (old new : Option SeatView) (line : List ℕ) (answer : Answer) (a b : Option (List ℕ)) (x y : List ℕ) → IsLine line
-    → IsLineAnswered options hub names line old answer new → GoesOnBehind options old line → Gathers a b x y (answer_line answer)
+pub goes_on : (options : SessionOptions) (hub : ConfigView) (names : List (List ℕ)) (old new : Option SeatView) (line : List ℕ) (answer : Answer) (over : Bool) (a b : Option (List ℕ)) (x y : List ℕ) → over ≡ false → IsLine line
+    → IsLineAnswered options hub names line old answer new → GoesOnBehind options old line → IsOverBehind over new answer → Gathers a b x y (answer_line answer)
     → TakesBytes options hub names None old new (terminated line) [] a b x y
-goes_on options hub names old new line answer a b x y is answered goes gathers =
-    record { text = answer_line answer; left = []; seat = new; gathers = gathers; answers = up_to_line options hub names old new line answer is answered goes; goes = (refl, refl) }
+goes_on options hub names old new line answer over a b x y not is answered goes ends gathers = record {
+  text = answer_line answer;
+  left = [];
+  now = state_of new over;
+  gathers = gathers;
+  answers = up_to_line options hub names old new line answer over is answered goes ends;
+  goes = (refl, ap (state_of new) not);
+}
 
 -- a line and nothing else is gathered
 pub gathers_line : (a b : Option (List ℕ)) (x y z line : List ℕ) → y ≡ x ++ line → Gathers a b y z [] → Gathers a b x z line
 gathers_line a b x y z line is h = subst (Gathers a b x z) (append-nil line) (Gathers-trans a a b x y z line [] (Gathers-text a x y line is) h)
 
 -- a line is answered by an allocation failure, and the session ends
-pub ends_without_memory : (options : SessionOptions) (hub : ConfigView) (names : List (List ℕ)) (old new : Option SeatView) (line : List ℕ) (answer : Answer) (a b : Option (List ℕ)) (x y : List ℕ) → IsLine line
-    → IsLineAnswered options hub names line old answer new → GoesOnBehind options old line → IsSome new × (answer ≡ Refused OutOfMemory) → Gathers a b x y (answer_line answer)
+pub ends_without_memory : (options : SessionOptions) (hub : ConfigView) (names : List (List ℕ)) (old new : Option SeatView) (line : List ℕ) (answer : Answer) (over : Bool) (a b : Option (List ℕ)) (x y : List ℕ) → over ≡ true → IsLine line
+    → IsLineAnswered options hub names line old answer new → GoesOnBehind options old line → IsOverBehind over new answer → Gathers a b x y (answer_line answer)
     → TakesBytes options hub names (Some Silent) old new (terminated line) [] a b x y
-ends_without_memory options hub names old new line answer a b x y is answered goes want gathers = record {
+ends_without_memory options hub names old new line answer over a b x y want is answered goes ends gathers = record {
   text = answer_line answer;
   left = [];
-  seat = new;
+  now = state_of new over;
   gathers = gathers;
-  answers = up_to_line options hub names old new line answer is answered goes;
-  goes = (λ more. inr (want.0, ([], ap answer_line want.1)), inl refl);
+  answers = up_to_line options hub names old new line answer over is answered goes ends;
+  goes = (λ more. inr want, inl refl);
 }
 
 -- a line that ends the session comes next
-comes_next : (options : SessionOptions) (seat : Option SeatView) (ending : SessionEnd) (line more : List ℕ) → EndsBefore options seat ending line → EndsFor options seat ending (terminated line ++ more) []
+comes_next : (options : SessionOptions) (seat : Option SeatView) (ending : SessionEnd) (line more : List ℕ) → EndsBefore options seat ending line → EndsFor options (state_of seat false) ending (terminated line ++ more)
 comes_next options seat Silent line more h = absurd h
-comes_next options seat SaysBye line more h = (line, more, refl, h)
-comes_next options seat Unread line more h = (line, more, refl, h)
+comes_next options seat SaysBye line more h = (refl, (line, more, refl, h))
+comes_next options seat Unread line more h = (refl, (line, more, refl, h))
 comes_next options seat (IsRefused cause) line more h = absurd h
 
 -- it is left for the end of the session
@@ -140,7 +137,7 @@ pub ends_before : (options : SessionOptions) (hub : ConfigView) (names : List (L
 ends_before options hub names old new ending line a x h behind = record {
   text = [];
   left = terminated line;
-  seat = old;
+  now = state_of old false;
   gathers = Gathers-none a x;
   answers = up_to_none options hub names old (terminated line);
   goes = (λ more. comes_next options old ending line more h, behind);
@@ -149,7 +146,7 @@ ends_before options hub names old new ending line a x h behind = record {
 -- no line waits
 pub takes_nothing : (options : SessionOptions) (hub : ConfigView) (names : List (List ℕ)) (seat : Option SeatView) (held : List ℕ) (a : Option (List ℕ)) (x : List ℕ) → TakesBytes options hub names None seat seat held held a a x x
 takes_nothing options hub names seat held a x =
-    record { text = []; left = held; seat = seat; gathers = Gathers-none a x; answers = up_to_none options hub names seat held; goes = (refl, refl) }
+    record { text = []; left = held; now = state_of seat false; gathers = Gathers-none a x; answers = up_to_none options hub names seat held; goes = (refl, refl) }
 
 -- what a flush kept before is taken as it was
 takes_kept : (options : SessionOptions) (hub : ConfigView) (names : List (List ℕ)) (ending : Option SessionEnd) (old new : Option SeatView) (bytes held : List ℕ) (a b c : Option (List ℕ)) (x z : List ℕ) → Keeps a b
@@ -157,7 +154,7 @@ takes_kept : (options : SessionOptions) (hub : ConfigView) (names : List (List �
 takes_kept options hub names ending old new bytes held a b c x z keeps h = record {
   text = h.text;
   left = h.left;
-  seat = h.seat;
+  now = h.now;
   gathers = Gathers-trans a b c x x z [] h.text (record { written = []; appends = Appends-kept a a b [] (Appends-nil a) keeps; whole = append-nil x }) h.gathers;
   answers = h.answers;
   goes = h.goes;
@@ -178,16 +175,13 @@ pub takes_after : (options : SessionOptions) (hub : ConfigView) (names : List (L
     → SoFar options hub names first now stream (bytes ++ after) a b x y → TakesBytes options hub names (Some ending) now last bytes held b c y z
     → TakesBytes options hub names (Some ending) first last stream kept a c x z
 takes_after options hub names ending first now last stream bytes after held kept a b c x y z h k =
-    let goes : ((more : List ℕ) → EndsFor options k.seat ending (k.left ++ more) k.text) × StaysBehind hub.epoch k.seat last = k.goes in record {
+    let goes : ((more : List ℕ) → EndsFor options k.now ending (k.left ++ more)) × StaysBehind hub.epoch k.now.seat last = k.goes in record {
       text = h.text ++ k.text;
       left = k.left ++ after;
-      seat = k.seat;
+      now = k.now;
       gathers = Gathers-trans a b c x y z h.text k.text h.gathers k.gathers;
-      answers = up_to_trans options hub names first now k.seat stream (bytes ++ after) bytes k.left after h.text k.text h.answers k.answers refl;
-      goes = (
-        λ more. subst (λ (l : List ℕ). EndsFor options k.seat ending l (h.text ++ k.text)) (sym (append_assoc k.left after more)) (ends_behind options k.seat ending (k.left ++ (after ++ more)) h.text k.text (goes.0 (after ++ more))),
-        goes.1,
-      );
+      answers = up_to_trans options hub names first now k.now stream (bytes ++ after) bytes k.left after h.text k.text h.answers k.answers refl;
+      goes = (λ more. subst (λ (l : List ℕ). EndsFor options k.now ending l) (sym (append_assoc k.left after more)) (goes.0 (after ++ more)), goes.1);
     }
 
 pub takes_any_after : (options : SessionOptions) (hub : ConfigView) (names : List (List ℕ)) (ending : Option SessionEnd) (first now last : Option SeatView) (stream bytes after held kept : List ℕ) (a b c : Option (List ℕ)) (x y z : List ℕ)
@@ -202,12 +196,12 @@ pub goes_after : (options : SessionOptions) (hub : ConfigView) (names : List (Li
     → SoFar options hub names first now stream (bytes ++ after) a b x y → TakesBytes options hub names None now last bytes held b c y z
     → SoFar options hub names first last stream (held ++ after) a c x z
 goes_after options hub names first now last stream bytes after held a b c x y z h k =
-    let goes : (k.left ≡ held) × (last ≡ k.seat) = k.goes in record {
+    let goes : (k.left ≡ held) × (k.now ≡ state_of last false) = k.goes in record {
       text = h.text ++ k.text;
       gathers = Gathers-trans a b c x y z h.text k.text h.gathers k.gathers;
-      answers = subst (λ (s : Option SeatView). AnswersUpTo options hub names first s stream (held ++ after) (h.text ++ k.text)) (sym goes.1)
-          (subst (λ (l : List ℕ). AnswersUpTo options hub names first k.seat stream (l ++ after) (h.text ++ k.text)) goes.0
-          (up_to_trans options hub names first now k.seat stream (bytes ++ after) bytes k.left after h.text k.text h.answers k.answers refl));
+      answers = subst (λ (s : SessionState). AnswersUpTo options hub names first s stream (held ++ after) (h.text ++ k.text)) goes.1
+          (subst (λ (l : List ℕ). AnswersUpTo options hub names first k.now stream (l ++ after) (h.text ++ k.text)) goes.0
+          (up_to_trans options hub names first now k.now stream (bytes ++ after) bytes k.left after h.text k.text h.answers k.answers refl));
     }
 
 pub goes_any_after : (options : SessionOptions) (hub : ConfigView) (names : List (List ℕ)) (ending : Option SessionEnd) (first now last : Option SeatView) (stream bytes after held : List ℕ) (a b c : Option (List ℕ)) (x y z : List ℕ)
@@ -220,7 +214,7 @@ goes_any_after options hub names None first now last stream bytes after held a b
 pub takes_so_far : (options : SessionOptions) (hub : ConfigView) (names : List (List ℕ)) (first now : Option SeatView) (stream held : List ℕ) (a b : Option (List ℕ)) (x y : List ℕ)
     → SoFar options hub names first now stream held a b x y → TakesBytes options hub names None first now stream held a b x y
 takes_so_far options hub names first now stream held a b x y h =
-    record { text = h.text; left = held; seat = now; gathers = h.gathers; answers = h.answers; goes = (refl, refl) }
+    record { text = h.text; left = held; now = state_of now false; gathers = h.gathers; answers = h.answers; goes = (refl, refl) }
 
 -- a line is too long
 pub takes_too_long : (options : SessionOptions) (hub : ConfigView) (names : List (List ℕ)) (first now : Option SeatView) (stream left held : List ℕ) (cause : Refusal) (a b : Option (List ℕ)) (x y : List ℕ)
@@ -229,10 +223,10 @@ pub takes_too_long : (options : SessionOptions) (hub : ConfigView) (names : List
 takes_too_long options hub names first now stream left held cause a b x y h long is = record {
   text = h.text;
   left = left;
-  seat = now;
+  now = state_of now false;
   gathers = h.gathers;
   answers = h.answers;
-  goes = (λ more. subst (λ (e : Refusal). EndsAs (left ++ more) (Err e)) (sym is) (IsTooLong-append left more long), inl refl);
+  goes = (λ more. (refl, subst (λ (e : Refusal). EndsAs (left ++ more) (Err e)) (sym is) (IsTooLong-append left more long)), inl refl);
 }
 
 -- ---- what is taken of an input
@@ -269,13 +263,13 @@ ends_in_piece options hub names ending first now last held more piece (Some inpu
 ends_in_piece options hub names ending first now last held more piece (Some input) (Some left) (Some after) a b c x y z run eats takes =
     let all = takes_after options hub names ending first now last input (held ++ piece) after more more a b c x y z
     (subst (λ (l : List ℕ). SoFar options hub names first now input l a b x y) (joined held piece left after eats) run) takes in
-    let goes : ((more : List ℕ) → EndsFor options all.seat ending (all.left ++ more) all.text) × StaysBehind hub.epoch all.seat last = all.goes in record {
+    let goes : ((more : List ℕ) → EndsFor options all.now ending (all.left ++ more)) × StaysBehind hub.epoch all.now.seat last = all.goes in record {
       text = all.text;
       left = all.left;
-      seat = all.seat;
+      now = all.now;
       gathers = all.gathers;
       answers = all.answers;
-      ends = subst (λ (l : List ℕ). EndsFor options all.seat ending l all.text) (append-nil all.left) (goes.0 []);
+      ends = subst (λ (l : List ℕ). EndsFor options all.now ending l) (append-nil all.left) (goes.0 []);
       behind = goes.1;
     }
 
@@ -289,7 +283,7 @@ ends_at_end options hub names ending first now held (Some input) (Some left) Non
 ends_at_end options hub names ending first now held (Some input) (Some left) (Some after) a b x y run eats at open_ended ends =
     let all : held ++ left ≡ held = ap (λ (t : List ℕ). held ++ t) (eats ∙ at) ∙ append-nil held in
     let so_far = subst (λ (l : List ℕ). SoFar options hub names first now input l a b x y) all run in
-    record { text = so_far.text; left = held; seat = now; gathers = so_far.gathers; answers = so_far.answers; ends = ends_here options now ending held so_far.text open_ended ends; behind = inl refl }
+    record { text = so_far.text; left = held; now = state_of now false; gathers = so_far.gathers; answers = so_far.answers; ends = ends_here options now ending held open_ended ends; behind = inl refl }
 
 -- ---- what is left
 
@@ -323,20 +317,20 @@ answered_whole : (options : SessionOptions) (hub : ConfigView) (names : List (Li
     → TakesInput options hub names ending None last input a b [] gathered → Appends b c (gathered ++ last_line ending) → IsOfSeat 0 last its
     → HasAnswered options hub names input its a c
 answered_whole options hub names ending last its input a b c gathered h adds end =
-    let f = h.answers h.seat in
-    let done : AnswersLines options hub names h.seat h.seat (lines_of []) [] = subst (λ (ls : List (List ℕ)). AnswersLines options hub names h.seat h.seat ls []) (sym (lines_of-none [] tt)) (refl, refl) in
+    let f = h.answers h.now in
+    let done : AnswersLines options hub names h.now h.now (lines_of []) [] = subst (λ (ls : List (List ℕ)). AnswersLines options hub names h.now h.now ls []) (sym (lines_of-none [] tt)) (refl, refl) in
     let all = (f.passes []).replies_to [] done in record {
       front = f.front;
       left = h.left;
       whole = f.whole;
       lines = ap end_of (sym (append-nil f.front)) ∙ ((f.passes []).ending ∙ end_of-nil);
-      seat = h.seat;
+      now = h.now;
       text = h.text;
-      answers = subst (AnswersLines options hub names h.seat None (lines_of f.front)) (append-nil h.text)
-          (subst (λ (l : List ℕ). AnswersLines options hub names h.seat None (lines_of l) (h.text ++ [])) (append-nil f.front) all);
+      answers = subst (AnswersLines options hub names h.now (state_of None false) (lines_of f.front)) (append-nil h.text)
+          (subst (λ (l : List ℕ). AnswersLines options hub names h.now (state_of None false) (lines_of l) (h.text ++ [])) (append-nil f.front) all);
       ending = ending;
       ends = h.ends;
-      left_behind = of_seat hub.epoch h.seat last its h.behind end;
+      left_behind = of_seat hub.epoch h.now.seat last its h.behind end;
       written = Gathers-end a b c gathered h.text (last_line ending) h.gathers adds;
     }
 
@@ -351,13 +345,15 @@ session_answered options hub names (Ok done) ending last its (Some input) a b c 
 -- ---- where a session breaks off
 
 -- after a line was answered
-pub breaks_at_line : (options : SessionOptions) (hub : ConfigView) (names : List (List ℕ)) (old new : Option SeatView) (line : List ℕ) (answer : Answer) (a b : Option (List ℕ)) (x y : List ℕ) (n : ℕ) → IsLine line
-    → IsLineAnswered options hub names line old answer new → GoesOnBehind options old line → y ≡ x ++ answer_line answer → Appends a b (take n y) → BreaksOffIn options hub names old new (terminated line) a b x
-breaks_at_line options hub names old new line answer a b x y n is answered goes same adds = record {
+pub breaks_at_line : (options : SessionOptions) (hub : ConfigView) (names : List (List ℕ)) (old new : Option SeatView) (line : List ℕ) (answer : Answer) (over : Bool) (a b : Option (List ℕ)) (x y : List ℕ) (n : ℕ) → IsLine line
+    → IsLineAnswered options hub names line old answer new → GoesOnBehind options old line → IsOverBehind over new answer → y ≡ x ++ answer_line answer → Appends a b (take n y)
+    → BreaksOffIn options hub names old new (terminated line) a b x
+breaks_at_line options hub names old new line answer over a b x y n is answered goes ends same adds = record {
   text = answer_line answer;
   left = [];
   size = n;
-  answers = up_to_line options hub names old new line answer is answered goes;
+  over = over;
+  answers = up_to_line options hub names old new line answer over is answered goes ends;
   written = subst (λ (l : List ℕ). Appends a b (take n l)) same adds;
 }
 
@@ -365,13 +361,13 @@ breaks_at_line options hub names old new line answer a b x y n is answered goes 
 pub breaks_before : (options : SessionOptions) (hub : ConfigView) (names : List (List ℕ)) (seat : Option SeatView) (bytes : List ℕ) (a b : Option (List ℕ)) (x : List ℕ) → Keeps a b
     → BreaksOffIn options hub names seat seat bytes a b x
 breaks_before options hub names seat bytes a b x keeps =
-    record { text = []; left = bytes; size = 0; answers = up_to_none options hub names seat bytes; written = Appends-kept a a b [] (Appends-nil a) keeps }
+    record { text = []; left = bytes; size = 0; over = false; answers = up_to_none options hub names seat bytes; written = Appends-kept a a b [] (Appends-nil a) keeps }
 
 -- what a flush kept before
 breaks_kept : (options : SessionOptions) (hub : ConfigView) (names : List (List ℕ)) (old new : Option SeatView) (bytes : List ℕ) (a b c : Option (List ℕ)) (x : List ℕ) → Keeps a b
     → BreaksOffIn options hub names old new bytes b c x → BreaksOffIn options hub names old new bytes a c x
 breaks_kept options hub names old new bytes a b c x keeps h =
-    record { text = h.text; left = h.left; size = h.size; answers = h.answers; written = Appends-trans a b c [] (take h.size (x ++ h.text)) (Appends-kept a a b [] (Appends-nil a) keeps) h.written }
+    record { text = h.text; left = h.left; size = h.size; over = h.over; answers = h.answers; written = Appends-trans a b c [] (take h.size (x ++ h.text)) (Appends-kept a a b [] (Appends-nil a) keeps) h.written }
 
 pub breaks_waiting : {A E : Type 0} (options : SessionOptions) (hub : ConfigView) (names : List (List ℕ)) (r : Result A E) (old new : Option SeatView) (line bytes : List ℕ) (a b c : Option (List ℕ)) (x : List ℕ) → Keeps a b
     → bytes ≡ terminated line → IsLine line → IfErr r (λ fault. IsLine line → BreaksOffIn options hub names old new (terminated line) b c x)
@@ -387,7 +383,8 @@ breaks_after options hub names first now last stream bytes after a b c x y h k =
   text = h.text ++ k.text;
   left = k.left ++ after;
   size = length h.gathers.written + k.size;
-  answers = up_to_trans options hub names first now last stream (bytes ++ after) bytes k.left after h.text k.text h.answers k.answers refl;
+  over = k.over;
+  answers = up_to_trans options hub names first now (state_of last k.over) stream (bytes ++ after) bytes k.left after h.text k.text h.answers k.answers refl;
   written = begins_behind_gathered a b c x y h.text k.text k.size h.gathers k.written;
 }
 
@@ -398,6 +395,7 @@ breaks_so_far options hub names first now stream left a b c x y n h adds = recor
   text = h.text;
   left = left;
   size = length h.gathers.written + n;
+  over = false;
   answers = h.answers;
   written = subst (λ (l : List ℕ). Appends a c (take (length h.gathers.written + n) (x ++ l))) (append-nil h.text)
       (begins_behind_gathered a b c x y h.text [] n h.gathers (subst (λ (l : List ℕ). Appends b c (take n l)) (sym (append-nil y)) adds));
@@ -434,25 +432,26 @@ breaks_behind_piece options hub names first now next held more piece (Some input
     (subst (λ (l : List ℕ). SoFar options hub names first now input l a b x y) (joined held piece left after eats) run) takes) adds
 
 -- the lines of the front that was answered
-front_lines : (options : SessionOptions) (hub : ConfigView) (names : List (List ℕ)) (seat : Option SeatView) (input left text : List ℕ) (h : AnswersUpTo options hub names None seat input left text)
-    → AnswersLines options hub names seat None (lines_of (h seat).front) text
-front_lines options hub names seat input left text h =
-    let f = h seat in
-    let done : AnswersLines options hub names seat seat (lines_of []) [] = subst (λ (ls : List (List ℕ)). AnswersLines options hub names seat seat ls []) (sym (lines_of-none [] tt)) (refl, refl) in
-    subst (AnswersLines options hub names seat None (lines_of f.front)) (append-nil text)
-    (subst (λ (l : List ℕ). AnswersLines options hub names seat None (lines_of l) (text ++ [])) (append-nil f.front) ((f.passes []).replies_to [] done))
+front_lines : (options : SessionOptions) (hub : ConfigView) (names : List (List ℕ)) (now : SessionState) (input left text : List ℕ) (h : AnswersUpTo options hub names None now input left text)
+    → AnswersLines options hub names now (state_of None false) (lines_of (h now).front) text
+front_lines options hub names now input left text h =
+    let f = h now in
+    let start : SessionState = state_of None false in
+    let done : AnswersLines options hub names now now (lines_of []) [] = subst (λ (ls : List (List ℕ)). AnswersLines options hub names now now ls []) (sym (lines_of-none [] tt)) (refl, refl) in
+    subst (AnswersLines options hub names now start (lines_of f.front)) (append-nil text)
+    (subst (λ (l : List ℕ). AnswersLines options hub names now start (lines_of l) (text ++ [])) (append-nil f.front) ((f.passes []).replies_to [] done))
 
-answered_some : (options : SessionOptions) (hub : ConfigView) (names : List (List ℕ)) (seat last : Option SeatView) (its : Option SessionLeft) (input left text : List ℕ) (a b : Option (List ℕ)) (end : List ℕ) (n : ℕ)
-    → AnswersUpTo options hub names None seat input left text → StaysBehind hub.epoch seat last → IsOfSeat 0 last its → IsLastLine end → Appends a b (take n (text ++ end))
+answered_some : (options : SessionOptions) (hub : ConfigView) (names : List (List ℕ)) (now : SessionState) (last : Option SeatView) (its : Option SessionLeft) (input left text : List ℕ) (a b : Option (List ℕ)) (end : List ℕ) (n : ℕ)
+    → AnswersUpTo options hub names None now input left text → StaysBehind hub.epoch now.seat last → IsOfSeat 0 last its → IsLastLine end → Appends a b (take n (text ++ end))
     → HasAnsweredSome options hub names input its a b
-answered_some options hub names seat last its input left text a b end n h behind of is adds = record {
-  front = (h seat).front;
+answered_some options hub names now last its input left text a b end n h behind of is adds = record {
+  front = (h now).front;
   left = left;
-  whole = (h seat).whole;
-  seat = seat;
+  whole = (h now).whole;
+  now = now;
   text = text;
-  answers = front_lines options hub names seat input left text h;
-  left_behind = of_seat hub.epoch seat last its behind of;
+  answers = front_lines options hub names now input left text h;
+  left_behind = of_seat hub.epoch now.seat last its behind of;
   last = end;
   is_last = is;
   size = n;
@@ -464,7 +463,7 @@ pub session_breaks : (options : SessionOptions) (hub : ConfigView) (names : List
     → IfSome input (λ stream. BreaksOffIn options hub names None last stream a b []) → IsOfSeat 0 last its → IfSome input (λ stream. HasAnsweredSome options hub names stream its a b)
 session_breaks options hub names last its None a b h of = tt
 session_breaks options hub names last its (Some input) a b h of =
-    answered_some options hub names last last its input h.left h.text a b [] h.size h.answers (inl refl) of (inl refl)
+    answered_some options hub names (state_of last h.over) last its input h.left h.text a b [] h.size h.answers (inl refl) of (inl refl)
     (subst (λ (l : List ℕ). Appends a b (take h.size l)) (sym (append-nil h.text)) h.written)
 
 -- the same where its last line could not be written
@@ -475,5 +474,5 @@ pub session_breaks_last : {A E : Type 0} (options : SessionOptions) (hub : Confi
 session_breaks_last options hub names (Ok done) ending last its input a b c gathered h begun of = tt
 session_breaks_last options hub names (Err e) ending last its None a b c gathered h begun of = tt
 session_breaks_last options hub names (Err e) ending last its (Some input) a b c gathered h begun of =
-    answered_some options hub names h.seat last its input h.left h.text a c begun.0 (length h.gathers.written + begun.1) h.answers h.behind of begun.2
+    answered_some options hub names h.now last its input h.left h.text a c begun.0 (length h.gathers.written + begun.1) h.answers h.behind of begun.2
     (begins_behind_gathered a b c [] gathered h.text begun.0 begun.1 h.gathers begun.3)

@@ -1,5 +1,5 @@
 -- What the lines of a session are answered, one after the other.
-use Rattle.std.specs.Prelude.{◌≡◌, ◌⊎◌, ℕ, List, [], ◌∷◌, ◌++◌, take, Option, Some, None, Err, IsSome, IsTrue}
+use Rattle.std.specs.Prelude.{◌≡◌, ◌⊎◌, ◌↔◌, ℕ, Bool, true, false, List, [], ◌∷◌, ◌++◌, take, Option, Some, None, Err, IsSome, IsTrue}
 use Rattle.std.specs.Io.KnownBytes.{Appends}
 use Rattle.plain_store.specs.declared.refusal.Refusal.TheVariants.{OutOfMemory}
 use Rattle.plain_store.specs.declared.answer.Answer.{Answer}
@@ -21,22 +21,35 @@ use Rattle.server_sessions.specs.Answering.{GoesOnBehind, IsLineAnswered, last_l
 use Rattle.server_sessions.specs.SeatAnswers.{IsDrained}
 use Rattle.server_sessions.specs.Telling.{IsLastLine, SessionLeft}
 
--- The text answers these lines, one after the other, of a connection that has this seat, or none, and the last one
--- behind them. It goes on behind each.
-abbrev pub AnswersLines : SessionOptions → ConfigView → List (List ℕ) → Option SeatView → Option SeatView
+-- the seat of a connection, if it has one, and whether its session is over: then no more lines are answered
+pub record SessionState : Type 0 where
+  pub seat : Option SeatView
+  pub over : Bool
+
+abbrev pub state_of : Option SeatView → Bool → SessionState
+state_of seat over = record { seat = seat; over = over }
+
+-- a session is over once its seat answered that an allocation failed
+abbrev pub IsOverBehind : Bool → Option SeatView → Answer → Type 0
+IsOverBehind over seat answer = IsTrue over ↔ (IsSome seat × (answer ≡ Refused OutOfMemory))
+
+-- The text answers these lines, one after the other, of a session in this state, and the last one behind them. It goes on behind each
+-- but the last.
+abbrev pub AnswersLines : SessionOptions → ConfigView → List (List ℕ) → SessionState → SessionState
     → List (List ℕ) → List ℕ → Type 0
 AnswersLines options hub names last now [] text = (now ≡ last) × (text ≡ [])
 AnswersLines options hub names last now (line ∷ lines) text =
-    (answer : Answer) × (next : Option SeatView) × (rest : List ℕ)
-    × IsLineAnswered options hub names line now answer next
-    × GoesOnBehind options now line × (text ≡ answer_line answer ++ rest)
+    (answer : Answer) × (next : SessionState) × (rest : List ℕ)
+    × (now.over ≡ false) × IsLineAnswered options hub names line now.seat answer next.seat
+    × IsOverBehind next.over next.seat answer
+    × GoesOnBehind options now.seat line × (text ≡ answer_line answer ++ rest)
     × AnswersLines options hub names last next lines rest
 
--- a prefix of the stream is answered by the text, and then the rest as from the second seat on
-abbrev pub AnswersUpTo : SessionOptions → ConfigView → List (List ℕ) → Option SeatView → Option SeatView
+-- a prefix of the stream is answered by the text of a session that has the first seat, and then the rest as from the state on
+abbrev pub AnswersUpTo : SessionOptions → ConfigView → List (List ℕ) → Option SeatView → SessionState
     → List ℕ → List ℕ → List ℕ → Type 0
 AnswersUpTo options hub names first now stream left text =
-    (last : Option SeatView) → AnswersFront (AnswersLines options hub names last) first now stream left text
+    (last : SessionState) → AnswersFront (AnswersLines options hub names last) (state_of first false) now stream left text
 
 -- A line ends a session that has this seat, or none, before it is answered: a `bye`; or one that could not be read, of
 -- a strict session that has no seat.
@@ -51,15 +64,13 @@ abbrev pub ComesToEnd : SessionOptions → Option SeatView → SessionEnd → Li
 ComesToEnd options seat ending left =
     (line : List ℕ) × (rest : List ℕ) × (left ≡ terminated line ++ rest) × EndsBefore options seat ending line
 
--- Why a session with this seat ended so that had answered by this text, with these bytes left: the input was at its
--- end, or the last answer was an allocation failure, which a seat gave; a line comes next that ends it; or what comes next is
--- too long or cut.
-abbrev pub EndsFor : SessionOptions → Option SeatView → SessionEnd → List ℕ → List ℕ → Type 0
-EndsFor options seat Silent left text =
-    (left ≡ []) ⊎ (IsSome seat × ((before : List ℕ) × (text ≡ before ++ answer_line (Refused OutOfMemory))))
-EndsFor options seat SaysBye left text = ComesToEnd options seat SaysBye left
-EndsFor options seat Unread left text = ComesToEnd options seat Unread left
-EndsFor options seat (IsRefused cause) left text = EndsAs left (Err cause)
+-- Why a session in this state ended so, with these bytes left: the input was at its end, or it was over; a line comes next that ends
+-- it; or what comes next is too long or cut.
+abbrev pub EndsFor : SessionOptions → SessionState → SessionEnd → List ℕ → Type 0
+EndsFor options now Silent left = (left ≡ []) ⊎ (now.over ≡ true)
+EndsFor options now SaysBye left = (now.over ≡ false) × ComesToEnd options now.seat SaysBye left
+EndsFor options now Unread left = (now.over ≡ false) × ComesToEnd options now.seat Unread left
+EndsFor options now (IsRefused cause) left = (now.over ≡ false) × EndsAs left (Err cause)
 
 -- behind the answers the seat stays as it was, or its entries are returned where journals are cut
 abbrev pub StaysBehind : ℕ → Option SeatView → Option SeatView → Type 0
@@ -69,11 +80,10 @@ StaysBehind epoch old new =
 
 -- Of bytes that came a front was answered by the text that was gathered or written, and what is left is held; or the
 -- session ends so, whatever bytes follow.
-abbrev pub GoesOnOrEnds : SessionOptions → ℕ → Option SessionEnd → List ℕ → List ℕ → List ℕ
-    → Option SeatView → Option SeatView → Type 0
-GoesOnOrEnds options epoch None held left text old new = (left ≡ held) × (new ≡ old)
-GoesOnOrEnds options epoch (Some ending) held left text old new =
-    ((more : List ℕ) → EndsFor options old ending (left ++ more) text) × StaysBehind epoch old new
+abbrev pub GoesOnOrEnds : SessionOptions → ℕ → Option SessionEnd → List ℕ → List ℕ → SessionState → Option SeatView → Type 0
+GoesOnOrEnds options epoch None held left now new = (left ≡ held) × (now ≡ state_of new false)
+GoesOnOrEnds options epoch (Some ending) held left now new =
+    ((more : List ℕ) → EndsFor options now ending (left ++ more)) × StaysBehind epoch now.seat new
 
 -- the same of the bytes, from what was gathered before on
 pub record TakesBytes (options : SessionOptions) (hub : ConfigView) (names : List (List ℕ))
@@ -81,10 +91,10 @@ pub record TakesBytes (options : SessionOptions) (hub : ConfigView) (names : Lis
     : Type 0 where
   pub text : List ℕ
   pub left : List ℕ
-  pub seat : Option SeatView
+  pub now : SessionState
   pub gathers : Gathers old new before after text
-  pub answers : AnswersUpTo options hub names first seat bytes left text
-  pub goes : GoesOnOrEnds options hub.epoch ending held left text seat last
+  pub answers : AnswersUpTo options hub names first now bytes left text
+  pub goes : GoesOnOrEnds options hub.epoch ending held left now last
 
 -- the same of a whole input, where the session ended so
 pub record TakesInput (options : SessionOptions) (hub : ConfigView) (names : List (List ℕ))
@@ -92,11 +102,11 @@ pub record TakesInput (options : SessionOptions) (hub : ConfigView) (names : Lis
     : Type 0 where
   pub text : List ℕ
   pub left : List ℕ
-  pub seat : Option SeatView
+  pub now : SessionState
   pub gathers : Gathers old new before after text
-  pub answers : AnswersUpTo options hub names first seat input left text
-  pub ends : EndsFor options seat ending left text
-  pub behind : StaysBehind hub.epoch seat last
+  pub answers : AnswersUpTo options hub names first now input left text
+  pub ends : EndsFor options now ending left
+  pub behind : StaysBehind hub.epoch now.seat last
 
 -- What a fault leaves of bytes that came: a beginning of what was gathered before and of the answers to a prefix of
 -- them is written.
@@ -105,7 +115,8 @@ pub record BreaksOffIn (options : SessionOptions) (hub : ConfigView) (names : Li
   pub text : List ℕ
   pub left : List ℕ
   pub size : ℕ
-  pub answers : AnswersUpTo options hub names first last bytes left text
+  pub over : Bool
+  pub answers : AnswersUpTo options hub names first (state_of last over) bytes left text
   pub written : Appends old new (take size (before ++ text))
 
 -- what is left is of the seat: its transcript, with its entries where none were returned, and the history that it has
@@ -124,12 +135,12 @@ pub record HasAnswered (options : SessionOptions) (hub : ConfigView) (names : Li
   pub left : List ℕ
   pub whole : input ≡ front ++ left
   pub lines : end_of front ≡ Whole
-  pub seat : Option SeatView
+  pub now : SessionState
   pub text : List ℕ
-  pub answers : AnswersLines options hub names seat None (lines_of front) text
+  pub answers : AnswersLines options hub names now (state_of None false) (lines_of front) text
   pub ending : SessionEnd
-  pub ends : EndsFor options seat ending left text
-  pub left_behind : IsOfSeat hub.epoch seat its
+  pub ends : EndsFor options now ending left
+  pub left_behind : IsOfSeat hub.epoch now.seat its
   pub written : Appends old new (text ++ last_line ending)
 
 -- What a session over this input wrote that ended by a fault and left this, or opened no seat: a beginning of the
@@ -139,10 +150,10 @@ pub record HasAnsweredSome (options : SessionOptions) (hub : ConfigView) (names 
   pub front : List ℕ
   pub left : List ℕ
   pub whole : input ≡ front ++ left
-  pub seat : Option SeatView
+  pub now : SessionState
   pub text : List ℕ
-  pub answers : AnswersLines options hub names seat None (lines_of front) text
-  pub left_behind : IsOfSeat hub.epoch seat its
+  pub answers : AnswersLines options hub names now (state_of None false) (lines_of front) text
+  pub left_behind : IsOfSeat hub.epoch now.seat its
   pub last : List ℕ
   pub is_last : IsLastLine last
   pub size : ℕ

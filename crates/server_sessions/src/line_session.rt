@@ -8,6 +8,7 @@ ghost use Rattle.line_protocol.specs.declared.request.Request.TheVariants.{Bye};
 ghost use Rattle.line_protocol.specs.AnswerSpelling.{answer_line};
 ghost use Rattle.line_protocol.specs.Stream.{HasNoLineFeed, IsLine, terminated};
 ghost use Rattle.line_runs.specs.RunAnswers.{Gathers};
+ghost use Rattle.line_runs.specs.declared.fault.RunFault.TheVariants.{Write as IsWrite};
 ghost use Rattle.server_sessions.specs.Answered.{BreaksOffIn, IsOfSeat, StaysBehind, TakesBytes, TakesInput};
 ghost use Rattle.server_sessions.specs.declared.line_session.SessionEnd.TheVariants.{Unread};
 ghost use Rattle.server_sessions.specs.Answering.{IsAnsweredBy, IsEndOfInput, IsGreeted, last_line, no_options, refused_as};
@@ -377,7 +378,8 @@ fn answer_waiting<'s, G: Gate + Naming, H: Wait, W: Write>(
 
 // A fault where answers wait to be written and it is known that nobody takes them.
 fn find_peer<W: Write>(out: &BytesMut, writer: &mut W) -> Result<(), RunFault>
-    ensures { Keeps (W.contents writer.old) (W.contents writer.new) }
+    ensures kept { Keeps (W.contents writer.old) (W.contents writer.new) }
+    ensures error { IfErr result (λ fault. fault ≡ IsWrite) }
 {
     if out.is_empty() {
         return Ok(());
@@ -414,9 +416,6 @@ fn answer_next<'s, G: Gate + Naming, H: Wait, W: Write>(
         → BreaksOffIn terms.options hub.now terms.names.now
         connection.old.seat connection.new.seat (terminated line.now)
         (W.contents writer.old) (W.contents writer.new) out.old.items) }
-    // A session whose seat answered that an allocation failed does not go on.
-    ensures goes_on { IfOk result (λ ending. ending ≡ None → IsSome connection.new.seat
-        → connection.new.answer ≡ Refused OutOfMemory → ⊥) }
 {
     if let Some(ending) = connection.answer(rt, hub, line) {
         return Ok(Some(ending));
@@ -434,7 +433,7 @@ fn make_room<W: Write>(out: &mut BytesMut, writer: &mut W) -> Result<(), RunFaul
     ensures ready { OnOk result (LINE_LIMIT ≤ out.new.spare) }
     ensures gathered { OnOk result
         (Gathers (W.contents writer.old) (W.contents writer.new) out.old.items out.new.items []) }
-    ensures begun { IfErr result (λ _. (n : ℕ)
+    ensures begun { IfErr result (λ fault. (fault ≡ IsWrite) × (n : ℕ)
         × Appends (W.contents writer.old) (W.contents writer.new) (take n out.old.items)) }
 {
     if out.capacity() - out.len() < LINE_LIMIT {

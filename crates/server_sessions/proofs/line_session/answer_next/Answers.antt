@@ -1,5 +1,4 @@
 use Rattle.std.proofs.Common.{[], rules}
-use Rattle.std.proofs.lemmas.Bool.{both_ways}
 use Rattle.line_runs.proofs.Gathering.{Gathers-none}
 use Rattle.line_protocol.specs.AnswerSpelling.{answer_line}
 use Rattle.server_sessions.specs.Telling.{BreaksTelling}
@@ -42,7 +41,7 @@ returns-in_err-make_room-clause-keeps g c = record {
       let new = g.W.Write.contents c.make_room.new.writer in
       let begun = c.in_err-make_room.ensures.begun in
       at_any c.from_residual.result (λ fault. BreaksTelling c.args.connection.now.terms.options.newest c.args.hub.now.epoch first last old new c.args.out.now.items)
-      (λ fault. breaks_line c.args.connection.now.terms.options.newest c.args.hub.now.epoch old new c.args.out.now.items c.put_answer.new.out.items (answer_line c.answer.new.self.answer) first last begun.0 c.put_answer.ensures.text c.in_default.ensures.answered.told begun.1);
+      (λ fault. breaks_line c.args.connection.now.terms.options.newest c.args.hub.now.epoch old new c.args.out.now.items c.put_answer.new.out.items (answer_line c.answer.new.self.answer) first last begun.1 c.put_answer.ensures.text c.in_default.ensures.answered.told begun.2);
 }
 
 -- nothing is reported
@@ -58,16 +57,16 @@ returns-in-Some-clause-keeps g c = record {
 pub returns-then-ends-clause-answered : goal.returns-then-ends-clause-answered
 returns-then-ends-clause-answered g c = λ is.
     let answer = c.answer.new.self.answer in
-    ends_without_memory c.args.connection.now.terms.options c.args.hub.now c.args.connection.now.terms.names.now c.args.connection.now.seat c.answer.new.self.seat c.args.line.now answer (g.W.Write.contents c.args.writer.now) (g.W.Write.contents c.make_room.new.writer)
-    c.args.out.now.items c.make_room.new.out.items is c.in_default.ensures.answered.line c.in_default.ensures.answered.goes_on (c.ends-ends.ensures.0 c.if-ends.true)
+    ends_without_memory c.args.connection.now.terms.options c.args.hub.now c.args.connection.now.terms.names.now c.args.connection.now.seat c.answer.new.self.seat c.args.line.now answer c.ends-ends.result (g.W.Write.contents c.args.writer.now) (g.W.Write.contents c.make_room.new.writer)
+    c.args.out.now.items c.make_room.new.out.items c.if-ends.true is c.in_default.ensures.answered.line c.in_default.ensures.answered.goes_on c.ends-ends.ensures
     (gathers_line (g.W.Write.contents c.args.writer.now) (g.W.Write.contents c.make_room.new.writer) c.args.out.now.items c.put_answer.new.out.items c.make_room.new.out.items (answer_line answer)
     c.put_answer.ensures.text c.in_ok-make_room.ensures.gathered)
 
 pub returns-else-ends-clause-answered : goal.returns-else-ends-clause-answered
 returns-else-ends-clause-answered g c = λ is.
     let answer = c.answer.new.self.answer in
-    goes_on c.args.connection.now.terms.options c.args.hub.now c.args.connection.now.terms.names.now c.args.connection.now.seat c.answer.new.self.seat c.args.line.now answer (g.W.Write.contents c.args.writer.now) (g.W.Write.contents c.make_room.new.writer)
-    c.args.out.now.items c.make_room.new.out.items is c.in_default.ensures.answered.line c.in_default.ensures.answered.goes_on
+    goes_on c.args.connection.now.terms.options c.args.hub.now c.args.connection.now.terms.names.now c.args.connection.now.seat c.answer.new.self.seat c.args.line.now answer c.ends-ends.result (g.W.Write.contents c.args.writer.now) (g.W.Write.contents c.make_room.new.writer)
+    c.args.out.now.items c.make_room.new.out.items c.if-ends.false is c.in_default.ensures.answered.line c.in_default.ensures.answered.goes_on c.ends-ends.ensures
     (gathers_line (g.W.Write.contents c.args.writer.now) (g.W.Write.contents c.make_room.new.writer) c.args.out.now.items c.put_answer.new.out.items c.make_room.new.out.items (answer_line answer)
     c.put_answer.ensures.text c.in_ok-make_room.ensures.gathered)
 
@@ -88,7 +87,4 @@ returns-in_err-make_room-clause-broke g c =
     let new = g.W.Write.contents c.make_room.new.writer in
     let begun = c.in_err-make_room.ensures.begun in
     at_any c.from_residual.result (λ fault. IsLine line → BreaksOffIn options hub names first last (terminated line) old new c.args.out.now.items)
-    (λ fault is. breaks_at_line options hub names first last line c.answer.new.self.answer old new c.args.out.now.items c.put_answer.new.out.items begun.0 is c.in_default.ensures.answered.line c.in_default.ensures.answered.goes_on c.put_answer.ensures.text begun.1)
-
-pub returns-else-ends-clause-goes_on : goal.returns-else-ends-clause-goes_on
-returns-else-ends-clause-goes_on g c = λ none seated want. both_ways c.ends-ends.result c.if-ends.false (c.ends-ends.ensures.1 (seated, want))
+    (λ fault is. breaks_at_line options hub names first last line c.answer.new.self.answer c.ends-ends.result old new c.args.out.now.items c.put_answer.new.out.items begun.1 is c.in_default.ensures.answered.line c.in_default.ensures.answered.goes_on c.ends-ends.ensures c.put_answer.ensures.text begun.2)
