@@ -5,7 +5,7 @@ import asyncio
 import select
 from typing import Any, Optional, cast
 
-from .lines import LINE_LIMIT
+from .limits import LINE_LIMIT
 from .policy import Options
 from .session import Ended, Exchange, Late, Overlong, Stale
 from .wire import UNASKED, UNENDED, cut_lines

@@ -12,6 +12,8 @@ from __future__ import annotations
 
 from typing import Optional
 
+from .limits import LINE_LIMIT, MOST_ITEMS
+
 
 class RampError(Exception):
     """The base of all errors of this package."""
@@ -139,7 +141,7 @@ REFUSALS: dict[int, tuple[str, str, str, type[Refused]]] = {
     10: ("NoTenant", "the server has no tenant of this name", "name one of the tenants that the server was started with", RefusedUse),
     11: ("NoSession", "this connection has said no hello", "say hello first", RefusedUse),
     12: ("Busy", "the client has a session on another connection, or this connection has one already", "take another client number, or end the other session", RefusedNow),
-    13: ("BadItems", "no item, more than 16, or one key twice", "give 1 to 16 different keys", RefusedUse),
+    13: ("BadItems", f"no item, more than {MOST_ITEMS}, or one key twice", f"give 1 to {MOST_ITEMS} different keys", RefusedUse),
     14: ("StampsUsed", "the client's counter is at its end: it began there, or read an item that did",
          "take a client that has read no such item; docs/OPERATING.md says more", RefusedRoom),
     15: ("FullSlots", "a partition keeps as many versions of the tenant as it has slots",
@@ -148,7 +150,7 @@ REFUSALS: dict[int, tuple[str, str, str, type[Refused]]] = {
     19: ("Stopped", "the session was stopped, as a partition refused one of its calls", "connect again", RefusedNow),
     20: ("Clash", "another record of this key and stamp is kept", "write again; where it lasts, the server has a fault", RefusedNow),
     22: ("Torn", "a reply was inconsistent", "trust no answer of this server, and keep its verdict", Torn),
-    23: ("TooMany", "a search found more than 16 items", "search for a narrower tag", RefusedUse),
+    23: ("TooMany", f"a search found more than {MOST_ITEMS} items", "search for a narrower tag", RefusedUse),
     24: ("ClientsFull", "the number is new, and the tenant has had as many numbers as it may", "end a session whose number can be used again, or start the server with more --clients", RefusedRoom),
     25: ("Late", "a partition was handed a call of the session after a later one", "connect again", RefusedNow),
     26: ("RowsUsed", "the tenant has sent as many messages as it may", "start the server anew", RefusedRoom),
@@ -156,7 +158,7 @@ REFUSALS: dict[int, tuple[str, str, str, type[Refused]]] = {
     28: ("Discarded", "a stamp of this client was discarded that is no less", "write again; where it lasts, the server has a fault", RefusedNow),
     30: ("OutOfMemory", "the server found no memory", "end sessions; give the server more memory, or less to keep", RefusedRoom),
     40: ("BadLine", "the line fits none of the forms", "see help, or docs/FORMATS.md", RefusedUse),
-    41: ("LineTooLong", "4096 bytes stood without a line's end", "send shorter lines; this connection is closed", RefusedUse),
+    41: ("LineTooLong", f"{LINE_LIMIT} bytes stood without a line's end", "send shorter lines; this connection is closed", RefusedUse),
     42: ("Cut", "the input ended inside a line", "end the last line; this connection is closed", RefusedUse),
 }
 """Of each number that a session can be refused by: its name, its cause, what to do, and its class."""

@@ -7,21 +7,21 @@ import re
 from typing import Any, Callable, Mapping, NamedTuple, NoReturn, Optional, Sequence
 
 from .errors import REFUSALS, FalseAnswer, Invalid, Refused, Restarted, refusal
+from .limits import LENGTHS, LINE_LIMIT, MOST_ITEMS
 
-LINE_LIMIT = 4096
-MOST_ITEMS = 16
 MOST_COUNTER = (1 << 40) - 1
 
 
-def _kind(least: int, most: int, sign: str, words: str) -> tuple[int, int, str, str]:
+def _kind(kind: str, sign: str, words: str) -> tuple[int, int, str, str]:
+    least, most = LENGTHS[kind]
     return least, most, sign, f"{least} to {most} bytes {words}"
 
 
 KINDS = {
-    "key": _kind(1, 32, r"[a-z0-9_./-]", "of a-z 0-9 _ . / -"),
-    "tag": _kind(1, 16, r"[a-z0-9_./-]", "of a-z 0-9 _ . / -"),
-    "value": _kind(0, 128, r"[!-~]", "from ! to ~; ramp_client.codec writes other text, and bytes"),
-    "tenant": _kind(1, 16, r"[a-z0-9_]", "of a-z 0-9 _"),
+    "key": _kind("key", r"[a-z0-9_./-]", "of a-z 0-9 _ . / -"),
+    "tag": _kind("tag", r"[a-z0-9_./-]", "of a-z 0-9 _ . / -"),
+    "value": _kind("value", r"[!-~]", "from ! to ~; ramp_client.codec writes other text, and bytes"),
+    "tenant": _kind("tenant", r"[a-z0-9_]", "of a-z 0-9 _"),
 }
 """Of each kind of word: its least and most bytes, those that may stand in it, and this in words."""
 
@@ -162,7 +162,7 @@ def _items(call: Call, rest: str) -> dict[str, Item]:
 
 
 def _listed(call: Call, rest: str) -> dict[str, Item]:
-    """The items of a search: written, different, under its tag, 16 at most."""
+    """The items of a search: written, different, under its tag, `MOST_ITEMS` at most."""
     told: dict[str, Item] = {}
     words = rest.split(" ") if rest else []
     for word in words:

@@ -6,7 +6,7 @@ import socket
 import time
 from typing import Any, Optional
 
-from .lines import LINE_LIMIT
+from .limits import LINE_LIMIT
 from .policy import Options
 from .session import Ended, Exchange, Late, Overlong, Stale
 

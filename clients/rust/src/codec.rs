@@ -26,6 +26,9 @@ const HEAD: usize = 2;
 /// The most keys of a record: one for each hexadecimal digit.
 const MOST_PARTS: usize = 16;
 
+/// The most bytes of an encoded record.
+pub(crate) const MOST_SIGNS: usize = MOST_PARTS * MOST_VALUE - HEAD;
+
 /// What a record holds.
 #[derive(Clone, Debug, PartialEq, Eq)]
 pub enum Content {

@@ -106,21 +106,6 @@ impl Error {
 }
 
 impl Part {
-    /// What is allowed, as text.
-    fn takes(self) -> &'static str {
-        match self {
-            Part::Key => "1 to 32 bytes of a-z 0-9 _ . / -",
-            Part::Tag => "1 to 16 bytes of a-z 0-9 _ . / -",
-            Part::Value => "0 to 128 bytes from ! to ~",
-            Part::Tenant => "1 to 16 bytes of a-z 0-9 _",
-            Part::Line => "1 to 4094 bytes without a line's end",
-            Part::Items => "1 to 16 different keys",
-            Part::Number => "a number from 1 to 65535",
-            Part::Url => "ramp://HOST:PORT/TENANT",
-            Part::Record => "a key of 1 to 30 bytes, and up to 2046 bytes once encoded",
-        }
-    }
-
     fn name(self) -> &'static str {
         match self {
             Part::Items => "items",

@@ -1,5 +1,6 @@
 //! Encodes requests as lines, and decodes answers strictly.
 
+use crate::codec::MOST_SIGNS;
 use crate::error::{Error, Fault, Invalid, Part};
 use crate::refusal::Refusal;
 use crate::{Answer, Item, Write};
@@ -59,14 +60,20 @@ struct Rule {
     least: usize,
     most: usize,
     is_allowed: fn(u8) -> bool,
+    /// Which bytes these are, as text.
+    allowed: &'static str,
 }
 
-const KEY: Rule = Rule { part: Part::Key, least: 1, most: 32, is_allowed: is_name_byte };
+const KEY: Rule = Rule { part: Part::Key, least: 1, most: 32, is_allowed: is_name_byte, allowed: "of a-z 0-9 _ . / -" };
 const TAG: Rule = Rule { part: Part::Tag, most: 16, ..KEY };
-const TENANT: Rule = Rule { part: Part::Tenant, least: 1, most: 16, is_allowed: is_tenant_byte };
-const VALUE: Rule = Rule { part: Part::Value, least: 0, most: MOST_VALUE, is_allowed: is_value_byte };
+const TENANT: Rule = Rule { part: Part::Tenant, least: 1, most: 16, is_allowed: is_tenant_byte, allowed: "of a-z 0-9 _" };
+const VALUE: Rule = Rule { part: Part::Value, least: 0, most: MOST_VALUE, is_allowed: is_value_byte, allowed: "from ! to ~" };
 
 impl Rule {
+    fn takes(&self) -> String {
+        format!("{} to {} bytes {}", self.least, self.most, self.allowed)
+    }
+
     fn fault(&self, text: &str) -> Option<Fault> {
         let at = text.bytes().position(|byte| !(self.is_allowed)(byte));
         match at {
@@ -83,6 +90,23 @@ impl Rule {
     /// Returns the text if it is allowed. Otherwise it might be read as several words, or as another line.
     fn check<'a>(&self, key: &str, text: &'a str) -> Result<&'a str, Error> {
         self.fault(text).map_or(Ok(text), |fault| Err(invalid(self.part, text, key, fault)))
+    }
+}
+
+impl Part {
+    /// What is allowed, as text.
+    pub(crate) fn takes(self) -> String {
+        match self {
+            Part::Key => KEY.takes(),
+            Part::Tag => TAG.takes(),
+            Part::Value => VALUE.takes(),
+            Part::Tenant => TENANT.takes(),
+            Part::Line => format!("1 to {} bytes without a line's end", LINE_LIMIT - 2),
+            Part::Items => format!("1 to {MOST_ITEMS} different keys"),
+            Part::Number => "a number from 1 to 65535".into(),
+            Part::Url => "ramp://HOST:PORT/TENANT".into(),
+            Part::Record => format!("a key of 1 to {} bytes, and up to {MOST_SIGNS} bytes once encoded", KEY.most - 2),
+        }
     }
 }
 
