@@ -1,6 +1,6 @@
 """More than 16 items under a tag.
 
-A search returns 16 items at most, and is refused if more items carry the tag. So a list has pages: the tags `open.0`, `open.1`, .. have 16
+A search returns 16 items at most, and is refused if more items carry the tag. So a list has pages: the tags `open.0`, `open.1`, .. have PAGE
 items each. A further item counts the items that were ever added, and is written with each new one. One client adds; any number read.
 
 Server: ramp serve --stay --epoch 1000 --sessions 8 t"""
@@ -36,14 +36,14 @@ def main(url):
         assert len(found) == 49 and "order/007" not in found
 
         with client.pipeline() as pipeline:
-            for n in range(17):
+            for n in range(PAGE + 1):
                 pipeline.put({f"plain/{n}": "1"}, tag="plain")
         try:
             client.find("plain")
         except ramp_client.RefusedUse as refused:
-            print("17 under one tag:", refused)
+            print(f"{PAGE + 1} under one tag:", refused)
         else:
-            raise AssertionError("17 items were found")
+            raise AssertionError(f"{PAGE + 1} items were found")
 
 
 if __name__ == "__main__":
