@@ -2,8 +2,8 @@
 use crate::values::{item, key, no_parts, record, stamp};
 use bytes::BytesMut;
 use line_protocol::{
-    Lines, Name, NoRoom, Request, read_cell_line, read_serve_line, read_step_line, write_answer,
-    write_reply,
+    LINE_LIMIT, Lines, Name, NoRoom, Request, read_cell_line, read_serve_line, read_step_line,
+    write_answer, write_reply,
 };
 use plain_store::{
     Act, Answer, Call, DiscardReply, Found, PrepareReply, ReadReply, Reading, Readings, Refusal,
@@ -78,7 +78,7 @@ refused 27
 /// Whether each reply of a cell is written as its line.
 fn are_replies(alloc: Global) -> Option<bool> {
     let _named = no_parts();
-    let mut out = BytesMut::with_capacity(alloc, 8192).ok()?;
+    let mut out = BytesMut::with_capacity(alloc, 2 * LINE_LIMIT).ok()?;
     let version = ReadReply::Version(record("x", 1)?);
     let collected = ReadReply::Collected(stamp(1)?);
     let found = Found::new(1, &[key("x")?]);
@@ -162,7 +162,7 @@ fn are_ended(out: &mut BytesMut) -> Option<bool> {
 
 /// Whether each answer is written as its line.
 fn are_answers(alloc: Global) -> Option<bool> {
-    let mut out = BytesMut::with_capacity(alloc, 8192).ok()?;
+    let mut out = BytesMut::with_capacity(alloc, 2 * LINE_LIMIT).ok()?;
     let holds = are_begun(&mut out)? && are_ended(&mut out)?;
     Some(holds && out.as_slice() == ANSWERS.as_bytes())
 }
