@@ -8,13 +8,13 @@ use Rattle.version_chain.specs.declared.version.Version.{Version}
 use Rattle.version_chain.specs.declared.stamp_list.Kept.{Kept}
 use Rattle.version_chain.specs.Heads.{Heads, head}
 use Rattle.version_chain.specs.Chain.{Cells, IsPath, HoldsChains, OtherChainsKept, chain_versions, is_open_at, without_open}
-use Rattle.version_chain.specs.Listed.{is_at_stamp, is_named, node_at, node_in, NodesStay, NoneCome, is_open_node, Lists, IsSwept}
+use Rattle.version_chain.specs.Listed.{is_at_stamp, is_named, node_at, node_in, NodesStay, NoneCome, is_open_node, held_at, Names, IsSwept}
 use Rattle.version_chain.specs.Sharing.{ChangesOwn}
 use Rattle.version_chain.specs.Changes.{GivesUp}
 use Rattle.version_chain.specs.Discarded.{DropsOpen, FreesOnly, IsSweptBut}
 use Rattle.version_chain.proofs.Changing.{gives_none, own_next, own_none}
 use Rattle.version_chain.proofs.Dropping.{stays}
-use Rattle.version_chain.proofs.Listing.{one_if, cons, both, count_le, first_of, lists_left, second_of}
+use Rattle.version_chain.proofs.Listing.{one_if, cons, both, count_le, first_of, names_left, second_of}
 use Rattle.version_chain.proofs.Places.{places, has_place}
 use Rattle.version_chain.proofs.Replacing.{same_or_not}
 use Rattle.version_chain.proofs.Slots.{placed}
@@ -65,11 +65,11 @@ freed_nodes old new here freed slot = elim (same_or_not slot here) [
 ]
 
 -- what a cell holds says whether it is of the tenant and stamp
-abbrev at_node : ℕ → ℕ → Option Node → Bool
+abbrev pub at_node : ℕ → ℕ → Option Node → Bool
 at_node tenant stamp None = false
 at_node tenant stamp (Some node) = (node.tenant == tenant) && (node.version.prepared.stamp == stamp)
 
-by_node : (tenant stamp : ℕ) (e : Option (Node × Option ℕ)) → is_at_stamp tenant stamp e ≡ at_node tenant stamp (node_at e)
+pub by_node : (tenant stamp : ℕ) (e : Option (Node × Option ℕ)) → is_at_stamp tenant stamp e ≡ at_node tenant stamp (node_at e)
 by_node tenant stamp None = refl
 by_node tenant stamp (Some cell) = refl
 
@@ -156,18 +156,18 @@ each_left old new before after stamp chain others here other known = elim (same_
 pub record SoDropped (start now : Cells) (old chains : Heads) (stamp j dropped : ℕ) : Type 0 where
   pub own : ChangesOwn start now old chains
   pub stands : HoldsChains now chains
-  pub listed : Lists now chains
+  pub named : Names now chains
   pub list : chains.kept ≡ old.kept
   pub left : (chain : ℕ) → chain < length old.heads → without_open stamp (chain_versions now chains chain) ≡ without_open stamp (chain_versions start old chain)
   pub done : (i : ℕ) (k : Kept) → i < j → i < length (places old stamp) → k ≡ get_or (places old stamp) i k → is_open_node old.tenant stamp (node_in now k.slot) ≡ false
   pub still : (place : ℕ) → is_open_node old.tenant stamp (node_in start place) ≡ false → node_in now place ≡ node_in start place
   pub given_up : GivesUp dropped start old now chains
 
-pub none_dropped : (start : Cells) (old : Heads) (stamp : ℕ) → HoldsChains start old → Lists start old → SoDropped start start old old stamp 0 0
-none_dropped start old stamp stands listed = record {
+pub none_dropped : (start : Cells) (old : Heads) (stamp : ℕ) → HoldsChains start old → Names start old → SoDropped start start old old stamp 0 0
+none_dropped start old stamp stands named = record {
   own = own_none start old;
   stands = stands;
-  listed = listed;
+  named = named;
   list = refl;
   left = λ chain known. refl;
   done = λ i k less within is. absurd (omega (arith, less));
@@ -188,7 +188,7 @@ module _ (start now next : Cells) (old chains after : Heads) (stamp j dropped r 
   one_dropped = record {
     own = own_next start now next old chains after was.own own;
     stands = stands;
-    listed = lists_left now next chains after own.shape.tenant dropping.list (none_come now next chains.tenant dropping.nodes) was.listed;
+    named = names_left now next chains after own.shape.tenant dropping.list (none_come now next chains.tenant dropping.nodes) was.named;
     list = dropping.list ∙ was.list;
     left = λ chain known. left chain (omega (arith, known, was.own.shape.long)) ∙ was.left chain known;
     done = λ i k less there at. elim (same_or_not i j) [
@@ -252,7 +252,7 @@ module _ (start now : Cells) (old chains : Heads) (stamp j dropped : ℕ) (was :
   all_shut : (slot : ℕ) → is_open_node chains.tenant stamp (node_in now slot) ≡ false
   all_shut slot = false_from_ne_true (is_open_node chains.tenant stamp (node_in now slot)) (λ e.
       let there = open_there chains.tenant stamp (entry now slot) e in
-      let at = found (λ (k : Kept). (k.slot == slot) && (k.stamp == stamp)) (places chains stamp) (has_place now chains was.stands was.listed stamp slot there) in
+      let at = found (λ (k : Kept). (k.slot == slot) && (k.stamp == stamp)) (places chains stamp) (has_place now chains was.stands was.named stamp slot there) in
       let same : at.1.slot ≡ slot = eqb-true at.1.slot slot (first_of (at.1.slot == slot) (at.1.stamp == stamp) at.4) in
       let P : List Kept → Type 0 = λ ks. (at.0 < length ks) × (at.1 ≡ get_or ks at.0 at.1) in
       let here : P (places old stamp) = subst P (places_of chains old stamp was.list) (at.2, at.3) in
@@ -299,7 +299,7 @@ swept_but start now old chains stamp j dropped was swept =
 
 -- ---- a slot that is held
 
-module _ (cells : Cells) (tenant inside stamp slot : ℕ) (node : Node) (read : entry cells slot ≡ Some (node, next_beside cells slot)) (same : inside ≡ tenant) (named : is_named inside cells (record { stamp = stamp; slot = slot }) ≡ true) where
+module _ (cells : Cells) (tenant inside stamp slot : ℕ) (node : Node) (read : entry cells slot ≡ Some (node, next_beside cells slot)) (same : inside ≡ tenant) (named : is_named inside cells (held_at stamp slot) ≡ true) where
   pub held_own : node.tenant ≡ tenant
   held_own = eqb-true node.tenant inside (first_of (node.tenant == inside) (node.version.prepared.stamp == stamp) (ap (is_at_stamp inside stamp) (sym read) ∙ named)) ∙ same
 
@@ -307,7 +307,7 @@ pub held_known : (cells : Cells) (chains : Heads) (slot : ℕ) (node : Node) →
 held_known cells chains slot node stands read own = (placed cells chains stands slot node (next_beside cells slot) read own).known
 
 -- a slot that is not
-pub not_held : (cells : Cells) (tenant inside stamp slot : ℕ) → inside ≡ tenant → is_named inside cells (record { stamp = stamp; slot = slot }) ≡ false → is_open_node tenant stamp (node_in cells slot) ≡ false
+pub not_held : (cells : Cells) (tenant inside stamp slot : ℕ) → inside ≡ tenant → is_named inside cells (held_at stamp slot) ≡ false → is_open_node tenant stamp (node_in cells slot) ≡ false
 not_held cells tenant inside stamp slot same none =
     ap (λ t. is_open_node t stamp (node_in cells slot)) (sym same)
     ∙ false_from_ne_true (is_open_node inside stamp (node_in cells slot)) (λ e. absurd (let g : false ≡ true = sym none ∙ open_there inside stamp (entry cells slot) e in cc))

@@ -1,6 +1,7 @@
 pub mod Answered
 pub mod Changing
 mod Committed
+mod CutMarks
 mod Cutting
 mod Discarding
 mod Dropping

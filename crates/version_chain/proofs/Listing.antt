@@ -1,5 +1,5 @@
 -- For `Chains`: insert, cut_below and sweep. The list of the kept versions after a change.
-use Rattle.std.proofs.Common.{◌≡◌, inl, inr, ℕ, zero, suc, ◌+◌, ◌≤◌, ◌==◌, ◌&&◌, not, Bool, true, false, cond, List, [], ◌∷◌, filter, map, length, insert, count_by, sum_by, Option, Some, None, refl, sym, ap, ◌∙◌, arith}
+use Rattle.std.proofs.Common.{◌≡◌, inl, inr, ℕ, zero, suc, ◌+◌, ◌≤◌, ◌==◌, ◌&&◌, ◌⊎◌, not, Bool, true, false, cond, if◌then◌else◌, List, [], ◌∷◌, filter, map, length, insert, count_by, sum_by, Option, Some, None, refl, sym, ap, ◌∙◌, arith}
 use Rattle.std.proofs.lemmas.Bool.{eq-eqb, ne_eqb, cases_Bool, eqb-true}
 use Rattle.std.proofs.lemmas.List.Sums.{sum_by-cons}
 use Rattle.version_arena.specs.Arena.{entry}
@@ -7,7 +7,7 @@ use Rattle.version_chain.specs.declared.version.Node.{Node}
 use Rattle.version_chain.specs.declared.stamp_list.Kept.{Kept}
 use Rattle.version_chain.specs.Heads.{Heads}
 use Rattle.version_chain.specs.Chain.{Cells, HoldsChains, is_of_tenant}
-use Rattle.version_chain.specs.Listed.{is_at_stamp, is_named, with_kept, Lists, IsSwept, IsListedInto, IsPutAt, NoneCome, NoneMove}
+use Rattle.version_chain.specs.Listed.{held_at, is_at_stamp, is_mismarked, is_named, with_kept, Lists, Names, IsSwept, IsListedInto, IsPutAt, NoneCome, NoneMove}
 use Rattle.version_chain.proofs.Others.{ones}
 use Rattle.version_chain.proofs.Picking.{Lacks, Apart, picked_at, at_most}
 use Rattle.version_chain.proofs.Replacing.{same_or_not}
@@ -39,6 +39,16 @@ module _ {X : Type 0} where
         | inr e ↦ grind (arith, cons, count_le p q xs h)
       ]
 
+  -- what passes one test passes one of two others
+  count_either : (p q r : X → Bool) (xs : List X) → ((x : X) → p x ≡ true → (q x ≡ true) ⊎ (r x ≡ true)) → count_by p xs ≤ count_by q xs + count_by r xs
+  count_either p q r [] h = omega arith
+  count_either p q r (x ∷ xs) h =
+      let rest = count_either p q r xs h in
+      elim (cases_Bool (p x)) [
+        | inl e ↦ elim (h x e) [ inl f ↦ grind (arith, cons, rest) | inr f ↦ grind (arith, cons, rest) ]
+        | inr e ↦ grind (arith, cons, rest)
+      ]
+
 not_not : (b : Bool) → not b ≡ false → b ≡ true
 not_not true e = refl
 not_not false e = absurd (let f : true ≡ false = e in cc)
@@ -63,9 +73,9 @@ second_of false b e = absurd (let g : false ≡ true = e in cc)
 pub stands_with : (cells : Cells) (chains : Heads) (kept : List Kept) → HoldsChains cells chains → HoldsChains cells (with_kept chains kept)
 stands_with cells chains kept stands = record { chained = stands.chained; falling = stands.falling; counted = stands.counted; owned = stands.owned; fits = stands.fits; long = stands.long; latest = stands.latest }
 
--- after a cut
-pub lists_left : (old new : Cells) (before after : Heads) → after.tenant ≡ before.tenant → after.kept ≡ before.kept → NoneCome old new before.tenant → Lists old before → Lists new after
-lists_left old new before after whose kept none lists = record {
+-- after versions of the tenant left their cells
+pub names_left : (old new : Cells) (before after : Heads) → after.tenant ≡ before.tenant → after.kept ≡ before.kept → NoneCome old new before.tenant → Names old before → Names new after
+names_left old new before after whose kept none lists = record {
   once = λ slot. (let same = ap (count_by (λ (k : Kept). k.slot == slot)) kept in omega (arith, same, lists.once slot));
   all = λ slot stamp there.
       let more = lists.all slot stamp (none slot stamp (ap (λ t. is_at_stamp t stamp (entry new slot)) (sym whose) ∙ there)) in
@@ -75,8 +85,8 @@ lists_left old new before after whose kept none lists = record {
 
 -- after a sweep
 module _ (cells : Cells) (chains : Heads) (kept : List Kept) (is : kept ≡ filter (is_named chains.tenant cells) chains.kept) where
-  pub lists_swept : Lists cells chains → Lists cells (with_kept chains kept)
-  lists_swept lists = record {
+  pub names_swept : Names cells chains → Names cells (with_kept chains kept)
+  names_swept lists = record {
     once = λ slot.
         let one = ap (count_by (λ (k : Kept). k.slot == slot)) is ∙ count_filter (λ (k : Kept). k.slot == slot) (is_named chains.tenant cells) chains.kept in
         let less = count_le (λ (k : Kept). is_named chains.tenant cells k && (k.slot == slot)) (λ (k : Kept). k.slot == slot) chains.kept (λ k e. second_of (is_named chains.tenant cells k) (k.slot == slot) e) in
@@ -108,6 +118,59 @@ module _ (cells : Cells) (chains : Heads) (kept : List Kept) (is : kept ≡ filt
       no_count : (xs : List Kept) → count_by (λ (k : Kept). false) xs ≡ 0
       no_count [] = refl
       no_count (x ∷ xs) = omega (arith, cons (λ (k : Kept). false) x xs, no_count xs)
+
+  -- what is left is marked where none was cut, or where all marks were right
+  pub lists_uncut : count_by (λ (k : Kept). k.is_cut) chains.kept ≡ 0 → Names cells chains → Lists cells (with_kept chains kept)
+  lists_uncut uncut names = record {
+    named = names_swept names;
+    marked =
+        let p = λ (k : Kept). is_mismarked chains.tenant cells k in
+        let one = ap (count_by p) is ∙ count_filter p (is_named chains.tenant cells) chains.kept in
+        let less = count_le (λ (k : Kept). is_named chains.tenant cells k && p k) (λ (k : Kept). k.is_cut) chains.kept
+        (λ k e. cut_named k.is_cut (is_named chains.tenant cells k) (first_of (is_named chains.tenant cells k) (p k) e) (second_of (is_named chains.tenant cells k) (p k) e)) in
+        omega (arith, one, less, uncut);
+  }
+    where
+      cut_named : (cut named : Bool) → named ≡ true → (if cut then named else not named) ≡ true → cut ≡ true
+      cut_named true named e f = refl
+      cut_named false named e f = absurd (true_not named e f)
+
+  pub lists_swept : Lists cells chains → Lists cells (with_kept chains kept)
+  lists_swept lists = record {
+    named = names_swept lists.named;
+    marked =
+        let p = λ (k : Kept). is_mismarked chains.tenant cells k in
+        let one = ap (count_by p) is ∙ count_filter p (is_named chains.tenant cells) chains.kept in
+        let less = count_le (λ (k : Kept). is_named chains.tenant cells k && p k) p chains.kept (λ k e. second_of (is_named chains.tenant cells k) (p k) e) in
+        omega (arith, one, less, lists.marked);
+  }
+
+-- where all marks are right, those that are not cut are those that are held
+module _ (cells : Cells) (tenant : ℕ) where
+  pub uncut_named : (kept : List Kept) → count_by (λ (k : Kept). is_mismarked tenant cells k) kept ≡ 0 → filter (λ (k : Kept). not k.is_cut) kept ≡ filter (is_named tenant cells) kept
+  uncut_named [] none = refl
+  uncut_named (k ∷ kept) none =
+      let all = cons (λ (x : Kept). is_mismarked tenant cells x) k kept in
+      let rest = uncut_named kept (omega (arith, all, none)) in
+      let this : not k.is_cut ≡ is_named tenant cells k = told k.is_cut (is_named tenant cells k) (omega (arith, all, none)) in
+      (λ i. cond (this i) (k ∷ rest i) (rest i))
+    where
+      told : (cut named : Bool) → one_if (if cut then named else not named) ≡ 0 → not cut ≡ named
+      told true true e = absurd (omega (arith, e))
+      told true false e = refl
+      told false true e = refl
+      told false false e = absurd (omega (arith, e))
+
+-- a swept list has no mark
+pub none_cut : (cells : Cells) (chains : Heads) → Lists cells chains → IsSwept cells chains → count_by (λ (k : Kept). k.is_cut) chains.kept ≡ 0
+none_cut cells chains lists swept =
+    let either = count_either (λ (k : Kept). k.is_cut) (λ (k : Kept). is_mismarked chains.tenant cells k) (λ (k : Kept). not (is_named chains.tenant cells k)) chains.kept (λ k e. one_of k.is_cut (is_named chains.tenant cells k) e) in
+    omega (arith, either, lists.marked, swept)
+  where
+    one_of : (cut named : Bool) → cut ≡ true → ((if cut then named else not named) ≡ true) ⊎ (not named ≡ true)
+    one_of true true e = inl refl
+    one_of true false e = inr refl
+    one_of false named e = absurd (let g : false ≡ true = e in cc)
 
 -- a swept list has no more than the tenant uses
 pub apart_from : (kept : List Kept) → ((slot : ℕ) → count_by (λ (k : Kept). k.slot == slot) kept ≤ 1) → Apart (map (λ (k : Kept). k.slot) kept)
@@ -143,20 +206,20 @@ module _ (cells : Cells) (chains : Heads) (stands : HoldsChains cells chains) (l
 
   pub no_more_listed : length chains.kept ≤ chains.used
   no_more_listed =
-      let few = at_most (ones chains.tenant) None refl (map (λ (k : Kept). k.slot) chains.kept) cells (apart_from chains.kept lists.once) in
+      let few = at_most (ones chains.tenant) None refl (map (λ (k : Kept). k.slot) chains.kept) cells (apart_from chains.kept lists.named.once) in
       omega (arith, few, each_one chains.kept swept, stands.owned)
 
   -- after a version came
-  module _ (new : Cells) (after : Heads) (stamp slot : ℕ) (whose : after.tenant ≡ chains.tenant) (put : IsPutAt cells new chains.tenant stamp slot) (listed : IsListedInto chains.kept after.kept (record { stamp = stamp; slot = slot })) where
-    added : (p : Kept → Bool) → count_by p after.kept ≡ cond (p (record { stamp = stamp; slot = slot })) 1 0 + count_by p chains.kept
-    added p = listed p ∙ cons p (record { stamp = stamp; slot = slot }) chains.kept
+  module _ (new : Cells) (after : Heads) (stamp slot : ℕ) (whose : after.tenant ≡ chains.tenant) (put : IsPutAt cells new chains.tenant stamp slot) (listed : IsListedInto chains.kept after.kept (held_at stamp slot)) where
+    added : (p : Kept → Bool) → count_by p after.kept ≡ cond (p (held_at stamp slot)) 1 0 + count_by p chains.kept
+    added p = listed p ∙ cons p (held_at stamp slot) chains.kept
 
     -- no listed version is in the slot
     not_there : (k : Kept) → k.slot ≡ slot → not (is_named chains.tenant cells k) ≡ true
     not_there k same = ap (λ e. not (is_at_stamp chains.tenant k.stamp e)) (ap (entry cells) same ∙ put.was_free)
 
-    pub lists_put : Lists new after
-    lists_put = record {
+    names_put : Names new after
+    names_put = record {
       once = λ place. elim (same_or_not slot place) [
         | inl same ↦
             let none = count_le (λ (k : Kept). k.slot == place) (λ (k : Kept). not (is_named chains.tenant cells k)) chains.kept (λ k e. not_there k (eqb-true k.slot place e ∙ sym same)) in
@@ -164,7 +227,7 @@ module _ (cells : Cells) (chains : Heads) (stands : HoldsChains cells chains) (l
             omega (arith, added (λ (k : Kept). k.slot == place), none, swept, one)
         | inr other ↦
             let zero_there = ap one_if (ne_eqb slot place other) in
-            omega (arith, added (λ (k : Kept). k.slot == place), lists.once place, zero_there)
+            omega (arith, added (λ (k : Kept). k.slot == place), lists.named.once place, zero_there)
       ];
       all = λ place when there. elim (same_or_not place slot) [
         | inl same ↦
@@ -173,14 +236,14 @@ module _ (cells : Cells) (chains : Heads) (stands : HoldsChains cells chains) (l
             omega (arith, added (λ (k : Kept). (k.slot == place) && (k.stamp == when)), one)
         | inr other ↦
             let was = sym (put.rest place when other) ∙ ap (λ t. is_at_stamp t when (entry new place)) (sym whose) ∙ there in
-            omega (arith, added (λ (k : Kept). (k.slot == place) && (k.stamp == when)), lists.all place when was)
+            omega (arith, added (λ (k : Kept). (k.slot == place) && (k.stamp == when)), lists.named.all place when was)
       ];
     }
 
     pub swept_put : IsSwept new after
     swept_put =
         let p = λ (k : Kept). not (is_named after.tenant new k) in
-        let this : is_named after.tenant new (record { stamp = stamp; slot = slot }) ≡ true = ap (λ t. is_at_stamp t stamp (entry new slot)) whose ∙ put.held stamp ∙ eq-eqb stamp stamp refl in
+        let this : is_named after.tenant new (held_at stamp slot) ≡ true = ap (λ t. is_at_stamp t stamp (entry new slot)) whose ∙ put.held stamp ∙ eq-eqb stamp stamp refl in
         let none = ap one_unless this in
         let rest = count_le p (λ (k : Kept). not (is_named chains.tenant cells k)) chains.kept (λ k e. elim (same_or_not k.slot slot) [
           | inl same ↦ not_there k same
@@ -188,9 +251,33 @@ module _ (cells : Cells) (chains : Heads) (stands : HoldsChains cells chains) (l
         ]) in
         omega (arith, added p, none, rest, swept)
 
+    pub lists_put : Lists new after
+    lists_put = record {
+      named = names_put;
+      marked =
+          let p = λ (k : Kept). is_mismarked after.tenant new k in
+          let none = ap one_unless held in
+          let rest = count_either p (λ (k : Kept). is_mismarked chains.tenant cells k) (λ (k : Kept). not (is_named chains.tenant cells k)) chains.kept each in
+          omega (arith, added p, none, rest, lists.marked, swept);
+    }
+      where
+        held : is_named after.tenant new (held_at stamp slot) ≡ true
+        held = ap (λ t. is_at_stamp t stamp (entry new slot)) whose ∙ put.held stamp ∙ eq-eqb stamp stamp refl
+
+        each : (k : Kept) → is_mismarked after.tenant new k ≡ true → (is_mismarked chains.tenant cells k ≡ true) ⊎ (not (is_named chains.tenant cells k) ≡ true)
+        each k e = elim (same_or_not k.slot slot) [
+          | inl same ↦ inr (not_there k same)
+          | inr other ↦ inl (ap (λ b. if k.is_cut then b else not b) (sym (put.rest k.slot k.stamp other) ∙ ap (λ t. is_at_stamp t k.stamp (entry new k.slot)) (sym whose)) ∙ e)
+        ]
+
 -- after a mark
 pub lists_same : (old new : Cells) (chains : Heads) → NoneMove old new chains.tenant → Lists old chains → Lists new chains
-lists_same old new chains same lists = record { once = lists.once; all = λ slot stamp there. lists.all slot stamp (sym (same slot stamp) ∙ there) }
+lists_same old new chains same lists = record {
+  named = record { once = lists.named.once; all = λ slot stamp there. lists.named.all slot stamp (sym (same slot stamp) ∙ there) };
+  marked =
+      let less = count_le (λ (k : Kept). is_mismarked chains.tenant new k) (λ (k : Kept). is_mismarked chains.tenant old k) chains.kept (λ k e. ap (λ b. if k.is_cut then b else not b) (sym (same k.slot k.stamp)) ∙ e) in
+      omega (arith, less, lists.marked);
+}
 
 pub swept_same : (old new : Cells) (chains : Heads) → NoneMove old new chains.tenant → IsSwept old chains → IsSwept new chains
 swept_same old new chains same swept =
@@ -200,10 +287,13 @@ swept_same old new chains same swept =
 -- no version as yet
 pub lists_none : (cells : Cells) (chains : Heads) → chains.kept ≡ [] → count_by (is_of_tenant chains.tenant) cells ≡ 0 → Lists cells chains
 lists_none cells chains none empty = record {
-  once = λ slot. (let nil = ap (count_by (λ (k : Kept). k.slot == slot)) none in omega (arith, nil));
-  all = λ slot stamp there.
-      let one = ap one_if (own_at chains.tenant stamp (entry cells slot) there) in
-      let few = at_most (ones chains.tenant) None refl (slot ∷ []) cells (tt, tt) in
-      let this = sum_by-cons (picked_at (ones chains.tenant) None cells) slot [] in
-      absurd (omega (arith, one, few, this, empty));
+  named = record {
+    once = λ slot. (let nil = ap (count_by (λ (k : Kept). k.slot == slot)) none in omega (arith, nil));
+    all = λ slot stamp there.
+        let one = ap one_if (own_at chains.tenant stamp (entry cells slot) there) in
+        let few = at_most (ones chains.tenant) None refl (slot ∷ []) cells (tt, tt) in
+        let this = sum_by-cons (picked_at (ones chains.tenant) None cells) slot [] in
+        absurd (omega (arith, one, few, this, empty));
+  };
+  marked = ap (count_by (λ (k : Kept). is_mismarked chains.tenant cells k)) none;
 }

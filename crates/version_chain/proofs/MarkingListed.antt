@@ -7,7 +7,7 @@ use Rattle.version_chain.specs.declared.version.Node.{Node}
 use Rattle.version_chain.specs.declared.stamp_list.Kept.{Kept}
 use Rattle.version_chain.specs.Heads.{Heads, latest_slot}
 use Rattle.version_chain.specs.Chain.{Cells, HoldsChains, chain_versions, at_stamp, IsMarkedAt}
-use Rattle.version_chain.specs.Listed.{is_at_stamp, is_named, chain_of, chain_in, with_latest, NoneMove}
+use Rattle.version_chain.specs.Listed.{is_at_stamp, is_named, chain_of, chain_in, held_at, with_latest, NoneMove}
 use Rattle.version_chain.specs.Place.{IsPlace, is_past}
 use Rattle.version_chain.proofs.Finding.{last_is, found_at}
 use Rattle.version_chain.proofs.Latest.{first_committed}
@@ -106,7 +106,7 @@ module _ (cells : Cells) (chains : Heads) (chain stamp : ℕ) (last here : Optio
   whose_at : node ≡ record { tenant = chains.tenant; chain = chain; version = node.version }
   whose_at = (last_is cells chains chain stamp here slot node (subst (λ l. IsPlace cells chains chain stamp l here) is place) read).node_is
 
-  pub named_at : node.version.prepared.stamp ≡ stamp → is_named chains.tenant cells (record { stamp = stamp; slot = slot }) ≡ true
+  pub named_at : node.version.prepared.stamp ≡ stamp → is_named chains.tenant cells (held_at stamp slot) ≡ true
   named_at same =
       ap (is_at_stamp chains.tenant stamp) read
       ∙ both (node.tenant == chains.tenant) (node.version.prepared.stamp == stamp) (eq-eqb node.tenant chains.tenant (ap (λ (n : Node). n.tenant) whose_at)) (eq-eqb node.version.prepared.stamp stamp same)

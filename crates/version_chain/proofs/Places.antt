@@ -10,7 +10,7 @@ use Rattle.version_chain.specs.declared.stamp_list.Kept.{Kept}
 use Rattle.version_chain.specs.Changes.{IsRunOf}
 use Rattle.version_chain.specs.Heads.{Heads, head}
 use Rattle.version_chain.specs.Chain.{Cells, IsPath, HoldsChains, chain_versions, follow}
-use Rattle.version_chain.specs.Listed.{is_at_stamp, is_named, chain_of, chain_in, Lists, IsSwept}
+use Rattle.version_chain.specs.Listed.{is_at_stamp, is_named, chain_of, chain_in, Names, IsSwept}
 use Rattle.version_chain.proofs.Listing.{one_if, cons, count_filter, count_le, both, first_of, second_of, own_at, apart_from}
 use Rattle.version_chain.proofs.Others.{ones}
 use Rattle.version_chain.proofs.Picking.{Has, picked_at, is_all}
@@ -50,7 +50,7 @@ and_and true true e = refl
 and_and true false e = absurd (let g : false ≡ true = e in cc)
 and_and false b e = absurd (let g : false ≡ true = e in cc)
 
-module _ (cells : Cells) (chains : Heads) (stands : HoldsChains cells chains) (lists : Lists cells chains) (stamp : ℕ) where
+module _ (cells : Cells) (chains : Heads) (stands : HoldsChains cells chains) (lists : Names cells chains) (stamp : ℕ) where
   once_there : (slot : ℕ) → count_by (λ (k : Kept). k.slot == slot) (places chains stamp) ≤ 1
   once_there slot =
       let one = count_filter (λ (k : Kept). k.slot == slot) (λ (k : Kept). k.stamp == stamp) chains.kept in

@@ -1,5 +1,5 @@
 -- The kept versions of a tenant, listed by their stamps.
-use Rattle.std.specs.Prelude.{◌≡◌, ◌≢◌, ◌⊎◌, ℕ, ◌<◌, ◌≤◌, ◌==◌, ◌&&◌, Bool, true, false, not, List, ◌∷◌, count_by}
+use Rattle.std.specs.Prelude.{◌≡◌, ◌≢◌, ◌⊎◌, ℕ, ◌<◌, ◌≤◌, ◌==◌, ◌&&◌, ◌||◌, if◌then◌else◌, Bool, true, false, not, List, ◌∷◌, count_by}
 use Rattle.std.specs.Prelude.{Option, Some, None}
 use Rattle.version_arena.specs.Arena.{entry}
 use Rattle.version_chain.specs.declared.version.Node.{Node}
@@ -16,16 +16,35 @@ is_at_stamp tenant stamp (Some cell) = (cell.0.tenant == tenant) && (cell.0.vers
 abbrev pub is_named : ℕ → Cells → Kept → Bool
 is_named tenant cells kept = is_at_stamp tenant kept.stamp (entry cells kept.slot)
 
+-- a version that its cell holds
+abbrev pub held_at : ℕ → ℕ → Kept
+held_at stamp slot = record { stamp = stamp; slot = slot; is_cut = false }
+
+-- the version, marked as cut where it is that of the slot; and where it is that of the stamp and the slot
+abbrev pub cut_at : ℕ → Kept → Kept
+cut_at slot kept = record { stamp = kept.stamp; slot = kept.slot; is_cut = kept.is_cut || (kept.slot == slot) }
+
+abbrev pub cut_where : ℕ → ℕ → Kept → Kept
+cut_where stamp slot kept = if kept.stamp == stamp then cut_at slot kept else kept
+
 -- the second list has the versions of the first and this one, each as often, in any order
 abbrev pub IsListedInto : List Kept → List Kept → Kept → Type 0
 IsListedInto old new version = (test : Kept → Bool) → count_by test new ≡ count_by test (version ∷ old)
 
--- the list names no slot twice, and each version of the tenant by its stamp and its slot; it may name cells that were
--- freed since
-pub record Lists (cells : Cells) (chains : Heads) : Type 0 where
+-- the list names no slot twice, and each version of the tenant by its stamp and its slot
+pub record Names (cells : Cells) (chains : Heads) : Type 0 where
   pub once : (slot : ℕ) → count_by (λ (k : Kept). k.slot == slot) chains.kept ≤ 1
   pub all : (slot stamp : ℕ) → is_at_stamp chains.tenant stamp (entry cells slot) ≡ true
       → 0 < count_by (λ (k : Kept). (k.slot == slot) && (k.stamp == stamp)) chains.kept
+
+-- the version is marked as cut though its cell holds it, or it is not and its cell does not hold it
+abbrev pub is_mismarked : ℕ → Cells → Kept → Bool
+is_mismarked tenant cells kept = if kept.is_cut then is_named tenant cells kept else not (is_named tenant cells kept)
+
+-- it does; it may also name cells that were freed since, and marks just these as cut
+pub record Lists (cells : Cells) (chains : Heads) : Type 0 where
+  pub named : Names cells chains
+  pub marked : count_by (λ (k : Kept). is_mismarked chains.tenant cells k) chains.kept ≡ 0
 
 -- it names no other cell
 abbrev pub IsSwept : Cells → Heads → Type 0

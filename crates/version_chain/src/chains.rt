@@ -6,7 +6,7 @@ ghost use Rattle.version_chain.specs.Chain.{IsPath, KeepsLatest, HoldsChains, Ha
 ghost use Rattle.version_chain.specs.Changes.{HasChain, HasRoomFor, ListsExactly, ChangesChain, EachChainIs, GivesUp, HaveOneMore, InsertAnswers, IsRunOf, MarksOnly, Unchanged};
 ghost use Rattle.version_chain.specs.Discarded.{DropsOpen, FreesOnly, IsSweptBut};
 ghost use Rattle.version_chain.specs.Heads.{no_versions};
-ghost use Rattle.version_chain.specs.Listed.{is_named, chain_in, with_kept, Lists, IsPutAt, node_in, is_open_node};
+ghost use Rattle.version_chain.specs.Listed.{is_named, chain_in, with_kept, Lists, Names, IsPutAt, node_in, is_open_node};
 ghost use Rattle.version_chain.specs.Sharing.{ChangesOwn};
 
 use crate::kept_list::KeptList;
@@ -39,8 +39,8 @@ pub enum Insert {
 /// call. A clause sees each chain as the list of its versions, with strictly falling stamps. Beside them stands a list of
 /// all these versions in the order of their stamps, which names each by its slot.
 ///
-/// A cut leaves the versions that it gives up in that list; one `sweep` takes all of them out. Until then nothing may be
-/// inserted, since a new version may get the slot of one that was dropped.
+/// A cut leaves the versions that it gives up in that list, and marks them there; one `sweep` takes all of them out. Until then
+/// nothing may be inserted, since a new version may get the slot of one that was dropped.
 ///
 /// A stamp is searched for from the head of its chain down. Where its place is not behind the first few versions, one
 /// version of the chain and one of the list are visited alternately, the latter from the stamp up: the first of them that
@@ -433,7 +433,12 @@ impl Chains {
         if !block.get(slot).version.is_at(stamp) {
             return false;
         }
-        self.mark_slot(block, Kept { stamp, slot });
+        let kept = Kept {
+            stamp,
+            slot,
+            is_cut: false,
+        };
+        self.mark_slot(block, kept);
         true
     }
 
@@ -552,7 +557,8 @@ impl Chains {
     }
 
     /// Gives up the versions of a chain below a stamp, whether they are committed or not, frees their cells, and
-    /// answers how many they were; the list of the kept versions still names them. It visits all versions of the chain.
+    /// answers how many they were; the list of the kept versions still names them, marked as cut. It visits all versions of the
+    /// chain, and finds each that it gives up in that list by a binary search.
     pub fn cut_below(&mut self, block: &mut Block, chain: u32, floor: Stamp) -> u32
         requires { HasChain block.old self.old chain }
         ensures changed { ChangesChain block.old self.old block.new self.new chain }
@@ -568,8 +574,10 @@ impl Chains {
         let mut here = first;
         while let Some(slot) = here {
             here = block.next(slot);
+            let stamp = stamp_of(&block.get(slot).version.prepared);
             let before = last;
             self.unlink(block, chain, before, slot);
+            self.kept.mark_cut(stamp, slot);
         }
         used - self.used
     }
@@ -608,7 +616,8 @@ impl Chains {
         requires before { visits.old ≤ 2 ^ 61 }
         ensures own { ChangesOwn block.old block.new self.old self.new }
         ensures stands { HoldsChains block.new self.new }
-        ensures listed { Lists block.new self.new }
+        ensures named { Names block.new self.new }
+        ensures list { self.new.kept ≡ self.old.kept }
         ensures swept { IsSweptBut stamp self.new.tenant block.new self.new.kept }
         ensures kept { EachChainIs (without_open stamp) block.old self.old block.new self.new }
         ensures given_up { GivesUp result block.old self.old block.new self.new }
@@ -637,7 +646,12 @@ impl Chains {
         ensures given_up { GivesUp result block.old self.old block.new self.new }
         ensures dropped { DropsOpen stamp block.old self.old block.new self.new }
     {
-        if !is_held(block, self.tenant, &Kept { stamp, slot }) {
+        let kept = Kept {
+            stamp,
+            slot,
+            is_cut: false,
+        };
+        if !is_held(block, self.tenant, &kept) {
             return 0;
         }
         let chain = block.get(slot).chain;
@@ -741,13 +755,13 @@ impl Chains {
         None
     }
 
-    /// Takes the versions that were cut out of the list of the kept ones. It goes over that list once.
+    /// Takes the versions that were cut out of the list of the kept ones. It goes over that list once, and visits no cell.
     pub fn sweep(&mut self, block: &Block)
         requires { Lists block.now self.old }
         ensures list { ListsExactly block.now self.new }
         ensures rest { self.new ≡ with_kept self.old self.new.kept }
     {
-        self.kept.sweep(block, self.tenant);
+        self.kept.sweep();
     }
 }
 

@@ -1,7 +1,7 @@
 //! The kept versions of a tenant, in two lists.
-ghost use Rattle.std.specs.Prelude.{◌≡◌, ◌==◌, ◌+◌, ◌<◌, ◌≤◌, ◌++◌, [], Bool, IsTrue, false, length, filter, not, nat_lt, count_by, IfOk, slice_range, slice_index_or};
+ghost use Rattle.std.specs.Prelude.{◌≡◌, ◌==◌, ◌+◌, ◌<◌, ◌≤◌, ◌++◌, [], Bool, IsTrue, false, length, filter, map, not, nat_lt, count_by, IfOk, slice_range, slice_index_or};
 ghost use Rattle.version_chain.specs.Listing.{AreApart, count_at};
-ghost use Rattle.version_chain.specs.Listed.{IsListedInto, is_named};
+ghost use Rattle.version_chain.specs.Listed.{IsListedInto, cut_where, held_at, is_named};
 ghost use Rattle.version_chain.specs.Discarded.{IsSweptBut};
 ghost use Rattle.version_chain.specs.Place.{least_of};
 
@@ -58,7 +58,7 @@ impl KeptList {
         requires { length self.old.kept < self.old.room }
         ensures room { self.new.room ≡ self.old.room }
         ensures inserted { IsListedInto self.old.kept self.new.kept
-            (record { stamp = stamp; slot = slot }) }
+            (held_at stamp slot) }
     {
         make_room(&mut self.main, &mut self.late);
         if is_late(&self.main, &self.late, stamp) {
@@ -107,13 +107,23 @@ impl KeptList {
         }
     }
 
-    /// Takes out the versions that their cells do not hold any more. It goes over both lists once.
-    pub(crate) fn sweep(&mut self, block: &Block, tenant: u32)
+    /// Marks the version of this stamp and slot as cut, if one of the lists has it. A binary search in each finds the first of the
+    /// stamp, and each of the stamp is visited.
+    pub(crate) fn mark_cut(&mut self, stamp: Stamp, slot: Slot)
         ensures room { self.new.room ≡ self.old.room }
-        ensures swept { self.new.kept ≡ filter (is_named tenant block.now) self.old.kept }
+        ensures marked { self.new.kept ≡ map (cut_where stamp slot) self.old.kept }
     {
-        self.main.sweep(block, tenant);
-        self.late.sweep(block, tenant);
+        self.main.mark_cut(stamp, slot);
+        self.late.mark_cut(stamp, slot);
+    }
+
+    /// Takes out the versions that are marked as cut. It goes over both lists once, and visits no cell.
+    pub(crate) fn sweep(&mut self)
+        ensures room { self.new.room ≡ self.old.room }
+        ensures swept { self.new.kept ≡ filter (λ k. not k.is_cut) self.old.kept }
+    {
+        self.main.sweep();
+        self.late.sweep();
     }
 
     /// Takes out the versions of a stamp that their cells do not hold any more, where all others are held. It goes over

@@ -1,6 +1,6 @@
 //! A list of kept versions, in the order of their stamps.
-ghost use Rattle.std.specs.Prelude.{◌≡◌, ◌↔◌, ◌==◌, ◌+◌, ◌-◌, ◌^◌, ◌<◌, ◌≤◌, Bool, IsTrue, false, [], ◌++◌, count_by, take, length, filter, not, nat_lt, IfOk, slice_range, slice_index_or, vec_len, vec_capacity, insert as list_insert};
-ghost use Rattle.version_chain.specs.Listed.{IsListedInto, is_named};
+ghost use Rattle.std.specs.Prelude.{◌≡◌, ◌↔◌, ◌==◌, ◌+◌, ◌-◌, ◌^◌, ◌<◌, ◌≤◌, Bool, IsTrue, false, [], ◌++◌, count_by, take, length, filter, map, not, nat_lt, IfOk, slice_range, slice_index_or, vec_len, vec_capacity, insert as list_insert};
+ghost use Rattle.version_chain.specs.Listed.{IsListedInto, cut_at, cut_where, held_at, is_named};
 ghost use Rattle.version_chain.specs.Listing.{Ascends, EndsAtMost, EndsBelow, count_at};
 ghost use Rattle.version_chain.specs.Discarded.{IsSweptBut};
 ghost use Rattle.version_chain.specs.Place.{least_of};
@@ -19,6 +19,8 @@ pub struct Kept {
     pub stamp: Stamp,
     /// The slot.
     pub slot: Slot,
+    /// Whether its version was cut out of its cell.
+    pub is_cut: bool,
 }
 
 /// Kept versions, the least stamp first. Contracts see how many there is room for, and the list.
@@ -57,10 +59,15 @@ impl StampList {
         requires { length self.old.kept < self.old.room }
         ensures room { self.new.room ≡ self.old.room }
         ensures inserted { IsListedInto self.old.kept self.new.kept
-            (record { stamp = stamp; slot = slot }) }
+            (held_at stamp slot) }
     {
         let place = place_above(&self.kept, stamp);
-        insert_within(&mut self.kept, place, Kept { stamp, slot });
+        let added = Kept {
+            stamp,
+            slot,
+            is_cut: false,
+        };
+        insert_within(&mut self.kept, place, added);
     }
 
     /// The number of versions.
@@ -140,12 +147,22 @@ impl StampList {
         &self.kept[first..]
     }
 
-    /// Takes out the versions that their cells do not hold any more. It goes over the list once.
-    pub(crate) fn sweep(&mut self, block: &Block, tenant: u32)
+    /// Marks the version of this stamp and slot as cut, if the list has one. A binary search finds the first of the stamp, and
+    /// each of the stamp is visited.
+    pub(crate) fn mark_cut(&mut self, stamp: Stamp, slot: Slot)
         ensures room { self.new.room ≡ self.old.room }
-        ensures swept { self.new.kept ≡ filter (is_named tenant block.now) self.old.kept }
+        ensures marked { self.new.kept ≡ map (cut_where stamp slot) self.old.kept }
     {
-        self.kept.retain(|kept| is_held(block, tenant, kept));
+        let (first, end) = self.places(stamp);
+        mark_run(&mut self.kept[first..end], slot);
+    }
+
+    /// Takes out the versions that are marked as cut. It goes over the list once, and visits no cell.
+    pub(crate) fn sweep(&mut self)
+        ensures room { self.new.room ≡ self.old.room }
+        ensures swept { self.new.kept ≡ filter (λ k. not k.is_cut) self.old.kept }
+    {
+        self.kept.retain(|kept| !kept.is_cut);
     }
 
     /// Takes out the versions of a stamp that their cells do not hold any more, where all others are held. It goes over
@@ -158,6 +175,26 @@ impl StampList {
         let (first, end) = self.places(stamp);
         let held = gather_held(&mut self.kept[first..end], block, tenant);
         self.kept.drain(first + held..end);
+    }
+}
+
+// Marks the version of this slot as cut, if it is one of these. It visits each of them.
+fn mark_run(run: &mut [Kept], slot: Slot)
+    ensures { run.new ≡ map (cut_at slot) run.old }
+{
+    for place in 0..run.len() {
+        run[place] = cut_at(run[place], slot);
+    }
+}
+
+// A listed version, marked as cut where it is that of this slot.
+fn cut_at(kept: Kept, slot: Slot) -> Kept
+    ensures { result ≡ cut_at slot kept }
+{
+    Kept {
+        stamp: kept.stamp,
+        slot: kept.slot,
+        is_cut: kept.is_cut || kept.slot == slot,
     }
 }
 

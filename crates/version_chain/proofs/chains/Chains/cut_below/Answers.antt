@@ -1,8 +1,10 @@
-use Rattle.std.proofs.Common.{Some, subst, ap, arith}
+use Rattle.std.proofs.Common.{◌≡◌, ℕ, map, Option, Some, IsSomeAnd, subst, sym, ap, ◌∙◌, arith}
+use Rattle.version_arena.specs.Arena.{entry}
+use Rattle.version_chain.specs.declared.version.Node.{Node}
+use Rattle.version_chain.specs.Listed.{cut_where, with_kept}
 use Rattle.version_chain.specs.Heads.{Heads}
 use Rattle.version_chain.specs.Place.{IsPlace}
-use Rattle.version_chain.proofs.Listing.{lists_left}
-use Rattle.version_chain.proofs.Cutting.{cut_begun, cut_step, cut_done}
+use Rattle.version_chain.proofs.Cutting.{Cut, cut_begun, cut_step, cut_done}
 use Rattle.version_chain.proofs.chains.Chains.cut_below.Goals as goal
 
 pub loop-here-init : goal.loop-here-init
@@ -11,17 +13,8 @@ loop-here-init c = cut_begun _ _ _ _ _ _ c.requires.stands c.seek.ensures
 pub returns-clause-kept : goal.returns-clause-kept
 returns-clause-kept c = cut_done _ _ _ _ _ _ _ _ c.loop-here.invariant c.in_default.is
 
-pub loop-here-preserved : goal.loop-here-preserved
-loop-here-preserved c =
-    let cut = c.loop-here.invariant in
-    let left = c.unlink.ensures in
-    let place : IsPlace c.loop-here.block c.loop-here.self c.args.chain c.args.floor c.seek.result.0 (Some c.in-Some.slot) = subst (λ here. IsPlace c.loop-here.block c.loop-here.self c.args.chain c.args.floor c.seek.result.0 here) c.in-Some.is cut.place in
-    cut_step _ _ _ _ _ _ _ _ _ _ _ c.in-Some.slot cut c.in-Some.is left.changed left.removed left.freed left.listed (rw c.next-here.ensures (left.place c.args.floor place))
-
 pub returns-clause-listed : goal.returns-clause-listed
-returns-clause-listed c lists =
-    let cut = c.loop-here.invariant in
-    lists_left c.args.block.now c.loop-here.block c.args.self.now c.loop-here.self cut.changed.own.shape.tenant cut.listed cut.none_come lists
+returns-clause-listed c lists = c.loop-here.invariant.listed lists
 
 pub returns-clause-given_up : goal.returns-clause-given_up
 returns-clause-given_up c =
@@ -29,3 +22,16 @@ returns-clause-given_up c =
     let before = ap (λ (h : Heads). h.used) c.self.view_is in
     let after = ap (λ (h : Heads). h.used) c.self-2.view_is in
     record { used = omega (arith, given_up.used, before, after); none = λ e. given_up.none (omega (arith, given_up.used, e, before, after)) }
+
+pub loop-here-preserved : goal.loop-here-preserved
+loop-here-preserved c =
+    let cut = c.loop-here.invariant in
+    let left = c.unlink.ensures in
+    let kept = c.mark_cut.new.self.kept in
+    let marks = cut_where c.stamp_of-stamp.result c.in-Some.slot in
+    let place : IsPlace c.loop-here.block c.loop-here.self c.args.chain c.args.floor c.seek.result.0 (Some c.in-Some.slot) = subst (λ here. IsPlace c.loop-here.block c.loop-here.self c.args.chain c.args.floor c.seek.result.0 here) c.in-Some.is cut.place in
+    let its : IsSomeAnd (entry c.loop-here.block c.in-Some.slot) (λ cell. c.stamp_of-stamp.result ≡ cell.0.version.prepared.stamp) =
+    subst (λ (e : Option (Node × Option ℕ)). IsSomeAnd e (λ cell. c.stamp_of-stamp.result ≡ cell.0.version.prepared.stamp)) (sym c.get.ensures) c.stamp_of-stamp.ensures in
+    subst (λ (h : Heads). Cut c.args.block.now c.unlink.new.block c.args.self.now (with_kept h kept) c.args.chain c.args.floor c.seek.result.0 c.next-here.result) (sym c.self-in-Some.view_is)
+    (cut_step _ _ _ _ _ _ kept _ _ _ _ _ c.in-Some.slot c.stamp_of-stamp.result cut c.in-Some.is left.changed left.removed left.freed left.listed (rw c.next-here.ensures (left.place c.args.floor place)) its
+    (c.mark_cut.ensures.marked ∙ ap (λ (h : Heads). map marks h.kept) c.self-in-Some.view_is))

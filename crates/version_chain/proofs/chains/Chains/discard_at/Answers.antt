@@ -1,20 +1,28 @@
-use Rattle.std.proofs.Common.{ℕ, sym, ap, subst, arith}
+use Rattle.std.proofs.Common.{◌≡◌, ℕ, count_by, sym, ap, subst, ◌∙◌, arith}
+use Rattle.version_chain.specs.declared.stamp_list.Kept.{Kept}
 use Rattle.version_chain.specs.Heads.{Heads}
 use Rattle.version_chain.specs.Chain.{Cells, HoldsChains}
 use Rattle.version_chain.specs.Changes.{GivesUp, ListsExactly}
-use Rattle.version_chain.specs.Listed.{with_kept, Lists}
+use Rattle.version_chain.specs.Listed.{with_kept, Names}
 use Rattle.version_chain.specs.Sharing.{ChangesOwn}
 use Rattle.version_chain.proofs.Changing.{own_listed}
-use Rattle.version_chain.proofs.Listing.{lists_swept, is_swept, stands_with}
+use Rattle.version_chain.proofs.Listing.{lists_uncut, is_swept, none_cut, stands_with}
 use Rattle.version_chain.proofs.chains.Chains.discard_at.Goals as goal
 
 abbrev before : (c : goal.After-sweep_at) → Heads
 before c = record { tenant = c.self.inside.tenant; share = c.self.inside.share; used = c.self.inside.used; heads = c.self.inside.heads.items; latest = c.self.inside.latest.items; kept = c.self.inside.kept.kept }
 
+-- no version was marked as cut before, and the list is the same
+uncut : (c : goal.After-sweep_at) → count_by (λ (k : Kept). k.is_cut) (before c).kept ≡ 0
+uncut c =
+    ap (λ (h : Heads). count_by (λ (k : Kept). k.is_cut) h.kept) c.self.view_is
+    ∙ ap (count_by (λ (k : Kept). k.is_cut)) c.discard_each-dropped.ensures.list
+    ∙ none_cut c.args.block.now c.args.self.now c.requires.list.listed c.requires.list.swept
+
 pub returns-clause-list : goal.returns-clause-list
 returns-clause-list c = record {
-  listed = lists_swept c.discard_each-dropped.new.block (before c) c.sweep_at.new.self.kept c.sweep_at.ensures.swept
-      (subst (λ (h : Heads). Lists c.discard_each-dropped.new.block h) (sym c.self.view_is) c.discard_each-dropped.ensures.listed);
+  listed = lists_uncut c.discard_each-dropped.new.block (before c) c.sweep_at.new.self.kept c.sweep_at.ensures.swept (uncut c)
+      (subst (λ (h : Heads). Names c.discard_each-dropped.new.block h) (sym c.self.view_is) c.discard_each-dropped.ensures.named);
   swept = is_swept c.discard_each-dropped.new.block (before c) c.sweep_at.new.self.kept c.sweep_at.ensures.swept;
 }
 

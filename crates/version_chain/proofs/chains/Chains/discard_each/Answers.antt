@@ -7,7 +7,7 @@ use Rattle.version_chain.proofs.chains.Chains.discard_each.Goals as goal
 use Rattle.version_chain.proofs.chains.Chains.discard_each.Goals.{After-discard_slot-dropped}
 
 pub loop-place-init : goal.loop-place-init
-loop-place-init c = (none_dropped c.args.block.now c.args.self.now c.args.stamp c.requires.stands c.requires.list.listed, omega arith)
+loop-place-init c = (none_dropped c.args.block.now c.args.self.now c.args.stamp c.requires.stands c.requires.list.listed.named, omega arith)
 
 pub tick-requires : goal.tick-requires
 tick-requires c =
@@ -43,7 +43,8 @@ returns c =
       stands = was.stands;
       kept = all_dropped c.args.block.now c.loop-place.block c.args.self.now c.loop-place.self c.args.stamp c.loop-place.place c.loop-place.dropped was (omega (arith, all, c.loop-place-test.false));
       given_up = was.given_up;
-      listed = was.listed;
+      named = was.named;
+      list = was.list;
       swept = swept_but c.args.block.now c.loop-place.block c.args.self.now c.loop-place.self c.args.stamp c.loop-place.place c.loop-place.dropped was c.requires.list.swept;
       visits = omega (arith, c.loop-place.invariant.1, c.loop-place-test.false, c.loop-place.auto.place-end, all);
     }

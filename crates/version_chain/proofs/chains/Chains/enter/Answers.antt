@@ -3,7 +3,7 @@ use Rattle.version_chain.specs.declared.stamp_list.Kept.{Kept}
 use Rattle.version_chain.specs.Heads.{Heads}
 use Rattle.version_chain.specs.declared.version.Version.{Version}
 use Rattle.version_chain.specs.Changes.{ChangesChain, HaveOneMore}
-use Rattle.version_chain.specs.Listed.{IsListedInto, with_kept}
+use Rattle.version_chain.specs.Listed.{held_at, IsListedInto, with_kept}
 use Rattle.version_chain.proofs.Changing.{changes_listed, more_listed}
 use Rattle.version_chain.proofs.Listing.{no_more_listed, lists_put, swept_put}
 use Rattle.version_chain.proofs.chains.Chains.enter.Goals as goal
@@ -25,9 +25,9 @@ insert-requires c =
 whose : (c : goal.After-insert) → c.self.inside.tenant ≡ c.args.self.now.tenant
 whose c = ap (λ (h : Heads). h.tenant) c.self.view_is ∙ c.link-slot.ensures.changed.own.shape.tenant
 
-listed : (c : goal.After-insert) → IsListedInto c.args.self.now.kept c.insert.new.self.kept (record { stamp = c.args.prepared.now.stamp; slot = c.link-slot.result })
+listed : (c : goal.After-insert) → IsListedInto c.args.self.now.kept c.insert.new.self.kept (held_at c.args.prepared.now.stamp c.link-slot.result)
 listed c =
-    let P : List Kept → ℕ → Type 0 = λ old stamp. IsListedInto old c.insert.new.self.kept (record { stamp = stamp; slot = c.link-slot.result }) in
+    let P : List Kept → ℕ → Type 0 = λ old stamp. IsListedInto old c.insert.new.self.kept (held_at stamp c.link-slot.result) in
     subst (λ old. P old c.args.prepared.now.stamp) (ap (λ (h : Heads). h.kept) c.self.view_is ∙ c.link-slot.ensures.kept)
     (subst (λ stamp. P c.self.inside.kept.kept stamp) c.stamp_of-stamp.ensures c.insert.ensures.inserted)
 

@@ -1,5 +1,6 @@
 use Rattle.std.proofs.Common.{true, length, length-append, count_by, ap, arith}
 use Rattle.version_chain.specs.declared.stamp_list.Kept.{Kept}
+use Rattle.version_chain.specs.Listed.{held_at}
 use Rattle.version_chain.specs.Listing.{KeptListing}
 use Rattle.version_chain.proofs.Listing.{cons}
 use Rattle.version_chain.proofs.TwoLists.{count_both, count_all, apart_swap, apart_added}
@@ -41,7 +42,7 @@ pub invariant_of-self : goal.invariant_of-self
 invariant_of-self c =
     let main = c.make_room.new.main.kept in
     let late = c.make_room.new.late.kept in
-    let version : Kept = record { stamp = c.args.stamp; slot = c.args.slot } in (
+    let version : Kept = held_at c.args.stamp c.args.slot in (
       apart_swap c.insert.new.self.kept main (apart_added late main c.insert.new.self.kept version (apart_swap main late c.make_room.ensures.apart) (c.is_late.ensures.late c.if-is_late.true) c.insert.ensures.inserted),
       λ any. omega (arith, c.insert.ensures.room, c.make_room.ensures.free),
     )
@@ -50,7 +51,7 @@ pub returns-then-is_late-clause-inserted : goal.returns-then-is_late-clause-inse
 returns-then-is_late-clause-inserted c test =
     let main = c.make_room.new.main.kept in
     let late = c.make_room.new.late.kept in
-    let version : Kept = record { stamp = c.args.stamp; slot = c.args.slot } in
+    let version : Kept = held_at c.args.stamp c.args.slot in
     omega (
       arith,
       c.insert.ensures.inserted test,
@@ -66,7 +67,7 @@ pub invariant_of-self-else-is_late : goal.invariant_of-self-else-is_late
 invariant_of-self-else-is_late c =
     let main = c.make_room.new.main.kept in
     let late = c.make_room.new.late.kept in
-    let version : Kept = record { stamp = c.args.stamp; slot = c.args.slot } in (
+    let version : Kept = held_at c.args.stamp c.args.slot in (
       apart_added main late c.insert-else-is_late.new.self.kept version c.make_room.ensures.apart (c.is_late.ensures.not_late c.if-is_late.false) c.insert-else-is_late.ensures.inserted,
       λ any. omega (arith, c.make_room.ensures.free),
     )
@@ -75,7 +76,7 @@ pub returns-else-is_late-clause-inserted : goal.returns-else-is_late-clause-inse
 returns-else-is_late-clause-inserted c test =
     let main = c.make_room.new.main.kept in
     let late = c.make_room.new.late.kept in
-    let version : Kept = record { stamp = c.args.stamp; slot = c.args.slot } in
+    let version : Kept = held_at c.args.stamp c.args.slot in
     omega (
       arith,
       c.insert-else-is_late.ensures.inserted test,
