@@ -1,19 +1,23 @@
 -- For `BasePart`, `PartList`, `Held` and the copies of a cell. What lies at places of parts.
-use Rattle.std.proofs.Common.{◌≡◌, ℕ, zero, suc, ◌<◌, List, [], ◌∷◌, ◌++◌, map, length, get_or, Option, Some, None, Result, Ok, Err, inl, inr, refl, sym, ap, ◌∙◌, arith}
+use Rattle.std.proofs.Common.{◌≡◌, ◌≢◌, ℕ, zero, suc, ◌<◌, ◌≤◌, List, [], ◌∷◌, ◌++◌, map, length, get_or, Option, Some, None, Result, Ok, Err, inl, inr, refl, sym, ap, ◌∙◌, arith}
 use Rattle.std.specs.Prelude.{slice_get, IfOk, OnOk}
-use Rattle.std.proofs.Math.ListN.{get_or-eq_default, get_or-append}
-use Rattle.std.proofs.Math.Seq.{get_or-append_seam}
+use Rattle.std.proofs.Math.ListN.{get_or-eq_default}
 use Rattle.std.proofs.lemmas.Bool.{cases_lt}
-use Rattle.std.proofs.lemmas.List.{get_or-map, length-map, length_push, map-append}
+use Rattle.std.proofs.lemmas.List.{get_or-map, length-map, map-append}
 use Rattle.std.proofs.lemmas.Option.{slice_get_within}
+use Rattle.version_chain.proofs.Replacing.{same_or_not}
 use Rattle.version_chain.specs.declared.version.Version.{Version}
 use Rattle.prepare_commit.specs.declared.items.KnownItem.{KnownItem}
 use Rattle.prepare_commit.specs.declared.parts.EntryPosition.{EntryPosition}
-use Rattle.prepare_commit.specs.Begun.{Holding, beside, held_at, LieAt, found, listed, none_held}
+use Rattle.prepare_commit.specs.Begun.{Holding, beside, held_at, put_at, LieAt, found, listed, none_held}
 
 pub on_ok : {A E : Type 0} {P Q : Type 0} → (P → Q) → (r : Result A E) → OnOk r P → OnOk r Q
 on_ok f (Ok x) h = f h
 on_ok f (Err e) h = tt
+
+pub on_both : {A E : Type 0} {P Q R : Type 0} → (P → Q → R) → (r : Result A E) → OnOk r P → OnOk r Q → OnOk r R
+on_both f (Ok x) h k = f h k
+on_both f (Err e) h k = tt
 
 pub if_ok : {A E : Type 0} {P Q : A → Type 0} → ((x : A) → P x → Q x) → (r : Result A E) → IfOk r P → IfOk r Q
 if_ok f (Ok x) h = f x h
@@ -59,10 +63,6 @@ in_parts parts place h is = elim (cases_lt place.part (length parts)) [
   | inr more ↦ absurd (omega (arith, in_part parts place h is, ap (λ (part : List Holding). length part) (get_or-eq_default parts [] more)))
 ]
 
-pub more_parts : (parts more : List (List Holding)) (place : EntryPosition) (h : Holding) → held_at parts place ≡ Some h → held_at (parts ++ more) place ≡ Some h
-more_parts parts more place h is =
-    ap (λ (part : List Holding). slice_get part place.at) (get_or-append parts more [] place.part (in_parts parts place h is)) ∙ is
-
 behind : {X : Type 0} (xs ys : List X) (n : ℕ) (x : X) → slice_get xs n ≡ Some x → slice_get (xs ++ ys) n ≡ Some x
 behind [] ys n x is = absurd cc
 behind (z ∷ xs) ys zero x is = is
@@ -72,23 +72,38 @@ last_one : {X : Type 0} (xs : List X) (x : X) → slice_get (xs ++ x ∷ []) (le
 last_one [] x = refl
 last_one (z ∷ xs) x = last_one xs x
 
--- the last part has more
-pub more_part : (parts : List (List Holding)) (part more : List Holding) (place : EntryPosition) (h : Holding) → held_at (parts ++ part ∷ []) place ≡ Some h → held_at (parts ++ (part ++ more) ∷ []) place ≡ Some h
-more_part parts part more place h is = elim (cases_lt place.part (length parts)) [
-  | inl less ↦
-      ap (λ (p : List Holding). slice_get p place.at) (get_or-append parts ((part ++ more) ∷ []) [] place.part less ∙ sym (get_or-append parts (part ∷ []) [] place.part less)) ∙ is
-  | inr past ↦
-      let last : place.part ≡ length parts = omega (arith, past, in_parts (parts ++ part ∷ []) place h is, length_push parts part) in
-      ap (λ (n : ℕ). slice_get (get_or (parts ++ (part ++ more) ∷ []) n []) place.at) last
-      ∙ ap (λ (p : List Holding). slice_get p place.at) (get_or-append_seam parts (part ++ more) [] [])
+-- a part that was put
+pub put_here : (parts : List (List Holding)) (at : ℕ) (part : List Holding) → at ≤ length parts → get_or (put_at parts at part) at [] ≡ part
+put_here [] zero part within = refl
+put_here [] (suc at) part within = absurd (omega (arith, within))
+put_here (p ∷ parts) zero part within = refl
+put_here (p ∷ parts) (suc at) part within = put_here parts at part (omega (arith, within))
+
+pub put_other : (parts : List (List Holding)) (at n : ℕ) (part : List Holding) → at ≤ length parts → n ≢ at → get_or (put_at parts at part) n [] ≡ get_or parts n []
+put_other [] zero zero part within other = absurd (other refl)
+put_other [] zero (suc n) part within other = refl
+put_other [] (suc at) n part within other = absurd (omega (arith, within))
+put_other (p ∷ parts) zero zero part within other = absurd (other refl)
+put_other (p ∷ parts) zero (suc n) part within other = refl
+put_other (p ∷ parts) (suc at) zero part within other = refl
+put_other (p ∷ parts) (suc at) (suc n) part within other = put_other parts at n part (omega (arith, within)) (λ e. other (ap suc e))
+
+-- it has more
+pub more_put : (parts : List (List Holding)) (free : ℕ) (part more : List Holding) (place : EntryPosition) (h : Holding) → free ≤ length parts → held_at (put_at parts free part) place ≡ Some h → held_at (put_at parts free (part ++ more)) place ≡ Some h
+more_put parts free part more place h within is = elim (same_or_not place.part free) [
+  | inl same ↦
+      ap (λ (n : ℕ). slice_get (get_or (put_at parts free (part ++ more)) n []) place.at) same
+      ∙ ap (λ (p : List Holding). slice_get p place.at) (put_here parts free (part ++ more) within)
       ∙ behind part more place.at h
-      (sym (ap (λ (n : ℕ). slice_get (get_or (parts ++ part ∷ []) n []) place.at) last
-      ∙ ap (λ (p : List Holding). slice_get p place.at) (get_or-append_seam parts part [] [])) ∙ is)
+      (sym (ap (λ (n : ℕ). slice_get (get_or (put_at parts free part) n []) place.at) same
+      ∙ ap (λ (p : List Holding). slice_get p place.at) (put_here parts free part within)) ∙ is)
+  | inr other ↦
+      ap (λ (p : List Holding). slice_get p place.at) (put_other parts free place.part (part ++ more) within other ∙ sym (put_other parts free place.part part within other)) ∙ is
 ]
 
-pub last_at : (parts : List (List Holding)) (part : List Holding) (h : Holding) → held_at (parts ++ (part ++ h ∷ []) ∷ []) (record { part = length parts; at = length part }) ≡ Some h
-last_at parts part h =
-    ap (λ (p : List Holding). slice_get p (length part)) (get_or-append_seam parts (part ++ h ∷ []) [] []) ∙ last_one part h
+pub last_put : (parts : List (List Holding)) (free : ℕ) (part : List Holding) (h : Holding) → free ≤ length parts → held_at (put_at parts free (part ++ h ∷ [])) (record { part = free; at = length part }) ≡ Some h
+last_put parts free part h within =
+    ap (λ (p : List Holding). slice_get p (length part)) (put_here parts free (part ++ h ∷ []) within) ∙ last_one part h
 
 -- ---- what lies at places
 
@@ -136,15 +151,15 @@ module _ (parts : List (List Holding)) (places : List EntryPosition) (inside all
 
 -- ---- one item more
 
-pub put_new : (parts : List (List Holding)) (part : List Holding) (places : List EntryPosition) (all : List Holding) (place : EntryPosition) (h : Holding) → place ≡ record { part = length parts; at = length part } → LieAt (parts ++ part ∷ []) places all
-    → LieAt (parts ++ (part ++ h ∷ []) ∷ []) (places ++ place ∷ []) (all ++ h ∷ [])
-put_new parts part places all place h is lie =
-    let after = parts ++ (part ++ h ∷ []) ∷ [] in
-    one_more_at after places all place h (still_at (parts ++ part ∷ []) after places all (more_part parts part (h ∷ [])) lie) (ap (held_at after) is ∙ last_at parts part h)
+module _ (parts : List (List Holding)) (free : ℕ) (within : free ≤ length parts) (part : List Holding) (places : List EntryPosition) (all : List Holding) (place : EntryPosition) (h : Holding) (lie : LieAt (put_at parts free part) places all) where
+  pub put_new : place ≡ record { part = free; at = length part } → LieAt (put_at parts free (part ++ h ∷ [])) (places ++ place ∷ []) (all ++ h ∷ [])
+  put_new is =
+      let after = put_at parts free (part ++ h ∷ []) in
+      one_more_at after places all place h (still_at (put_at parts free part) after places all (λ p k at. more_put parts free part (h ∷ []) p k within at) lie) (ap (held_at after) is ∙ last_put parts free part h within)
 
-pub put_old : (parts : List (List Holding)) (part : List Holding) (places : List EntryPosition) (all : List Holding) (place : EntryPosition) (h : Holding) → LieAt (parts ++ part ∷ []) places all → held_at parts place ≡ Some h
-    → LieAt (parts ++ part ∷ []) (places ++ place ∷ []) (all ++ h ∷ [])
-put_old parts part places all place h lie at = one_more_at (parts ++ part ∷ []) places all place h lie (more_parts parts (part ∷ []) place h at)
+  pub put_old : place.part ≢ free → held_at parts place ≡ Some h → LieAt (put_at parts free part) (places ++ place ∷ []) (all ++ h ∷ [])
+  put_old other at =
+      one_more_at (put_at parts free part) places all place h lie (ap (λ (p : List Holding). slice_get p place.at) (put_other parts free place.part part within other) ∙ at)
 
 -- what lies at a place of a part that two lists share
 pub known_there : (parts begun : List (List Holding)) (place spot : EntryPosition) (h k : Holding) → get_or parts place.part [] ≡ get_or begun place.part [] → spot ≡ place → held_at parts place ≡ Some h → held_at begun spot ≡ Some k → k ≡ h

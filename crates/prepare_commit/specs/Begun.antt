@@ -1,5 +1,5 @@
 -- What a base has of each item, in parts that bases share, and which items are still as a part has them.
-use Rattle.std.specs.Prelude.{◌≡◌, ◌==◌, ℕ, Bool, false, All, List, [], ◌∷◌, Option, Some, None, map, count_by, slice_get, slice_index_or}
+use Rattle.std.specs.Prelude.{◌≡◌, ◌≢◌, ◌<◌, ◌≤◌, ◌==◌, ℕ, zero, suc, ◌+◌, Bool, false, All, List, [], ◌∷◌, length, Option, Some, None, map, count_by, slice_get, slice_index_or}
 use Rattle.version_chain.specs.declared.version.Version.{Version}
 use Rattle.prepare_commit.specs.declared.items.KnownItem.{KnownItem}
 use Rattle.prepare_commit.specs.declared.items.ChainedItem.{ChainedItem}
@@ -79,3 +79,35 @@ IsNotedAt stamp old new chains =
     (chain : ℕ) → slice_index_or new chain false ≡ false
     → (slice_index_or old chain false ≡ false)
     × (count_by (λ (v : Version). v.prepared.stamp == stamp) (chain_at chains chain) ≡ 0)
+
+-- no item lies in the part whose chain was not noted
+abbrev pub IsFree : List EntryPosition → List Bool → List ChainedItem → ℕ → Type 0
+IsFree spots since items part =
+    All (λ (i : ChainedItem). is_changed since i ≡ false → (slice_index_or spots i.chain no_place).part ≢ part) items
+
+-- of the first so many chains none lies in the part that was not noted
+abbrev pub IsLeft : List EntryPosition → List Bool → ℕ → ℕ → Type 0
+IsLeft spots since chains part =
+    (chain : ℕ) → chain < chains → slice_index_or since chain false ≡ false → (slice_index_or spots chain no_place).part ≢ part
+
+-- a part can be put there, in the place of one that is free or at the end
+abbrev pub HasRoomAt : BegunBase → List Bool → List ChainedItem → ℕ → Type 0
+HasRoomAt begun since items part = IsFree begun.spots since items part × (part ≤ length begun.parts)
+
+-- what was noted still is
+abbrev pub NotesMore : List Bool → List Bool → Type 0
+NotesMore old new =
+    (length new ≡ length old) × ((chain : ℕ) → slice_index_or new chain false ≡ false → slice_index_or old chain false ≡ false)
+
+-- and at most so many chains more are noted, or just so many
+abbrev pub NotesFew : ℕ → List Bool → List Bool → Type 0
+NotesFew most old new = count_by (λ b. b) new ≤ count_by (λ b. b) old + most
+
+abbrev pub NotesJust : ℕ → List Bool → List Bool → Type 0
+NotesJust more old new = count_by (λ b. b) new ≡ count_by (λ b. b) old + more
+
+-- a part in the place of another, or at the end
+abbrev pub put_at : List (List Holding) → ℕ → List Holding → List (List Holding)
+put_at [] at part = part ∷ []
+put_at (p ∷ parts) zero part = part ∷ parts
+put_at (p ∷ parts) (suc at) part = p ∷ put_at parts at part

@@ -10,7 +10,7 @@ ghost use Rattle.version_chain.specs.Sharing.{ChangesOwn};
 ghost use Rattle.secondary_index.specs.Ordered.{IsInOrder};
 ghost use Rattle.prepare_commit.specs.Marks.{mark_row, marks_of, mark_in};
 ghost use Rattle.prepare_commit.specs.InBlock.{content_in, begun_with, LiesIn};
-ghost use Rattle.prepare_commit.specs.Begun.{holdings};
+ghost use Rattle.prepare_commit.specs.Begun.{HasRoomAt, NotesFew, holdings};
 ghost use Rattle.prepare_commit.specs.HowMuch.{IsHeldIn};
 ghost use Rattle.prepare_commit.specs.Calls.{versions_at, HoldsTheSame, IsAnswered, IsServed, LiesWithShare};
 ghost use Rattle.prepare_commit.specs.Layout.{chain_lists};
@@ -20,6 +20,7 @@ ghost use Rattle.prepare_commit.specs.Bases.{base_of, Leaves, IsNew, NameEach};
 ghost use Rattle.plain_store.specs.Log.{Log};
 ghost use Rattle.plain_store.specs.Replies.{IsSound};
 
+use crate::ahead::pack_noted;
 use crate::base::are_marks;
 use crate::changed::ChangedChains;
 use crate::collect::{collect, note_collected};
@@ -33,6 +34,7 @@ use crate::parts::PartList;
 use crate::reply::{
     GetReply, put_committed, put_discarded, put_found, put_freed, put_prepared, put_read, reply_of,
 };
+use crate::retire::{MOST_MOVED, is_scattered, is_small, make_room};
 use crate::versions::Versions;
 use crate::{Base, fill, marks};
 use lists::RowList;
@@ -465,8 +467,20 @@ impl Cell {
     ///
     /// It visits the items of which a version was committed since the last collection, each by a binary search, or all in their
     /// order where that kept more versions; and it walks down the chain of each. Where it gave up any version, it
-    /// goes over the list of the kept versions once.
+    /// goes over the list of the kept versions once. Where bases are cut of the cell, and much changed since the last one, it packs that
+    /// ahead of the next.
     pub fn collect(&mut self, block: &mut Block, keep: Keep) -> u32
+        requires { LiesIn block.old self.old }
+        ensures { IsServed block.old self.old block.new self.new
+            (Call.Collect keep) (Reply.Freed result) }
+    {
+        let freed = self.collect_items(block, keep);
+        self.pack_ahead(block);
+        freed
+    }
+
+    // Does what `collect` does, and packs nothing.
+    fn collect_items(&mut self, block: &mut Block, keep: Keep) -> u32
         requires { LiesIn block.old self.old }
         ensures { IsServed block.old self.old block.new self.new
             (Call.Collect keep) (Reply.Freed result) }
@@ -489,6 +503,33 @@ impl Cell {
             last,
             keep,
         )
+    }
+
+    // Packs a bounded number of the items that changed since the last base, where they are many. Where an allocation fails, the next
+    // cut packs all.
+    fn pack_ahead(&mut self, block: &Block)
+        requires { LiesIn block.now self.old }
+        ensures lies { LiesIn block.now self.new }
+        ensures rest { self.new ≡ begun_with self.old self.new.begun self.new.since }
+    {
+        if !self.last_base.is_much_changed() {
+            return;
+        }
+        let alloc = *self.marks.allocator();
+        let Ok(free) = self.tidy() else {
+            return;
+        };
+        match pack_noted(
+            alloc,
+            block,
+            &self.entries,
+            &self.versions,
+            &mut self.last_base,
+            free,
+        ) {
+            Ok(()) => (),
+            Err(_) => self.last_base.since.note_all(self.items),
+        }
     }
 
     /// How much it holds. It visits none of that.
@@ -514,8 +555,19 @@ impl Cell {
             × StandsFor (content_in block.now self.now) log }
         ensures { IfOk result (λ base. base ≡ base_of block.now self.now) }
     {
+        self.base_at(block, self.last_base.parts.len())
+    }
+
+    // What `base` reports, with what changed in a part that is put at a number where no item lies that did not change.
+    fn base_at(&self, block: &Block, free: usize) -> Result<Base, AllocError>
+        requires lies { LiesIn block.now self.now }
+        requires log { (log : Log) × IsSound self.now.room log
+            × StandsFor (content_in block.now self.now) log }
+        requires free { HasRoomAt self.now.begun self.now.since self.now.items free }
+        ensures { IfOk result (λ base. base ≡ base_of block.now self.now) }
+    {
         let alloc = *self.marks.allocator();
-        let held = self.held(alloc, block)?;
+        let held = self.held(alloc, block, free)?;
         let marks = Vec::from_slice(alloc, &self.marks)?;
         Ok(Base {
             slots: self.slots,
@@ -527,7 +579,7 @@ impl Cell {
     }
 
     /// What `base` reports, of which the cell then shares the parts: what is made or compared next takes from there what did not change.
-    /// Where the parts are many, or have much that no base wants any more, all is packed anew.
+    /// Where the parts are many, or have much that no base wants any more, items are packed anew that did not change: a bounded number.
     pub fn cut(&mut self, block: &Block) -> Result<Base, AllocError>
         requires lies { LiesIn block.now self.old }
         requires log { (log : Log) × IsSound self.old.room log
@@ -536,28 +588,41 @@ impl Cell {
         ensures lies { LiesIn block.now self.new }
         ensures rest { self.new ≡ begun_with self.old self.new.begun self.new.since }
     {
-        self.tidy();
-        let base = self.base(block)?;
+        let free = self.tidy()?;
+        let base = self.base_at(block, free)?;
         self.begin(&base.held)?;
+        self.last_base.was_cut = true;
         Ok(base)
     }
 
-    // Whether the parts of the last base are many, or have much that no base wants any more.
-    fn is_scattered(&self) -> bool {
-        let parts = &self.last_base.parts;
-        parts.len() > MOST_PARTS || parts.entries() / 2 > self.entries.len()
-    }
-
-    // Leaves the parts of the last base where they are scattered.
-    fn tidy(&mut self)
+    // Where the next base puts its new part. Where the parts of the last base are scattered, it notes items that did not change, so
+    // that a part has no other any more: all of a small cell, at most twice `MOST_MOVED` of any other. The one error is that an
+    // allocation failed.
+    fn tidy(&mut self) -> Result<usize, AllocError>
         ensures lies { (block : Cells) → LiesIn block self.old → LiesIn block self.new }
         ensures rest { self.new ≡ begun_with self.old self.new.begun self.new.since }
+        ensures few { MOST_MOVED < length self.old.items
+            → NotesFew (MOST_MOVED + MOST_MOVED) self.old.since self.new.since }
+        ensures free { IfOk result (λ free. (block : Cells) → LiesIn block self.old
+            → HasRoomAt self.new.begun self.new.since self.new.items free) }
     {
-        if self.is_scattered() {
-            let alloc = *self.marks.allocator();
+        let alloc = *self.marks.allocator();
+        if !is_scattered(&self.last_base.parts, self.entries.len()) {
+            return Ok(self.last_base.parts.len());
+        }
+        if is_small(self.entries.len()) {
             self.last_base.since.note_all(self.items);
             self.last_base.parts = PartList::new(alloc);
+            return Ok(0);
         }
+        let room = make_room(
+            alloc,
+            self.entries.len() as u32,
+            &self.last_base.parts,
+            &self.last_base.spots,
+            &mut self.last_base.since,
+        )?;
+        Ok(room.unwrap_or(self.last_base.parts.len()))
     }
 
     // Shares the parts of what is held, which is just what the items have. The one error is that an allocation failed; nothing
@@ -579,12 +644,20 @@ impl Cell {
     }
 
     // What the items have. The one error is that an allocation failed.
-    fn held(&self, alloc: Global, block: &Block) -> Result<Held, AllocError>
-        requires { LiesIn block.now self.now }
+    fn held(&self, alloc: Global, block: &Block, free: usize) -> Result<Held, AllocError>
+        requires lies { LiesIn block.now self.now }
+        requires free { HasRoomAt self.now.begun self.now.since self.now.items free }
         ensures { let lists = chain_lists block.now self.now.chains in
             IfOk result (λ held. held ≡ holdings self.now.items lists) }
     {
-        held_items(alloc, block, &self.entries, &self.versions, &self.last_base)
+        held_items(
+            alloc,
+            block,
+            &self.entries,
+            &self.versions,
+            &self.last_base,
+            free,
+        )
     }
 
     /// Whether the cell holds just what a base does, with the base's room. Of an item that no call changed since the last base it
@@ -684,9 +757,6 @@ impl Cell {
         }
     }
 }
-
-/// A cell shares at most so many parts with the next base.
-const MOST_PARTS: usize = 64;
 
 // Whether a version of this stamp is refused in an item's chain, since it was discarded and is not kept.
 fn refuses(marks: &[Stamp], block: &Block, versions: &Versions, chain: u32, stamp: Stamp) -> bool

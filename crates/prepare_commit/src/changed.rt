@@ -50,6 +50,11 @@ impl ChangedChains {
         self.flags[chain as usize]
     }
 
+    /// Whether so many chains are noted that they fill a part of a base.
+    pub(crate) fn fill_a_part(&self) -> bool {
+        self.numbers.len() >= A_PART
+    }
+
     /// Notes a chain; it may have been noted before.
     pub(crate) fn note(&mut self, chain: u32)
         requires { chain < length self.old }
@@ -120,3 +125,6 @@ impl ChangedChains {
         Some(chain)
     }
 }
+
+/// So many chains are packed together ahead of a base.
+const A_PART: usize = 256;

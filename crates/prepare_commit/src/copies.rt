@@ -1,9 +1,9 @@
 //! What a cell holds, as parts that a base shares, and whether a base holds the same.
-ghost use Rattle.std.specs.Prelude.{◌≡◌, ◌↔◌, ◌<◌, ◌++◌, ◌∷◌, ℕ, [], false, Some, IfOk, OnOk, IsTrue, All, length, slice_index_or};
+ghost use Rattle.std.specs.Prelude.{◌≡◌, ◌↔◌, ◌<◌, ◌≤◌, ◌++◌, ◌∷◌, ℕ, [], true, false, Some, IfOk, OnOk, IsTrue, All, length, slice_index_or};
 ghost use Rattle.packed.specs.Cuts.{IsCut, pieces};
 ghost use Rattle.version_chain.specs.Changes.{HasChain};
 ghost use Rattle.prepare_commit.specs.declared.items.ChainedItem.{ChainedItem};
-ghost use Rattle.prepare_commit.specs.Begun.{Holding, held_at, holding_of, holdings, no_place};
+ghost use Rattle.prepare_commit.specs.Begun.{Holding, IsFree, held_at, holding_of, holdings, no_place};
 ghost use Rattle.prepare_commit.specs.Calls.{lists_of, versions_at, AreKeptSince};
 ghost use Rattle.prepare_commit.specs.Layout.{HaveOwnChains};
 ghost use Rattle.prepare_commit.specs.Remembered.{is_changed};
@@ -17,16 +17,19 @@ use lists::RowList;
 use std::alloc::{AllocError, Global};
 use version_chain::{Block, ChainList, VersionList};
 
-/// What the items have. Of an item whose chain was noted the versions are packed, in one part more; any other lies in a part
-/// already, at the spot of its chain, and its chain is not visited. The one error is that an allocation failed.
+/// What the items have. Of an item whose chain was noted the versions are packed, in a part that is put at `free`; any other lies in
+/// a part already, at the spot of its chain, and its chain is not visited. The one error is that an allocation failed.
 pub(crate) fn held_items(
     alloc: Global,
     block: &Block,
     items: &RowList<ChainedItem>,
     versions: &Versions,
     last: &LastBase,
+    free: usize,
 ) -> Result<Held, AllocError>
-    requires { AreKeptSince block.now versions.now items.now.items last.now }
+    requires kept { AreKeptSince block.now versions.now items.now.items last.now }
+    requires free { IsFree last.now.spots.items last.now.since items.now.items free }
+    requires within { free ≤ length last.now.parts }
     ensures { IfOk result (λ held. held
         ≡ holdings items.now.items (lists_of block.now versions.now)) }
 {
@@ -38,7 +41,7 @@ pub(crate) fn held_items(
         let item = items.get(nth);
         if last.since.has(item.chain) {
             places.push(EntryPosition {
-                part: last.parts.len(),
+                part: free,
                 at: entries.len(),
             })?;
             entries.push(item.entry)?;
@@ -48,13 +51,17 @@ pub(crate) fn held_items(
         }
     }
     let mut parts = last.parts.copied(alloc)?;
-    parts.push(alloc, BasePart::of(entries, ChainList::of(found, ends)))?;
+    parts.put(
+        alloc,
+        free,
+        BasePart::of(entries, ChainList::of(found, ends)),
+    )?;
     Ok(Held::of(parts, places))
 }
 
 /// Packs an item's versions at the end of a list, and puts where they end there at the end of a list of such places. The one error
 /// is that an allocation failed.
-fn put_chain(
+pub(crate) fn put_chain(
     found: &mut VersionList,
     ends: &mut Vec<usize>,
     block: &Block,
@@ -111,11 +118,11 @@ pub(crate) fn has_items(
     if items.len() != places.len() {
         return Ok(false);
     }
-    let same = parts.same(&last.parts);
+    let same = parts.same(alloc, &last.parts)?;
     for nth in 0..places.len() {
         let item = items.get(nth);
         let place = places[nth];
-        if !is_known(last, item, place, same)
+        if !is_known(last, item, place, &same)
             && !has_item(alloc, block, versions, item, parts, place)?
         {
             return Ok(false);
@@ -124,16 +131,17 @@ pub(crate) fn has_items(
     Ok(true)
 }
 
-/// Whether an item lies at a place of the first parts, so many, and no call changed it since.
-fn is_known(last: &LastBase, item: &ChainedItem, place: EntryPosition, same: usize) -> bool
+/// Whether an item lies at a place of a part that is the same, and no call changed it since.
+fn is_known(last: &LastBase, item: &ChainedItem, place: EntryPosition, same: &[bool]) -> bool
     requires spots { item.now.chain < length last.now.spots.items }
     requires long { item.now.chain < length last.now.since }
-    ensures part { IsTrue result → place.part < same }
+    ensures part { IsTrue result → slice_index_or same.now place.part false ≡ true }
     ensures free { IsTrue result → is_changed last.now.since item.now ≡ false }
     ensures spot { IsTrue result
         → slice_index_or last.now.spots.items item.now.chain no_place ≡ place }
 {
-    place.part < same
+    place.part < same.len()
+        && same[place.part]
         && !last.since.has(item.chain)
         && is_place(last.spots[item.chain as usize], place)
 }

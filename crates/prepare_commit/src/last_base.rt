@@ -12,6 +12,8 @@ pub(crate) struct LastBase {
     pub(crate) parts: PartList,
     pub(crate) spots: Vec<EntryPosition>,
     pub(crate) since: ChangedChains,
+    // Whether a base was cut of the cell, as another will be then.
+    pub(crate) was_cut: bool,
 }
 
 impl LastBase {
@@ -28,6 +30,12 @@ impl LastBase {
             parts: PartList::new(alloc),
             spots,
             since: ChangedChains::open(alloc, chains)?,
+            was_cut: false,
         })
+    }
+
+    /// Whether so much changed since that it is packed ahead of the next cut.
+    pub(crate) fn is_much_changed(&self) -> bool {
+        self.was_cut && self.since.fill_a_part()
     }
 }

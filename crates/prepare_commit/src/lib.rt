@@ -8,6 +8,7 @@
 //! collections.
 #![tactic(auto)]
 
+mod ahead;
 mod base;
 mod cell;
 mod changed;
@@ -24,6 +25,7 @@ mod marks;
 mod parts;
 mod replica;
 mod reply;
+mod retire;
 mod versions;
 
 pub use base::Base;

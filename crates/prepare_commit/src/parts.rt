@@ -1,6 +1,6 @@
 //! The entries of items with their versions, in parts that bases share and that never change.
-ghost use Rattle.std.specs.Prelude.{◌≡◌, ◌<◌, ◌++◌, ◌∷◌, ◌↔◌, ℕ, [], Some, length, IsTrue, IfOk, OnOk, slice_get, slice_index_or};
-ghost use Rattle.prepare_commit.specs.Begun.{Holding, beside, held_at};
+ghost use Rattle.std.specs.Prelude.{◌≡◌, ◌<◌, ◌≤◌, ◌++◌, ◌↔◌, ℕ, [], true, false, Some, length, IsTrue, IfOk, OnOk, slice_get, slice_index_or};
+ghost use Rattle.prepare_commit.specs.Begun.{Holding, beside, held_at, put_at};
 
 use crate::base::are_entries;
 use crate::items::KnownItem;
@@ -139,17 +139,30 @@ impl PartList {
         Ok(PartList { parts })
     }
 
-    /// Puts a part at the end. The one error is that an allocation failed.
-    pub(crate) fn push(&mut self, alloc: Global, part: BasePart) -> Result<(), AllocError>
-        ensures { OnOk result (self.new ≡ self.old ++ part ∷ []) }
+    /// Puts a part in the place of another, or at the end. All others keep their numbers. The one error is that an allocation failed.
+    pub(crate) fn put(&mut self, alloc: Global, at: usize, part: BasePart) -> Result<(), AllocError>
+        requires { at ≤ length self.old }
+        ensures { OnOk result (self.new ≡ put_at self.old at part) }
     {
         match Arc::new(alloc, part) {
             Ok(part) => {
-                self.parts.push(part)?;
+                if at < self.parts.len() {
+                    self.parts[at] = part;
+                } else {
+                    self.parts.push(part)?;
+                }
                 Ok(())
             }
             Err(_) => Err(AllocError),
         }
+    }
+
+    /// How many entries a part has.
+    pub(crate) fn entries_in(&self, nth: usize) -> usize
+        requires { nth < length self.now }
+        ensures { result ≡ length (slice_index_or self.now nth []) }
+    {
+        self.part(nth).len()
     }
 
     /// A part.
@@ -209,18 +222,18 @@ impl PartList {
                 .is_chain(place.at, other.part(theirs.part), theirs.at)
     }
 
-    /// How many parts at the front are found to be the same in another list. It compares their bytes.
-    pub(crate) fn same(&self, other: &PartList) -> usize
-        ensures { (part : ℕ) → part < result
-            → slice_index_or self.now part [] ≡ slice_index_or other.now part [] }
+    /// Which parts are found to be the same in another list, at the same number. It compares their bytes. The one error is that an
+    /// allocation failed.
+    pub(crate) fn same(&self, alloc: Global, other: &PartList) -> Result<Vec<bool>, AllocError>
+        ensures { IfOk result (λ same. (part : ℕ) → slice_index_or same.items part false ≡ true
+            → slice_index_or self.now part [] ≡ slice_index_or other.now part []) }
     {
-        let most = self.len().min(other.len());
-        for nth in 0..most {
-            if !self.part(nth).is(other.part(nth)) {
-                return nth;
-            }
+        let many = self.len().min(other.len());
+        let mut same = Vec::with_capacity(alloc, many)?;
+        for nth in 0..many {
+            same.push(self.part(nth).is(other.part(nth)))?;
         }
-        most
+        Ok(same)
     }
 
     /// How many entries all parts have, as far as they can be counted.

@@ -1,4 +1,4 @@
-use Rattle.std.proofs.Common.{◌≡◌, ◌+◌, ◌<◌, ◌++◌, ◌∷◌, [], false, List, length, get_or, take, Some, refl, sym, ap, subst, ◌∙◌, arith}
+use Rattle.std.proofs.Common.{◌≡◌, ◌+◌, ◌<◌, ◌++◌, ◌∷◌, [], Bool, false, List, length, get_or, take, Some, refl, sym, ap, subst, ◌∙◌, arith}
 use Rattle.prepare_commit.specs.declared.items.ChainedItem.{ChainedItem}
 use Rattle.prepare_commit.specs.Begun.{Holding, IsAsBegun, held_at, holding_of, holdings, none_held, no_place}
 use Rattle.prepare_commit.specs.Layout.{chain_lists}
@@ -73,7 +73,9 @@ loop-nth-preserved c =
       | else-not-is_known-via-else-not-is_known w ↦
           let known = c.is_known.ensures in
           let yes = w.if-not-is_known.false in
+          let part = (get_or places k no_place).part in
+          let same = c.in_ok-same.ensures part (ap (λ (flags : List Bool). get_or flags part false) (sym c.deref.ensures.value) ∙ known.part yes) in
           let free = known.free yes in
           let was : held_at c.args.last.now.parts (get_or c.args.last.now.spots.items i.chain no_place) ≡ Some (holding_of chains i) = subst (λ (j : ChainedItem). is_changed c.args.last.now.since j ≡ false → IsAsBegun (begun_by c.args.last.now) chains j) (sym c.get-item.ensures) (c.requires.kept k i within) free in
-          step (known_there parts c.args.last.now.parts (get_or places k no_place) _ h (holding_of chains i) (c.same-same.ensures _ (known.part yes)) (known.spot yes) at was)
+          step (known_there parts c.args.last.now.parts (get_or places k no_place) _ h (holding_of chains i) same (known.spot yes) at was)
     ]

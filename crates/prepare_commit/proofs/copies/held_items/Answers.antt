@@ -1,4 +1,4 @@
-use Rattle.std.proofs.Common.{◌≡◌, ◌+◌, ◌<◌, ◌++◌, ◌∷◌, [], false, List, length, take, sym, ap, subst, ◌∙◌, arith}
+use Rattle.std.proofs.Common.{◌≡◌, ◌≢◌, ◌+◌, ◌<◌, ◌++◌, ◌∷◌, [], false, List, length, get_or, take, sym, ap, subst, ◌∙◌, arith}
 use Rattle.prepare_commit.specs.declared.items.ChainedItem.{ChainedItem}
 use Rattle.prepare_commit.specs.declared.items.KnownItem.{KnownItem}
 use Rattle.prepare_commit.specs.declared.parts.EntryPosition.{EntryPosition}
@@ -22,8 +22,8 @@ of-requires-2 c = ap (λ (cs : List (List Version)). length cs) c.of.ensures ∙
 pub put_chain-requires-clause-chain : goal.put_chain-requires-clause-chain
 put_chain-requires-clause-chain c =
     let i = c.get-item.result.now in
-    let known = c.requires.known c.loop-nth.nth i (omega (arith, c.loop-nth-test.true, c.len-nth-end.ensures)) in
-    has_chain c.args.block.now c.args.versions.now.chains i.chain c.requires.stands (omega (arith, known, ap (λ (j : ChainedItem). j.chain) c.get-item.ensures))
+    let known = c.requires.kept.known c.loop-nth.nth i (omega (arith, c.loop-nth-test.true, c.len-nth-end.ensures)) in
+    has_chain c.args.block.now c.args.versions.now.chains i.chain c.requires.kept.stands (omega (arith, known, ap (λ (j : ChainedItem). j.chain) c.get-item.ensures))
 
 pub loop-nth-preserved : goal.loop-nth-preserved
 loop-nth-preserved c =
@@ -39,24 +39,28 @@ loop-nth-preserved c =
     let all = holdings (take k items) chains in
     let many : length before ≡ length entries = as_many c.loop-nth.found 0 c.loop-nth.ends.items ∙ c.loop-nth.invariant.1 in
     let more : holdings (take (k + 1) items) chains ≡ all ++ h ∷ [] = holdings_more items chains k i within ∙ ap (λ (j : ChainedItem). all ++ holding_of chains j ∷ []) (sym c.get-item.ensures) in
-    let spot : i.chain < length c.args.last.now.spots.items = (let known = c.requires.known k i within in omega (arith, known, c.requires.spots, ap (λ (j : ChainedItem). j.chain) c.get-item.ensures)) in
-    let kept = subst (λ (j : ChainedItem). is_changed c.args.last.now.since j ≡ false → IsAsBegun (begun_by c.args.last.now) chains j) (sym c.get-item.ensures) (c.requires.kept k i within) in
+    let spot : i.chain < length c.args.last.now.spots.items = (let known = c.requires.kept.known k i within in omega (arith, known, c.requires.kept.spots, ap (λ (j : ChainedItem). j.chain) c.get-item.ensures)) in
+    let kept = subst (λ (j : ChainedItem). is_changed c.args.last.now.since j ≡ false → IsAsBegun (begun_by c.args.last.now) chains j) (sym c.get-item.ensures) (c.requires.kept.kept k i within) in
+    let apart = subst (λ (j : ChainedItem). is_changed c.args.last.now.since j ≡ false → (get_or c.args.last.now.spots.items j.chain no_place).part ≢ c.args.free) (sym c.get-item.ensures) (c.requires.free k i within) in
     elim c.if-has.branch [
       | then-has+in_ok-push+in_ok-push-2+in_ok-put_chain w ↦
           let cut = w.in_ok-put_chain.ensures.chain in
           let part = beside_more entries before i.entry (chain_at chains i.chain) many in
-          let place : EntryPosition = record { part = w.len-then-has.result; at = w.len-then-has-2.result } in
-          let place_is : place ≡ record { part = length c.args.last.now.parts; at = length (beside entries before) } =
-          (λ j. record { part = w.len-then-has.ensures j; at = (w.len-then-has-2.ensures ∙ c.loop-nth.entries.ok.0 ∙ sym (beside_long entries before many)) j }) in
+          let place : EntryPosition = record { part = c.args.free; at = w.len-then-has.result } in
+          let place_is : place ≡ record { part = c.args.free; at = length (beside entries before) } =
+          (λ j. record { part = c.args.free; at = (w.len-then-has.ensures ∙ c.loop-nth.entries.ok.0 ∙ sym (beside_long entries before many)) j }) in
           rw (w.places-is, w.entries-is, w.found-is, w.ends-is, more) (
             w.in_ok-put_chain.ensures.cut,
             sym (as_many w.put_chain.new.found 0 w.put_chain.new.ends.items) ∙ ap (λ (cs : List (List Version)). length cs) cut ∙ length_push before (chain_at chains i.chain) ∙ ap (λ n. n + 1) many ∙ sym (length_push entries i.entry) ∙ sym (ap (λ (es : List KnownItem). length es) w.in_ok-push-2.ensures.items),
-            rw (w.in_ok-push.ensures.items, w.in_ok-push-2.ensures.items, cut, part) (put_new c.args.last.now.parts (beside entries before) places all place h place_is c.loop-nth.invariant.2),
+            rw (w.in_ok-push.ensures.items, w.in_ok-push-2.ensures.items, cut, part) (put_new c.args.last.now.parts c.args.free c.requires.within (beside entries before) places all place h c.loop-nth.invariant.2 place_is),
           )
       | else-has+in_ok-push-3 w ↦
           rw (w.places-is, w.entries-is, w.found-is, w.ends-is, more, w.in_ok-push-3.ensures.items) (
             c.loop-nth.invariant.0,
             c.loop-nth.invariant.1,
-            put_old c.args.last.now.parts (beside entries before) places all w.index.result.now h c.loop-nth.invariant.2 (ap (held_at c.args.last.now.parts) (w.index.ensures ∙ get_or_default c.args.last.now.spots.items i.chain _ no_place spot) ∙ kept (sym c.has.ensures ∙ w.if-has.false)),
+            (let is = w.index.ensures ∙ get_or_default c.args.last.now.spots.items i.chain _ no_place spot in
+                let free = sym c.has.ensures ∙ w.if-has.false in
+                put_old c.args.last.now.parts c.args.free c.requires.within (beside entries before) places all w.index.result.now h c.loop-nth.invariant.2
+                (λ same. apart free (ap (λ (p : EntryPosition). p.part) (sym is) ∙ same)) (ap (held_at c.args.last.now.parts) is ∙ kept free)),
           )
     ]

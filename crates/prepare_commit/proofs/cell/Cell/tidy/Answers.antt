@@ -1,11 +1,13 @@
 use Rattle.std.proofs.Common.{arith}
 use Rattle.prepare_commit.specs.Layout.{chain_lists}
+use Rattle.prepare_commit.specs.Spots.{begun_by}
 use Rattle.prepare_commit.proofs.Lying.{lies_at}
+use Rattle.prepare_commit.proofs.Retiring.{kept_more}
 use Rattle.prepare_commit.proofs.Since.{kept_noted_all}
 use Rattle.prepare_commit.proofs.cell.Cell.tidy.Goals as goal
 
-pub returns-then-is_scattered-clause-lies : goal.returns-then-is_scattered-clause-lies
-returns-then-is_scattered-clause-lies c block is =
+pub returns-then-is_small-clause-lies : goal.returns-then-is_small-clause-lies
+returns-then-is_small-clause-lies c block is =
     let lies = lies_at block _ _ c.self.view_is is in
     let cell = c.self.inside in
     record {
@@ -14,5 +16,27 @@ returns-then-is_scattered-clause-lies c block is =
       since = kept_noted_all (record { parts = c.new.result; spots = cell.last_base.spots.items }) c.note_all.new.self cell.entries.items (chain_lists block cell.versions.chains)
           (λ chain less. c.note_all.ensures.noted chain (omega (arith, less, c.note_all.ensures.long)))
           (λ k d w. (let given = lies.holds.laid.given k d w in omega (arith, given, c.self.invariant.0, c.note_all.ensures.long, c.self.invariant.8)));
+      holds = lies.holds;
+    }
+
+pub returns-in_err-room-clause-lies : goal.returns-in_err-room-clause-lies
+returns-in_err-room-clause-lies c block is =
+    let lies = lies_at block _ _ c.self.view_is is in
+    let cell = c.self.inside in
+    record {
+      versions = lies.versions;
+      remembers = lies.remembers;
+      since = kept_more (begun_by cell.last_base) cell.last_base.since cell.entries.items (chain_lists block cell.versions.chains) lies.since c.make_room.new.since c.make_room.ensures.more;
+      holds = lies.holds;
+    }
+
+pub returns-clause-lies : goal.returns-clause-lies
+returns-clause-lies c block is =
+    let lies = lies_at block _ _ c.self.view_is is in
+    let cell = c.self.inside in
+    record {
+      versions = lies.versions;
+      remembers = lies.remembers;
+      since = kept_more (begun_by cell.last_base) cell.last_base.since cell.entries.items (chain_lists block cell.versions.chains) lies.since c.make_room.new.since c.make_room.ensures.more;
       holds = lies.holds;
     }
