@@ -1,12 +1,12 @@
-//! How many sessions a server has at the moment, which decides whether a read looks for a while before it sleeps.
+//! How many connections a server serves at the moment, which decides whether a read looks for a while before it sleeps.
 
 use std::sync::atomic::{AtomicU64, Ordering};
 
-/// Up to how many sessions a server may have where a read looks for what comes before it sleeps. Beside each a client is at work, so
+/// Up to how many connections a server may serve where a read looks for what comes before it sleeps. Beside each a client is at work, so
 /// these two keep four processors busy.
 const MOST_LOOKING: u64 = 2;
 
-/// How many sessions a server has.
+/// How many connections a server serves: a session each.
 #[derive(Drop)]
 pub(crate) struct SessionCount {
     sessions: AtomicU64,
