@@ -512,9 +512,19 @@ impl Cell {
         ensures lies { LiesIn block.now self.new }
         ensures rest { self.new ≡ begun_with self.old self.new.begun self.new.since }
     {
-        if !self.last_base.is_much_changed() {
-            return;
+        if self.last_base.is_much_changed() {
+            self.pack_changed(block);
         }
+    }
+
+    // Does what `pack_ahead` does where they are many. It stands alone, so that no other collection has room for it.
+    #[cold]
+    #[inline(never)]
+    fn pack_changed(&mut self, block: &Block)
+        requires { LiesIn block.now self.old }
+        ensures lies { LiesIn block.now self.new }
+        ensures rest { self.new ≡ begun_with self.old self.new.begun self.new.since }
+    {
         let alloc = *self.marks.allocator();
         let Ok(free) = self.tidy() else {
             return;

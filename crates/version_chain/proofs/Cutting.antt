@@ -8,7 +8,7 @@ use Rattle.version_chain.specs.Heads.{Heads}
 use Rattle.version_chain.specs.Chain.{Cells, HoldsChains, chain_versions, not_below, IsInserted}
 use Rattle.version_chain.specs.Changes.{ChangesChain, GivesUp, HaveOneMore}
 use Rattle.version_chain.specs.Discarded.{FreesOnly}
-use Rattle.version_chain.specs.Listed.{cut_where, is_at_stamp, with_kept, Lists}
+use Rattle.version_chain.specs.Listed.{cut_in, is_at_stamp, with_kept, Lists}
 use Rattle.version_chain.specs.Place.{NoneBelow, StartsBelow, IsPlace}
 use Rattle.version_chain.proofs.Changing.{changes_listed, changes_next, changes_none, gives_none}
 use Rattle.version_chain.proofs.CutMarks.{lists_cut}
@@ -66,7 +66,7 @@ cut_begun cells chains chain floor last here stands place = record {
 
 module _ (old_cells cells next_cells : Cells) (old chains next_chains : Heads) (kept : List Kept) (chain floor : ℕ) (last here next : Option ℕ) (slot stamp : ℕ) (cut : Cut old_cells cells old chains chain floor last here) (at : here ≡ Some slot) where
   pub cut_step : ChangesChain cells chains next_cells next_chains chain → IsSomeAnd (entry cells slot) (λ cell. HaveOneMore next_cells next_chains cells chains chain cell.0.version) → FreesOnly cells next_cells slot → next_chains.kept ≡ chains.kept
-      → IsPlace next_cells next_chains chain floor last next → IsSomeAnd (entry cells slot) (λ cell. stamp ≡ cell.0.version.prepared.stamp) → kept ≡ map (cut_where stamp slot) next_chains.kept → Cut old_cells next_cells old (with_kept next_chains kept) chain floor last next
+      → IsPlace next_cells next_chains chain floor last next → IsSomeAnd (entry cells slot) (λ cell. stamp ≡ cell.0.version.prepared.stamp) → kept ≡ cut_in stamp slot next_chains.kept → Cut old_cells next_cells old (with_kept next_chains kept) chain floor last next
   cut_step changed removed freed listed place whole marked =
       let on = on_cell cells chains.tenant chain slot here cut.place.below cut.place.goes_on at in
       let more : HaveOneMore next_cells next_chains cells chains chain on.version = subst (λ e. IsSomeAnd e (λ cell. HaveOneMore next_cells next_chains cells chains chain cell.0.version)) on.found removed in
@@ -81,6 +81,6 @@ module _ (old_cells cells next_cells : Cells) (old chains next_chains : Heads) (
         given_up = record { used = omega (arith, more.used, cut.given_up.used); none = λ e. absurd (omega (arith, e)) };
         place = record { above = place.above; below = place.below; all = place.all; ends = place.ends; goes_on = place.goes_on; not_less = place.not_less; less = place.less };
         kept = left.0 ∙ cut.kept;
-        listed = λ lists. lists_cut stamp slot cells next_cells chains (with_kept next_chains kept) changed.own.shape.tenant (marked ∙ ap (map (cut_where stamp slot)) listed) freed was (cut.listed lists);
+        listed = λ lists. lists_cut stamp slot cells next_cells chains (with_kept next_chains kept) changed.own.shape.tenant freed (marked ∙ ap (λ (ks : List Kept). cut_in stamp slot ks) listed) was (cut.listed lists);
         counted = omega (arith, fewer, cut.counted);
       }

@@ -7,7 +7,7 @@ use Rattle.version_chain.specs.declared.version.Node.{Node}
 use Rattle.version_chain.specs.declared.stamp_list.Kept.{Kept}
 use Rattle.version_chain.specs.Heads.{Heads}
 use Rattle.version_chain.specs.Chain.{Cells, HoldsChains, is_of_tenant}
-use Rattle.version_chain.specs.Listed.{held_at, is_at_stamp, is_mismarked, is_named, with_kept, Lists, Names, IsSwept, IsListedInto, IsPutAt, NoneCome, NoneMove}
+use Rattle.version_chain.specs.Listed.{held_at, is_at_stamp, is_long, is_mismarked, is_named, with_kept, Lists, Names, IsSwept, IsListedInto, IsPutAt, NoneCome, NoneMove}
 use Rattle.version_chain.proofs.Others.{ones}
 use Rattle.version_chain.proofs.Picking.{Lacks, Apart, picked_at, at_most}
 use Rattle.version_chain.proofs.Replacing.{same_or_not}
@@ -119,43 +119,47 @@ module _ (cells : Cells) (chains : Heads) (kept : List Kept) (is : kept ≡ filt
       no_count [] = refl
       no_count (x ∷ xs) = omega (arith, cons (λ (k : Kept). false) x xs, no_count xs)
 
+  -- a version that is left is mismarked only where it was cut
+  cut_named : (marks cut named : Bool) → named ≡ true → (if cut then named else marks && not named) ≡ true → cut ≡ true
+  cut_named marks true named e f = refl
+  cut_named marks false named e f = absurd (true_not named e (second_of marks (not named) f))
+
+  mismarked_left : (marks : Bool) (q : Kept → Bool) → ((k : Kept) → is_named chains.tenant cells k ≡ true → k.is_cut ≡ true → q k ≡ true)
+      → count_by (λ (k : Kept). is_mismarked chains.tenant cells marks k) kept ≤ count_by q chains.kept
+  mismarked_left marks q told =
+      let p = λ (k : Kept). is_mismarked chains.tenant cells marks k in
+      let one = ap (count_by p) is ∙ count_filter p (is_named chains.tenant cells) chains.kept in
+      let less = count_le (λ (k : Kept). is_named chains.tenant cells k && p k) q chains.kept
+      (λ k e. (let named = first_of (is_named chains.tenant cells k) (p k) e in told k named (cut_named marks k.is_cut (is_named chains.tenant cells k) named (second_of (is_named chains.tenant cells k) (p k) e)))) in
+      omega (arith, one, less)
+
   -- what is left is marked where none was cut, or where all marks were right
   pub lists_uncut : count_by (λ (k : Kept). k.is_cut) chains.kept ≡ 0 → Names cells chains → Lists cells (with_kept chains kept)
   lists_uncut uncut names = record {
     named = names_swept names;
-    marked =
-        let p = λ (k : Kept). is_mismarked chains.tenant cells k in
-        let one = ap (count_by p) is ∙ count_filter p (is_named chains.tenant cells) chains.kept in
-        let less = count_le (λ (k : Kept). is_named chains.tenant cells k && p k) (λ (k : Kept). k.is_cut) chains.kept
-        (λ k e. cut_named k.is_cut (is_named chains.tenant cells k) (first_of (is_named chains.tenant cells k) (p k) e) (second_of (is_named chains.tenant cells k) (p k) e)) in
-        omega (arith, one, less, uncut);
+    marked = (let less = mismarked_left (is_long kept) (λ (k : Kept). k.is_cut) (λ k named cut. cut) in omega (arith, less, uncut));
   }
-    where
-      cut_named : (cut named : Bool) → named ≡ true → (if cut then named else not named) ≡ true → cut ≡ true
-      cut_named true named e f = refl
-      cut_named false named e f = absurd (true_not named e f)
 
   pub lists_swept : Lists cells chains → Lists cells (with_kept chains kept)
   lists_swept lists = record {
     named = names_swept lists.named;
     marked =
-        let p = λ (k : Kept). is_mismarked chains.tenant cells k in
-        let one = ap (count_by p) is ∙ count_filter p (is_named chains.tenant cells) chains.kept in
-        let less = count_le (λ (k : Kept). is_named chains.tenant cells k && p k) p chains.kept (λ k e. second_of (is_named chains.tenant cells k) (p k) e) in
-        omega (arith, one, less, lists.marked);
+        let less = mismarked_left (is_long kept) (λ (k : Kept). is_mismarked chains.tenant cells (is_long chains.kept) k)
+        (λ k named cut. ap (λ b. if b then is_named chains.tenant cells k else is_long chains.kept && not (is_named chains.tenant cells k)) cut ∙ named) in
+        omega (arith, less, lists.marked);
   }
 
 -- where all marks are right, those that are not cut are those that are held
 module _ (cells : Cells) (tenant : ℕ) where
-  pub uncut_named : (kept : List Kept) → count_by (λ (k : Kept). is_mismarked tenant cells k) kept ≡ 0 → filter (λ (k : Kept). not k.is_cut) kept ≡ filter (is_named tenant cells) kept
+  pub uncut_named : (kept : List Kept) → count_by (λ (k : Kept). is_mismarked tenant cells true k) kept ≡ 0 → filter (λ (k : Kept). not k.is_cut) kept ≡ filter (is_named tenant cells) kept
   uncut_named [] none = refl
   uncut_named (k ∷ kept) none =
-      let all = cons (λ (x : Kept). is_mismarked tenant cells x) k kept in
+      let all = cons (λ (x : Kept). is_mismarked tenant cells true x) k kept in
       let rest = uncut_named kept (omega (arith, all, none)) in
       let this : not k.is_cut ≡ is_named tenant cells k = told k.is_cut (is_named tenant cells k) (omega (arith, all, none)) in
       (λ i. cond (this i) (k ∷ rest i) (rest i))
     where
-      told : (cut named : Bool) → one_if (if cut then named else not named) ≡ 0 → not cut ≡ named
+      told : (cut named : Bool) → one_if (if cut then named else true && not named) ≡ 0 → not cut ≡ named
       told true true e = absurd (omega (arith, e))
       told true false e = refl
       told false true e = refl
@@ -164,13 +168,14 @@ module _ (cells : Cells) (tenant : ℕ) where
 -- a swept list has no mark
 pub none_cut : (cells : Cells) (chains : Heads) → Lists cells chains → IsSwept cells chains → count_by (λ (k : Kept). k.is_cut) chains.kept ≡ 0
 none_cut cells chains lists swept =
-    let either = count_either (λ (k : Kept). k.is_cut) (λ (k : Kept). is_mismarked chains.tenant cells k) (λ (k : Kept). not (is_named chains.tenant cells k)) chains.kept (λ k e. one_of k.is_cut (is_named chains.tenant cells k) e) in
+    let either = count_either (λ (k : Kept). k.is_cut) (λ (k : Kept). is_mismarked chains.tenant cells (is_long chains.kept) k) (λ (k : Kept). not (is_named chains.tenant cells k)) chains.kept
+    (λ k e. one_of (is_long chains.kept) k.is_cut (is_named chains.tenant cells k) e) in
     omega (arith, either, lists.marked, swept)
   where
-    one_of : (cut named : Bool) → cut ≡ true → ((if cut then named else not named) ≡ true) ⊎ (not named ≡ true)
-    one_of true true e = inl refl
-    one_of true false e = inr refl
-    one_of false named e = absurd (let g : false ≡ true = e in cc)
+    one_of : (marks cut named : Bool) → cut ≡ true → ((if cut then named else marks && not named) ≡ true) ⊎ (not named ≡ true)
+    one_of marks true true e = inl refl
+    one_of marks true false e = inr refl
+    one_of marks false named e = absurd (let g : false ≡ true = e in cc)
 
 -- a swept list has no more than the tenant uses
 pub apart_from : (kept : List Kept) → ((slot : ℕ) → count_by (λ (k : Kept). k.slot == slot) kept ≤ 1) → Apart (map (λ (k : Kept). k.slot) kept)
@@ -255,19 +260,32 @@ module _ (cells : Cells) (chains : Heads) (stands : HoldsChains cells chains) (l
     lists_put = record {
       named = names_put;
       marked =
-          let p = λ (k : Kept). is_mismarked after.tenant new k in
-          let none = ap one_unless held in
-          let rest = count_either p (λ (k : Kept). is_mismarked chains.tenant cells k) (λ (k : Kept). not (is_named chains.tenant cells k)) chains.kept each in
+          let p = λ (k : Kept). is_mismarked after.tenant new (is_long after.kept) k in
+          let none = unmarked (is_long after.kept) (is_named after.tenant new (held_at stamp slot)) held in
+          let rest = count_either p (λ (k : Kept). is_mismarked chains.tenant cells (is_long chains.kept) k) (λ (k : Kept). not (is_named chains.tenant cells k)) chains.kept each in
           omega (arith, added p, none, rest, lists.marked, swept);
     }
       where
         held : is_named after.tenant new (held_at stamp slot) ≡ true
         held = ap (λ t. is_at_stamp t stamp (entry new slot)) whose ∙ put.held stamp ∙ eq-eqb stamp stamp refl
 
-        each : (k : Kept) → is_mismarked after.tenant new k ≡ true → (is_mismarked chains.tenant cells k ≡ true) ⊎ (not (is_named chains.tenant cells k) ≡ true)
+        unmarked : (marks named : Bool) → named ≡ true → one_if (marks && not named) ≡ 0
+        unmarked true true e = refl
+        unmarked true false e = absurd (let f : true ≡ false = sym e in cc)
+        unmarked false named e = refl
+
+        -- what was held is held
+        by : (marks more cut named : Bool) → (if cut then named else more && not named) ≡ true → ((if cut then named else marks && not named) ≡ true) ⊎ (not named ≡ true)
+        by marks more true named e = inl e
+        by marks more false named e = inr (second_of more (not named) e)
+
+        each : (k : Kept) → is_mismarked after.tenant new (is_long after.kept) k ≡ true
+            → (is_mismarked chains.tenant cells (is_long chains.kept) k ≡ true) ⊎ (not (is_named chains.tenant cells k) ≡ true)
         each k e = elim (same_or_not k.slot slot) [
           | inl same ↦ inr (not_there k same)
-          | inr other ↦ inl (ap (λ b. if k.is_cut then b else not b) (sym (put.rest k.slot k.stamp other) ∙ ap (λ t. is_at_stamp t k.stamp (entry new k.slot)) (sym whose)) ∙ e)
+          | inr other ↦
+              let same : is_named after.tenant new k ≡ is_named chains.tenant cells k = ap (λ t. is_at_stamp t k.stamp (entry new k.slot)) whose ∙ put.rest k.slot k.stamp other in
+              by (is_long chains.kept) (is_long after.kept) k.is_cut (is_named chains.tenant cells k) (ap (λ b. if k.is_cut then b else is_long after.kept && not b) (sym same) ∙ e)
         ]
 
 -- after a mark
@@ -275,7 +293,8 @@ pub lists_same : (old new : Cells) (chains : Heads) → NoneMove old new chains.
 lists_same old new chains same lists = record {
   named = record { once = lists.named.once; all = λ slot stamp there. lists.named.all slot stamp (sym (same slot stamp) ∙ there) };
   marked =
-      let less = count_le (λ (k : Kept). is_mismarked chains.tenant new k) (λ (k : Kept). is_mismarked chains.tenant old k) chains.kept (λ k e. ap (λ b. if k.is_cut then b else not b) (sym (same k.slot k.stamp)) ∙ e) in
+      let less = count_le (λ (k : Kept). is_mismarked chains.tenant new (is_long chains.kept) k) (λ (k : Kept). is_mismarked chains.tenant old (is_long chains.kept) k) chains.kept
+      (λ k e. ap (λ b. if k.is_cut then b else is_long chains.kept && not b) (sym (same k.slot k.stamp)) ∙ e) in
       omega (arith, less, lists.marked);
 }
 
@@ -295,5 +314,5 @@ lists_none cells chains none empty = record {
         let this = sum_by-cons (picked_at (ones chains.tenant) None cells) slot [] in
         absurd (omega (arith, one, few, this, empty));
   };
-  marked = ap (count_by (λ (k : Kept). is_mismarked chains.tenant cells k)) none;
+  marked = ap (count_by (λ (k : Kept). is_mismarked chains.tenant cells (is_long chains.kept) k)) none;
 }

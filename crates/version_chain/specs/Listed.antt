@@ -1,5 +1,5 @@
 -- The kept versions of a tenant, listed by their stamps.
-use Rattle.std.specs.Prelude.{◌≡◌, ◌≢◌, ◌⊎◌, ℕ, ◌<◌, ◌≤◌, ◌==◌, ◌&&◌, ◌||◌, if◌then◌else◌, Bool, true, false, not, List, ◌∷◌, count_by}
+use Rattle.std.specs.Prelude.{◌≡◌, ◌≢◌, ◌⊎◌, ℕ, ◌<◌, ◌≤◌, ◌==◌, ◌&&◌, ◌||◌, if◌then◌else◌, Bool, true, false, not, nat_lt, List, ◌∷◌, count_by, length, map}
 use Rattle.std.specs.Prelude.{Option, Some, None}
 use Rattle.version_arena.specs.Arena.{entry}
 use Rattle.version_chain.specs.declared.version.Node.{Node}
@@ -27,6 +27,14 @@ cut_at slot kept = record { stamp = kept.stamp; slot = kept.slot; is_cut = kept.
 abbrev pub cut_where : ℕ → ℕ → Kept → Kept
 cut_where stamp slot kept = if kept.stamp == stamp then cut_at slot kept else kept
 
+-- the list is so long that versions that are cut are marked in it
+abbrev pub is_long : List Kept → Bool
+is_long kept = nat_lt 1024 (length kept)
+
+-- the list once the version of this stamp and slot was cut
+abbrev pub cut_in : ℕ → ℕ → List Kept → List Kept
+cut_in stamp slot kept = if is_long kept then map (cut_where stamp slot) kept else kept
+
 -- the second list has the versions of the first and this one, each as often, in any order
 abbrev pub IsListedInto : List Kept → List Kept → Kept → Type 0
 IsListedInto old new version = (test : Kept → Bool) → count_by test new ≡ count_by test (version ∷ old)
@@ -37,14 +45,14 @@ pub record Names (cells : Cells) (chains : Heads) : Type 0 where
   pub all : (slot stamp : ℕ) → is_at_stamp chains.tenant stamp (entry cells slot) ≡ true
       → 0 < count_by (λ (k : Kept). (k.slot == slot) && (k.stamp == stamp)) chains.kept
 
--- the version is marked as cut though its cell holds it, or it is not and its cell does not hold it
-abbrev pub is_mismarked : ℕ → Cells → Kept → Bool
-is_mismarked tenant cells kept = if kept.is_cut then is_named tenant cells kept else not (is_named tenant cells kept)
+-- the version is marked as cut though its cell holds it, or it is not, where all that are cut are marked, and its cell does not hold it
+abbrev pub is_mismarked : ℕ → Cells → Bool → Kept → Bool
+is_mismarked tenant cells marks kept = if kept.is_cut then is_named tenant cells kept else marks && not (is_named tenant cells kept)
 
--- it does; it may also name cells that were freed since, and marks just these as cut
+-- it does; it may also name cells that were freed since, and marks no others as cut, and all of these where it is long
 pub record Lists (cells : Cells) (chains : Heads) : Type 0 where
   pub named : Names cells chains
-  pub marked : count_by (λ (k : Kept). is_mismarked chains.tenant cells k) chains.kept ≡ 0
+  pub marked : count_by (λ (k : Kept). is_mismarked chains.tenant cells (is_long chains.kept) k) chains.kept ≡ 0
 
 -- it names no other cell
 abbrev pub IsSwept : Cells → Heads → Type 0

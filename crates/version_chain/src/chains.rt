@@ -39,8 +39,8 @@ pub enum Insert {
 /// call. A clause sees each chain as the list of its versions, with strictly falling stamps. Beside them stands a list of
 /// all these versions in the order of their stamps, which names each by its slot.
 ///
-/// A cut leaves the versions that it gives up in that list, and marks them there; one `sweep` takes all of them out. Until then
-/// nothing may be inserted, since a new version may get the slot of one that was dropped.
+/// A cut leaves the versions that it gives up in that list, and marks them there where it is long; one `sweep` takes all of them out.
+/// Until then nothing may be inserted, since a new version may get the slot of one that was dropped.
 ///
 /// A stamp is searched for from the head of its chain down. Where its place is not behind the first few versions, one
 /// version of the chain and one of the list are visited alternately, the latter from the stamp up: the first of them that
@@ -557,8 +557,8 @@ impl Chains {
     }
 
     /// Gives up the versions of a chain below a stamp, whether they are committed or not, frees their cells, and
-    /// answers how many they were; the list of the kept versions still names them, marked as cut. It visits all versions of the
-    /// chain, and finds each that it gives up in that list by a binary search.
+    /// answers how many they were; the list of the kept versions still names them, marked as cut where it is long. It visits all
+    /// versions of the chain, and finds each that it gives up in a long list by a binary search.
     pub fn cut_below(&mut self, block: &mut Block, chain: u32, floor: Stamp) -> u32
         requires { HasChain block.old self.old chain }
         ensures changed { ChangesChain block.old self.old block.new self.new chain }
@@ -577,7 +577,7 @@ impl Chains {
             let stamp = stamp_of(&block.get(slot).version.prepared);
             let before = last;
             self.unlink(block, chain, before, slot);
-            self.kept.mark_cut(stamp, slot);
+            self.kept.note_cut(stamp, slot);
         }
         used - self.used
     }
@@ -755,13 +755,14 @@ impl Chains {
         None
     }
 
-    /// Takes the versions that were cut out of the list of the kept ones. It goes over that list once, and visits no cell.
+    /// Takes the versions that were cut out of the list of the kept ones. It goes over that list once, and visits no cell where the list
+    /// is long.
     pub fn sweep(&mut self, block: &Block)
         requires { Lists block.now self.old }
         ensures list { ListsExactly block.now self.new }
         ensures rest { self.new ≡ with_kept self.old self.new.kept }
     {
-        self.kept.sweep();
+        self.kept.sweep(block, self.tenant);
     }
 }
 

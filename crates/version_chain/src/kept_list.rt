@@ -1,7 +1,7 @@
 //! The kept versions of a tenant, in two lists.
 ghost use Rattle.std.specs.Prelude.{◌≡◌, ◌==◌, ◌+◌, ◌<◌, ◌≤◌, ◌++◌, [], Bool, IsTrue, false, length, filter, map, not, nat_lt, count_by, IfOk, slice_range, slice_index_or};
 ghost use Rattle.version_chain.specs.Listing.{AreApart, count_at};
-ghost use Rattle.version_chain.specs.Listed.{IsListedInto, cut_where, held_at, is_named};
+ghost use Rattle.version_chain.specs.Listed.{IsListedInto, cut_in, cut_where, held_at, is_long, is_mismarked, is_named};
 ghost use Rattle.version_chain.specs.Discarded.{IsSweptBut};
 ghost use Rattle.version_chain.specs.Place.{least_of};
 
@@ -15,6 +15,10 @@ use version_arena::Slot;
 
 // So many versions at most stand apart from the others.
 const MOST_LATE: u32 = 512;
+
+// A list of more versions has those marked that were cut. In a list of so many or fewer a sweep looks into the cell of each, which
+// takes less than to find each that was cut.
+const MOST_LOOKED_AT: usize = 1024;
 
 /// The kept versions in two lists, in each of them the least stamp first. Contracts see how many there is room for, and
 /// the one list before the other.
@@ -107,9 +111,27 @@ impl KeptList {
         }
     }
 
-    /// Marks the version of this stamp and slot as cut, if one of the lists has it. A binary search in each finds the first of the
-    /// stamp, and each of the stamp is visited.
-    pub(crate) fn mark_cut(&mut self, stamp: Stamp, slot: Slot)
+    // Whether the versions that are cut are marked.
+    fn is_long(&self) -> bool
+        ensures { result ≡ is_long self.now.kept }
+    {
+        self.main.len() + self.late.len() > MOST_LOOKED_AT
+    }
+
+    /// Marks the version of this stamp and slot as cut, where the list is long and has it.
+    pub(crate) fn note_cut(&mut self, stamp: Stamp, slot: Slot)
+        ensures room { self.new.room ≡ self.old.room }
+        ensures noted { self.new.kept ≡ cut_in stamp slot self.old.kept }
+    {
+        if self.is_long() {
+            self.mark_cut(stamp, slot);
+        }
+    }
+
+    // Marks the version of this stamp and slot as cut, if one of the lists has it. A binary search in each finds the first of the
+    // stamp, and each of the stamp is visited.
+    #[inline(never)]
+    fn mark_cut(&mut self, stamp: Stamp, slot: Slot)
         ensures room { self.new.room ≡ self.old.room }
         ensures marked { self.new.kept ≡ map (cut_where stamp slot) self.old.kept }
     {
@@ -117,13 +139,37 @@ impl KeptList {
         self.late.mark_cut(stamp, slot);
     }
 
-    /// Takes out the versions that are marked as cut. It goes over both lists once, and visits no cell.
-    pub(crate) fn sweep(&mut self)
+    /// Takes out the versions that their cells do not hold any more, which are those that are marked where the list is long. It goes
+    /// over both lists once, and visits no cell then; else it looks into the cell of each.
+    pub(crate) fn sweep(&mut self, block: &Block, tenant: u32)
+        requires { let marks = is_long self.old.kept in
+            count_by (is_mismarked tenant block.now marks) self.old.kept ≡ 0 }
+        ensures room { self.new.room ≡ self.old.room }
+        ensures swept { self.new.kept ≡ filter (is_named tenant block.now) self.old.kept }
+    {
+        if self.is_long() {
+            self.sweep_marked();
+        } else {
+            self.sweep_unheld(block, tenant);
+        }
+    }
+
+    // Takes out the versions that are marked as cut.
+    fn sweep_marked(&mut self)
         ensures room { self.new.room ≡ self.old.room }
         ensures swept { self.new.kept ≡ filter (λ k. not k.is_cut) self.old.kept }
     {
-        self.main.sweep();
-        self.late.sweep();
+        self.main.sweep_marked();
+        self.late.sweep_marked();
+    }
+
+    // Takes out the versions that their cells do not hold any more.
+    fn sweep_unheld(&mut self, block: &Block, tenant: u32)
+        ensures room { self.new.room ≡ self.old.room }
+        ensures swept { self.new.kept ≡ filter (is_named tenant block.now) self.old.kept }
+    {
+        self.main.sweep_unheld(block, tenant);
+        self.late.sweep_unheld(block, tenant);
     }
 
     /// Takes out the versions of a stamp that their cells do not hold any more, where all others are held. It goes over

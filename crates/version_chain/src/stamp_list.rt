@@ -158,11 +158,19 @@ impl StampList {
     }
 
     /// Takes out the versions that are marked as cut. It goes over the list once, and visits no cell.
-    pub(crate) fn sweep(&mut self)
+    pub(crate) fn sweep_marked(&mut self)
         ensures room { self.new.room ≡ self.old.room }
         ensures swept { self.new.kept ≡ filter (λ k. not k.is_cut) self.old.kept }
     {
         self.kept.retain(|kept| !kept.is_cut);
+    }
+
+    /// Takes out the versions that their cells do not hold any more. It goes over the list once, and looks into each cell.
+    pub(crate) fn sweep_unheld(&mut self, block: &Block, tenant: u32)
+        ensures room { self.new.room ≡ self.old.room }
+        ensures swept { self.new.kept ≡ filter (is_named tenant block.now) self.old.kept }
+    {
+        self.kept.retain(|kept| is_held(block, tenant, kept));
     }
 
     /// Takes out the versions of a stamp that their cells do not hold any more, where all others are held. It goes over

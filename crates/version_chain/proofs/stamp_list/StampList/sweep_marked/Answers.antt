@@ -3,8 +3,8 @@ use Rattle.std.proofs.lemmas.Fn.{filter_same}
 use Rattle.std.proofs.lemmas.List.Kept.{IsNonDecreasingBy-filter}
 use Rattle.version_chain.specs.declared.stamp_list.Kept.{Kept}
 use Rattle.version_chain.specs.Listing.{KeptListing, Ascends}
-use Rattle.version_chain.proofs.stamp_list.StampList.sweep.Goals as goal
-use Rattle.version_chain.proofs.stamp_list.StampList.sweep.Goals.{After-retain}
+use Rattle.version_chain.proofs.stamp_list.StampList.sweep_marked.Goals as goal
+use Rattle.version_chain.proofs.stamp_list.StampList.sweep_marked.Goals.{After-retain}
 
 left : (c : After-retain) → c.retain.new.self.items ≡ filter (λ (k : Kept). not k.is_cut) c.self.inside.kept.items
 left c = filter_same _ (λ (k : Kept). not k.is_cut) _ (λ x b f called. search rules) c.self.inside.kept.items c.retain.new.self.items c.retain.ensures.filtered

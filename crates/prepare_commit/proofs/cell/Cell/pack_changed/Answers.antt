@@ -4,7 +4,7 @@ use Rattle.prepare_commit.specs.InBlock.{Parts}
 use Rattle.prepare_commit.specs.Layout.{chain_lists}
 use Rattle.prepare_commit.proofs.Lying.{lies_at, has_all}
 use Rattle.prepare_commit.proofs.Since.{kept_noted_all}
-use Rattle.prepare_commit.proofs.cell.Cell.pack_ahead.Goals as goal
+use Rattle.prepare_commit.proofs.cell.Cell.pack_changed.Goals as goal
 
 pub pack_noted-requires : goal.pack_noted-requires
 pack_noted-requires c =
