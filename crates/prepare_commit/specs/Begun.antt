@@ -1,5 +1,6 @@
 -- What a base has of each item, in parts that bases share, and which items are still as a part has them.
-use Rattle.std.specs.Prelude.{◌≡◌, ◌≢◌, ◌<◌, ◌≤◌, ◌==◌, ℕ, zero, suc, ◌+◌, Bool, false, All, List, [], ◌∷◌, length, Option, Some, None, map, count_by, slice_get, slice_index_or}
+use Rattle.std.specs.Prelude.{◌≡◌, ◌≢◌, ◌<◌, ◌≤◌, ◌==◌, ℕ, zero, suc, ◌+◌, ◌-◌, ◌^◌, min, Bool, false, ◌&&◌, not, All, List, [], ◌∷◌, length, Option, Some, None, map, count_by, slice_get, slice_index_or}
+use Rattle.std.specs.List.{range_with_len, sum_by}
 use Rattle.version_chain.specs.declared.version.Version.{Version}
 use Rattle.prepare_commit.specs.declared.items.KnownItem.{KnownItem}
 use Rattle.prepare_commit.specs.declared.items.ChainedItem.{ChainedItem}
@@ -21,6 +22,10 @@ beside (e ∷ entries) (versions ∷ chains) = record { entry = e; versions = ve
 -- what lies at a place of one of the parts
 abbrev pub held_at : List (List Holding) → EntryPosition → Option Holding
 held_at parts place = slice_get (slice_index_or parts place.part []) place.at
+
+-- how many lie in all parts, as far as a `usize` can count them
+abbrev pub entries_of : List (List Holding) → ℕ
+entries_of parts = min (sum_by (λ part. length part) parts) (2 ^ 64 - 1)
 
 -- these lie at the places
 abbrev pub LieAt : List (List Holding) → List EntryPosition → List Holding → Type 0
@@ -89,6 +94,14 @@ IsFree spots since items part =
 abbrev pub IsLeft : List EntryPosition → List Bool → ℕ → ℕ → Type 0
 IsLeft spots since chains part =
     (chain : ℕ) → chain < chains → slice_index_or since chain false ≡ false → (slice_index_or spots chain no_place).part ≢ part
+
+-- the chain was not noted, and lies in the part
+abbrev pub is_kept_in : List EntryPosition → List Bool → ℕ → ℕ → Bool
+is_kept_in spots since part chain = not (slice_index_or since chain false) && ((slice_index_or spots chain no_place).part == part)
+
+-- of how many of the first so many chains this holds
+abbrev pub kept_in : List EntryPosition → List Bool → ℕ → ℕ → ℕ
+kept_in spots since chains part = count_by (is_kept_in spots since part) (range_with_len 0 chains)
 
 -- a part can be put there, in the place of one that is free or at the end
 abbrev pub HasRoomAt : BegunBase → List Bool → List ChainedItem → ℕ → Type 0

@@ -1,7 +1,8 @@
 //! The cell.
 ghost use Rattle.std.specs.Prelude.{◌≡◌, ◌≢◌, ◌+◌, ◌≤◌, ◌^◌, ◌↔◌, [], count_by, IfOk, OnErr, IsSomeAnd, IsTrue};
-ghost use Rattle.std.specs.Prelude.{◌<◌, ◌==◌, ◌&&◌, not, is_some, nat_le, length};
+ghost use Rattle.std.specs.Prelude.{◌<◌, ◌==◌, ◌&&◌, List, max, not, is_some, nat_le, length};
 ghost use Rattle.std.specs.Ordering.{nat_cmp};
+ghost use Rattle.stamps.specs.Limits.{max_room};
 ghost use Rattle.stamps.specs.Stamp.{client_of};
 ghost use Rattle.version_chain.specs.Chain.{Cells, is_of_tenant, HasShare, OthersKept, at_stamp};
 ghost use Rattle.version_chain.specs.Changes.{HasChain};
@@ -10,7 +11,7 @@ ghost use Rattle.version_chain.specs.Sharing.{ChangesOwn};
 ghost use Rattle.secondary_index.specs.Ordered.{IsInOrder};
 ghost use Rattle.prepare_commit.specs.Marks.{mark_row, marks_of, mark_in};
 ghost use Rattle.prepare_commit.specs.InBlock.{content_in, begun_with, LiesIn};
-ghost use Rattle.prepare_commit.specs.Begun.{HasRoomAt, NotesFew, holdings};
+ghost use Rattle.prepare_commit.specs.Begun.{HasRoomAt, Holding, NotesFew, holdings, put_at};
 ghost use Rattle.prepare_commit.specs.HowMuch.{IsHeldIn};
 ghost use Rattle.prepare_commit.specs.Calls.{versions_at, HoldsTheSame, IsAnswered, IsServed, LiesWithShare};
 ghost use Rattle.prepare_commit.specs.Layout.{chain_lists};
@@ -34,7 +35,7 @@ use crate::parts::PartList;
 use crate::reply::{
     GetReply, put_committed, put_discarded, put_found, put_freed, put_prepared, put_read, reply_of,
 };
-use crate::retire::{MOST_MOVED, is_scattered, is_small, make_room};
+use crate::retire::{MOST_MOVED, MOST_PARTS, is_scattered, is_small, make_room};
 use crate::versions::Versions;
 use crate::{Base, fill, marks};
 use lists::RowList;
@@ -606,8 +607,8 @@ impl Cell {
     }
 
     // Where the next base puts its new part. Where the parts of the last base are scattered, it notes items that did not change, so
-    // that a part has no other any more: all of a small cell, at most twice `MOST_MOVED` of any other. The one error is that an
-    // allocation failed.
+    // that a part has no other any more: all of a small cell, at most twice `MOST_MOVED` of any other. Above `MOST_PARTS` parts the new
+    // part adds none. The one error is that an allocation failed.
     fn tidy(&mut self) -> Result<usize, AllocError>
         ensures lies { (block : Cells) → LiesIn block self.old → LiesIn block self.new }
         ensures rest { self.new ≡ begun_with self.old self.new.begun self.new.since }
@@ -615,6 +616,10 @@ impl Cell {
             → NotesFew (MOST_MOVED + MOST_MOVED) self.old.since self.new.since }
         ensures free { IfOk result (λ free. (block : Cells) → LiesIn block self.old
             → HasRoomAt self.new.begun self.new.since self.new.items free) }
+        ensures parts { length self.old.items ≤ max_room
+            → IfOk result (λ free. (part : List Holding)
+            → length (put_at self.new.begun.parts free part)
+            ≤ max (MOST_PARTS + 1) (length self.old.begun.parts)) }
     {
         let alloc = *self.marks.allocator();
         if !is_scattered(&self.last_base.parts, self.entries.len()) {

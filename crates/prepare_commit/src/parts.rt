@@ -1,6 +1,6 @@
 //! The entries of items with their versions, in parts that bases share and that never change.
 ghost use Rattle.std.specs.Prelude.{◌≡◌, ◌<◌, ◌≤◌, ◌++◌, ◌↔◌, ℕ, [], true, false, Some, length, IsTrue, IfOk, OnOk, slice_get, slice_index_or};
-ghost use Rattle.prepare_commit.specs.Begun.{Holding, beside, held_at, put_at};
+ghost use Rattle.prepare_commit.specs.Begun.{Holding, beside, entries_of, held_at, put_at};
 
 use crate::base::are_entries;
 use crate::items::KnownItem;
@@ -237,7 +237,9 @@ impl PartList {
     }
 
     /// How many entries all parts have, as far as they can be counted.
-    pub(crate) fn entries(&self) -> usize {
+    pub(crate) fn entries(&self) -> usize
+        ensures { result ≡ entries_of self.now }
+    {
         let mut sum = 0usize;
         for part in &self.parts {
             sum = sum.saturating_add(part.len());

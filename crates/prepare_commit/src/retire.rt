@@ -1,13 +1,15 @@
 //! Which part of the last base the next one replaces, so that the parts stay few and have little that no base wants any more.
-ghost use Rattle.std.specs.Prelude.{◌≡◌, ◌+◌, ◌↔◌, ◌<◌, ◌≤◌, false, length, IsTrue, IfOk, IfSome, slice_index_or};
-ghost use Rattle.prepare_commit.specs.Begun.{IsLeft, NotesFew, NotesJust, NotesMore, no_place};
+ghost use Rattle.std.specs.Prelude.{◌≡◌, ◌≢◌, ◌+◌, ◌↔◌, ◌<◌, ◌≤◌, ◌/◌, ◌⊎◌, ℕ, false, length, IsTrue, IfOk, IfSome, None, slice_index_or};
+ghost use Rattle.std.specs.List.{sum_by};
+ghost use Rattle.stamps.specs.Limits.{max_room};
+ghost use Rattle.prepare_commit.specs.Begun.{IsLeft, NotesFew, NotesJust, NotesMore, entries_of, kept_in, no_place};
 
 use crate::changed::ChangedChains;
 use crate::parts::{EntryPosition, PartList};
 use std::alloc::{AllocError, Global};
 
 /// Above so many parts each cut replaces one. A cell has at most 65536 items, so that one of more parts has at most 255 of them.
-const MOST_PARTS: usize = 256;
+pub(crate) const MOST_PARTS: usize = 256;
 
 /// For one part that is replaced, a cut packs at most so many items that did not change.
 pub(crate) const MOST_MOVED: usize = 512;
@@ -20,22 +22,29 @@ pub(crate) fn is_small(items: usize) -> bool
 }
 
 /// Whether the parts are many, or have much that no base wants any more.
-pub(crate) fn is_scattered(parts: &PartList, items: usize) -> bool {
+pub(crate) fn is_scattered(parts: &PartList, items: usize) -> bool
+    ensures { IsTrue result
+        ↔ ((MOST_PARTS < length parts.now) ⊎ (items < entries_of parts.now / 2)) }
+{
     are_many(parts) || are_wasteful(parts, items)
 }
 
-fn are_many(parts: &PartList) -> bool {
+fn are_many(parts: &PartList) -> bool
+    ensures { IsTrue result ↔ (MOST_PARTS < length parts.now) }
+{
     parts.len() > MOST_PARTS
 }
 
 // Whether more than half of the entries are no item's any more.
-fn are_wasteful(parts: &PartList, items: usize) -> bool {
+fn are_wasteful(parts: &PartList, items: usize) -> bool
+    ensures { IsTrue result ↔ (items < entries_of parts.now / 2) }
+{
     parts.entries() / 2 > items
 }
 
-/// A part that the next base can replace, if there is one. Of the first so many chains, each of which is an item's, it notes at most
-/// `MOST_MOVED` of the part with the most that no base wants any more, or of the one with the fewest items, or of both. The one error
-/// is that an allocation failed.
+/// A part that the next base can replace, if there is one. There is one where the parts are more than `MOST_PARTS`, and the chains at
+/// most as many as a cell has items. Of the first so many chains, each of which is an item's, it notes at most `MOST_MOVED` of the part
+/// with the most that no base wants any more, or of the one with the fewest items, or of both. The one error is that an allocation failed.
 pub(crate) fn make_room(
     alloc: Global,
     chains: u32,
@@ -49,6 +58,8 @@ pub(crate) fn make_room(
     ensures few { NotesFew (MOST_MOVED + MOST_MOVED) since.old since.new }
     ensures within { IfOk result (λ free. IfSome free (λ part. part < length parts.now)) }
     ensures free { IfOk result (λ free. IfSome free (IsLeft spots.now since.new chains)) }
+    ensures room { MOST_PARTS < length parts.now → chains ≤ max_room
+        → IfOk result (λ free. free ≢ None) }
 {
     let kept = count_kept(alloc, chains, parts, spots, since)?;
     if are_wasteful(parts, chains as usize) {
@@ -76,6 +87,10 @@ fn count_kept(
 ) -> Result<Vec<usize>, AllocError>
     requires spots { chains ≤ length spots.now }
     requires since { chains ≤ length since.now }
+    ensures long { IfOk result (λ counts. length counts.items ≡ length parts.now) }
+    ensures each { IfOk result (λ counts. (part : ℕ) → part < length counts.items
+        → slice_index_or counts.items part 0 ≡ kept_in spots.now since.now chains part) }
+    ensures all { IfOk result (λ counts. sum_by (λ n. n) counts.items ≤ chains) }
 {
     let mut counts = vec![in alloc; 0usize; parts.len()]?;
     for chain in 0..chains {
@@ -88,7 +103,11 @@ fn count_kept(
 }
 
 // The first of the parts with the fewest of these chains.
-fn emptiest(kept: &[usize]) -> usize {
+fn emptiest(kept: &[usize]) -> usize
+    ensures within { 0 < length kept.now → result < length kept.now }
+    ensures least { (part : ℕ) → part < length kept.now
+        → slice_index_or kept.now result 0 ≤ slice_index_or kept.now part 0 }
+{
     let mut best = 0;
     let mut fewest = usize::MAX;
     for nth in 0..kept.len() {
@@ -122,6 +141,7 @@ fn note_in(chains: u32, spots: &[EntryPosition], since: &mut ChangedChains, part
     ensures few { NotesFew MOST_MOVED since.old since.new }
     ensures free { IsTrue result → IsLeft spots.now since.new chains part }
     ensures most { result ≡ false → NotesJust MOST_MOVED since.old since.new }
+    ensures full { kept_in spots.now since.old chains part ≤ MOST_MOVED → IsTrue result }
 {
     let mut left = MOST_MOVED;
     for chain in 0..chains {
