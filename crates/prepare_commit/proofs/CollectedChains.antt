@@ -1,20 +1,21 @@
 -- For the functions of the module `collect`. The items beside their versions, while they are collected one after another.
-use Rattle.std.proofs.Common.{◌≡◌, ◌≢◌, ℕ, max, ◌+◌, ◌<◌, ◌==◌, Bool, true, false, cond, nat_le, List, [], ◌∷◌, map, set, filter, length, get_or, refl, sym, ap, ◌∙◌, arith}
+use Rattle.std.proofs.Common.{◌≡◌, ◌≢◌, ℕ, max, ◌+◌, ◌<◌, ◌==◌, ◌||◌, Bool, true, false, cond, nat_le, List, [], ◌∷◌, map, set, take, filter, length, get_or, refl, sym, ap, ◌∙◌, arith}
+use Rattle.std.specs.List.{list_any}
 use mathlib.Core.List.{map-map}
 use Rattle.std.proofs.lemmas.Bool.{cond-true, cond-false, eqb-true, eq-eqb, ne_eqb}
+use Rattle.std.proofs.lemmas.Bool.Decides.{nat_tests}
 use Rattle.std.proofs.lemmas.List.{get_or-set_same, get_or-set_other, get_or-map, map-id, map-set, set-set, set-get_or}
-use Rattle.std.proofs.lemmas.List.Elements.{All-map, All-filter}
-use Rattle.std.proofs.lemmas.List.Folds.{map_fixed}
+use Rattle.std.proofs.lemmas.List.Elements.{All-map, All-filter, filter_passes}
+use Rattle.std.proofs.lemmas.List.Folds.{map_fixed, list_any_more}
 use Rattle.plain_store.specs.Stamps.{kth_greatest}
 use Rattle.version_chain.specs.declared.version.Version.{Version}
 use Rattle.prepare_commit.specs.declared.items.ChainedItem.{ChainedItem}
 use Rattle.prepare_commit.specs.Layout.{chain_at, together, item_chains, item_row, committed_of, raised_item, kept_chain, IsVersionOf, IsLaid}
-use Rattle.prepare_commit.specs.Remembered.{is_changed, IsSettled, AreSettled, raised_where, kept_where}
-use Rattle.prepare_commit.proofs.ListsOfLists.{map_set_at}
+use Rattle.prepare_commit.specs.Remembered.{IsSettled, AreSettledBeside, raised_where, kept_where}
+use Rattle.prepare_commit.proofs.ListsOfLists.{filter_all, map_alike, map_set_at}
 use Rattle.prepare_commit.proofs.ItemByItem.{length_changed}
-use Rattle.prepare_commit.proofs.Noting.{set_at}
 use Rattle.prepare_commit.proofs.OwnChains.{laid_changed, laid_rows, chains_rows, own_chain}
-use Rattle.prepare_commit.proofs.Remembering.{settled_pair, settled_empty}
+use Rattle.prepare_commit.proofs.Remembering.{settled_pair, settled_empty, low_after}
 
 -- each item beside its versions
 abbrev pub paired : List ChainedItem → List (List Version) → List (ChainedItem × List Version)
@@ -26,9 +27,9 @@ collected_pair keep p =
     let floor = max p.0.entry.floor (kth_greatest keep (committed_of p.1)) in
     (record { entry = record { key = p.0.entry.key; floor = floor }; chain = p.0.chain }, filter (λ (v : Version). nat_le floor v.prepared.stamp) p.1)
 
--- while the noted ones are not collected
-abbrev pub half_collected : List Bool → ℕ → ChainedItem × List Version → ChainedItem × List Version
-half_collected changed keep p = cond (is_changed changed p.0) p (collected_pair keep p)
+-- once those of some chains are collected
+abbrev pub collected_among : List ℕ → ℕ → ChainedItem × List Version → ChainedItem × List Version
+collected_among numbers keep p = cond (list_any (λ n. n == p.0.chain) numbers) (collected_pair keep p) p
 
 -- once one chain is collected
 abbrev pub collected_where : ℕ → ℕ → ChainedItem × List Version → ChainedItem × List Version
@@ -78,31 +79,53 @@ pub parted_where : (chain keep : ℕ) (now items : List ChainedItem) (lists chai
     → (now ≡ map (raised_where chain keep chains) items) × (item_chains now lists ≡ map (kept_where chain keep chains) items)
 parted_where chain keep now items lists chains e = parted (raised_where chain keep chains) (kept_where chain keep chains) lists now items (e ∙ sym (where_pairs chain keep items chains))
 
--- ---- those that are noted
+-- ---- those of some chains
 
-pub none_collected : (keep : ℕ) (changed : List Bool) (items : List ChainedItem) (chains : List (List Version)) → AreSettled keep changed items chains → paired items chains ≡ map (half_collected changed keep) (paired items chains)
-none_collected keep changed items chains settled =
-    sym (map_fixed (half_collected changed keep) (paired items chains) (All-map (λ p. half_collected changed keep p ≡ p) (λ (i : ChainedItem). (i, chain_at chains i.chain)) items (λ k d within. by (get_or items k d) (is_changed changed (get_or items k d)) (settled k d within))))
-  where
-    by : (i : ChainedItem) (b : Bool) → (b ≡ false → IsSettled keep chains i) → ◌≡◌ {A = ChainedItem × List Version} (cond b (i, chain_at chains i.chain) (collected_pair keep (i, chain_at chains i.chain))) (i, chain_at chains i.chain)
-    by i true its = refl
-    by i false its = settled_pair keep chains i (its refl)
+-- a second collection changes nothing
+collected_again : (keep : ℕ) (p : ChainedItem × List Version) → collected_pair keep (collected_pair keep p) ≡ collected_pair keep p
+collected_again keep p =
+    let once = collected_pair keep p in
+    let low = low_after keep p.0.entry.floor p.1 in
+    let same : max once.0.entry.floor (kth_greatest keep (committed_of once.1)) ≡ once.0.entry.floor = omega (arith, low) in
+    let stays : Version → Bool = λ v. nat_le once.0.entry.floor v.prepared.stamp in
+    let all = filter_all stays once.1 (filter_passes stays p.1) in
+    (λ j. (record { entry = record { key = p.0.entry.key; floor = same j }; chain = p.0.chain }, filter (λ (v : Version). nat_le (same j) v.prepared.stamp) once.1))
+    ∙ (λ j. (once.0, all j))
 
-pub one_collected : (keep : ℕ) (changed : List Bool) (chain : ℕ) → chain < length changed → get_or changed chain false ≡ true → (ps : List (ChainedItem × List Version))
-    → map (collected_where chain keep) (map (half_collected changed keep) ps) ≡ map (half_collected (set changed chain false) keep) ps
-one_collected keep changed chain within flag ps = map-map (collected_where chain keep) (half_collected changed keep) ps ∙ (λ j. map (λ p. each p j) ps)
+pub none_collected : (keep : ℕ) (ps : List (ChainedItem × List Version)) → ps ≡ map (collected_among [] keep) ps
+none_collected keep ps = sym (map-id ps)
+
+pub one_collected : (keep : ℕ) (numbers : List ℕ) (nth d : ℕ) → nth < length numbers → (ps : List (ChainedItem × List Version))
+    → map (collected_where (get_or numbers nth d) keep) (map (collected_among (take nth numbers) keep) ps) ≡ map (collected_among (take (nth + 1) numbers) keep) ps
+one_collected keep numbers nth d within ps = map-map (collected_where (get_or numbers nth d) keep) (collected_among (take nth numbers) keep) ps ∙ (λ j. map (λ p. each p j) ps)
   where
-    each : (p : ChainedItem × List Version) → collected_where chain keep (half_collected changed keep p) ≡ half_collected (set changed chain false) keep p
-    each p = by (p.0.chain == chain) (is_changed changed p.0) refl refl ∙ ap (λ b. cond b p (collected_pair keep p)) (sym (set_at changed chain false p.0.chain within))
+    chain : ℕ
+    chain = get_or numbers nth d
+
+    each : (p : ChainedItem × List Version) → collected_where chain keep (collected_among (take nth numbers) keep p) ≡ collected_among (take (nth + 1) numbers) keep p
+    each p =
+        by (list_any (λ n. n == p.0.chain) (take nth numbers)) (p.0.chain == chain) refl
+        ∙ ap (λ b. cond b (collected_pair keep p) p)
+        (ap (λ t. list_any (λ n. n == p.0.chain) (take nth numbers) || t) (turned p.0.chain chain)
+        ∙ sym (list_any_more (λ n. n == p.0.chain) numbers nth d within))
       where
-        by : (b t : Bool) → (p.0.chain == chain) ≡ b → is_changed changed p.0 ≡ t → collected_where chain keep (cond t p (collected_pair keep p)) ≡ cond (cond (p.0.chain == chain) false (is_changed changed p.0)) p (collected_pair keep p)
-        by true true e f = rw e refl
-        by true false e f = absurd (let untrue : false ≡ true = sym f ∙ ap (λ n. get_or changed n false) (eqb-true p.0.chain chain e) ∙ flag in cc)
-        by false true e f = rw (e, f) refl
-        by false false e f = rw (e, f) refl
+        turned : (m n : ℕ) → (m == n) ≡ (n == m)
+        turned m n = grind (arith, nat_tests)
 
-pub all_collected : (keep : ℕ) (changed : List Bool) → ((chain : ℕ) → get_or changed chain false ≡ false) → (ps : List (ChainedItem × List Version)) → map (half_collected changed keep) ps ≡ map (collected_pair keep) ps
-all_collected keep changed none ps = λ j. map (λ (p : ChainedItem × List Version). cond (none p.0.chain j) p (collected_pair keep p)) ps
+        by : (b t : Bool) → (p.0.chain == chain) ≡ t → collected_where chain keep (cond b (collected_pair keep p) p) ≡ cond (b || t) (collected_pair keep p) p
+        by true true e = rw e (collected_again keep p)
+        by true false e = rw e refl
+        by false true e = rw e refl
+        by false false e = rw e refl
+
+pub all_collected : (keep : ℕ) (numbers : List ℕ) (items : List ChainedItem) (chains : List (List Version)) → AreSettledBeside keep numbers items chains
+    → map (collected_among numbers keep) (paired items chains) ≡ map (collected_pair keep) (paired items chains)
+all_collected keep numbers items chains settled =
+    map_alike (collected_among numbers keep) (collected_pair keep) (paired items chains) (All-map (λ p. collected_among numbers keep p ≡ collected_pair keep p) (λ (i : ChainedItem). (i, chain_at chains i.chain)) items (λ k d within. by (get_or items k d) (list_any (λ n. n == (get_or items k d).chain) numbers) (settled k d within)))
+  where
+    by : (i : ChainedItem) (b : Bool) → (b ≡ false → IsSettled keep chains i) → ◌≡◌ {A = ChainedItem × List Version} (cond b (collected_pair keep (i, chain_at chains i.chain)) (i, chain_at chains i.chain)) (collected_pair keep (i, chain_at chains i.chain))
+    by i true its = refl
+    by i false its = sym (settled_pair keep chains i (its refl))
 
 -- ---- one chain
 

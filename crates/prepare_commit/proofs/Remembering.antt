@@ -3,6 +3,7 @@ use Rattle.std.proofs.Common.{◌≡◌, ℕ, max, ◌<◌, ◌≤◌, ◌==◌,
 use Rattle.std.specs.Prelude.{insert, IsSomeAnd}
 use Rattle.std.proofs.lemmas.Bool.{le-leb, leb-true, and_parts, cases_eq, cases_lt}
 use Rattle.std.proofs.lemmas.Bool.Decides.{nat_tests}
+use Rattle.std.proofs.lemmas.Option.{same_Some}
 use Rattle.std.proofs.lemmas.List.{get_or-set_same, get_or-set_other, get_or-map, get_or_default, length-map, map-append}
 use Rattle.std.proofs.lemmas.List.Elements.{All-nil, All-weaker, All-filter, filter-append, filter_passes}
 use Rattle.plain_store.specs.Stamps.{kth_greatest}
@@ -15,7 +16,7 @@ use Rattle.version_chain.specs.declared.version.Version.{Version}
 use Rattle.version_chain.specs.Chain.{IsInserted, is_open_at, without_open}
 use Rattle.prepare_commit.specs.declared.items.ChainedItem.{ChainedItem}
 use Rattle.prepare_commit.specs.Layout.{Chained, chain_at, item_chains, committed_of, raised_item, kept_chain, InsertGives, IsLaid}
-use Rattle.prepare_commit.specs.Remembered.{IsSettled, is_changed, AreSettled, AreNotedWhere, Remembers}
+use Rattle.prepare_commit.specs.Remembered.{IsSettled, is_changed, AreSettled, IsRemembered, AreNotedWhere, Remembers}
 use Rattle.prepare_commit.proofs.ListsOfLists.{at_each, filter_all, filter_alike, filter-filter, All-insert}
 use Rattle.prepare_commit.proofs.OwnChains.{all_inserted}
 
@@ -169,6 +170,31 @@ count_kept floor x vs above =
     implied : (a b : Bool) → (b ≡ true → a ≡ true) → (a && b) ≡ b
     implied a b h = grind arith
 
+-- what a collection leaves has no more committed versions above the floor than it keeps
+pub low_after : (keep start : ℕ) (vs : List Version) → (let floor = max start (kth_greatest keep (committed_of vs)) in kth_greatest keep (committed_of (filter (λ (v : Version). nat_le floor v.prepared.stamp) vs)) ≤ floor)
+low_after keep start vs =
+    let floor : ℕ = max start (kth_greatest keep (committed_of vs)) in
+    let same = kth_above floor keep (committed_of (filter (λ (v : Version). nat_le floor v.prepared.stamp) vs)) (committed_of vs) (λ x above. count_kept floor x vs above) in
+    omega (arith, same)
+
+module _ (keep : ℕ) (chains new : List (List Version)) (items : List ChainedItem) (kept : item_chains (map (raised_item keep chains) items) new ≡ map (kept_chain keep chains) items) (k : ℕ) (d : ChainedItem) (within : k < length items) where
+  -- an item, and its versions, after a collection
+  pub collected_item : get_or (map (raised_item keep chains) items) k d ≡ raised_item keep chains (get_or items k d)
+  collected_item = get_or-map (raised_item keep chains) items k d d within
+
+  pub collected_chain : chain_at new (get_or items k d).chain ≡ kept_chain keep chains (get_or items k d)
+  collected_chain =
+      sym (get_or-map (λ (x : ChainedItem). chain_at new x.chain) (map (raised_item keep chains) items) k d [] (omega (arith, within, length-map items (raised_item keep chains))) ∙ ap (λ (x : ChainedItem). chain_at new x.chain) collected_item)
+      ∙ ap (λ (vs : List (List Version)). get_or vs k []) kept
+      ∙ get_or-map (kept_chain keep chains) items k d [] within
+
+  -- that was settled
+  pub stays_item : IsSettled keep chains (get_or items k d) → get_or (map (raised_item keep chains) items) k d ≡ get_or items k d
+  stays_item settled = collected_item ∙ ap (λ (p : ChainedItem × List Version). p.0) (settled_pair keep chains (get_or items k d) settled)
+
+  pub stays_chain : IsSettled keep chains (get_or items k d) → chain_at new (get_or items k d).chain ≡ chain_at chains (get_or items k d).chain
+  stays_chain settled = collected_chain ∙ ap (λ (p : ChainedItem × List Version). p.1) (settled_pair keep chains (get_or items k d) settled)
+
 -- all items are settled: their floors are raised, and their other versions dropped
 pub all_settled : (keep : ℕ) (chains new : List (List Version)) (items : List ChainedItem) → item_chains (map (raised_item keep chains) items) new ≡ map (kept_chain keep chains) items → (changed : List Bool) → AreSettled keep changed (map (raised_item keep chains) items) new
 all_settled keep chains new items kept changed k d within free =
@@ -176,12 +202,28 @@ all_settled keep chains new items kept changed k d within free =
     let i = get_or items k d in
     let vs = chain_at chains i.chain in
     let floor : ℕ = (raised_item keep chains i).entry.floor in
-    let is = get_or-map (raised_item keep chains) items k d d less in
-    let its =
-    sym (get_or-map (λ (x : ChainedItem). chain_at new x.chain) (map (raised_item keep chains) items) k d [] within ∙ ap (λ (x : ChainedItem). chain_at new x.chain) is)
-    ∙ ap (λ (vs : List (List Version)). get_or vs k []) kept
-    ∙ get_or-map (kept_chain keep chains) items k d [] less in
-    let same = kth_above floor keep (committed_of (kept_chain keep chains i)) (committed_of vs) (λ x above. count_kept floor x vs above) in
-    let floor_is : floor ≡ max i.entry.floor (kth_greatest keep (committed_of vs)) = refl in
-    subst (IsSettled keep new) (sym is) (settled_by keep new (raised_item keep chains i) (kept_chain keep chains i) its (omega (arith, same, floor_is))
+    subst (IsSettled keep new) (sym (collected_item keep chains new items kept k d less))
+    (settled_by keep new (raised_item keep chains i) (kept_chain keep chains i) (collected_chain keep chains new items kept k d less) (low_after keep i.entry.floor vs)
     (All-weaker (λ (v : Version). nat_le floor v.prepared.stamp ≡ true) (λ (v : Version). floor ≤ v.prepared.stamp) (λ v e. leb-true _ _ e) (kept_chain keep chains i) (filter_passes (λ (v : Version). nat_le floor v.prepared.stamp) vs)))
+
+-- what one collection left, another that keeps as many or more leaves to it
+pub still_settled : (fewer keep : ℕ) (changed : List Bool) (items : List ChainedItem) (chains new : List (List Version)) → fewer ≤ keep → AreSettled fewer changed items chains
+    → item_chains (map (raised_item keep chains) items) new ≡ map (kept_chain keep chains) items → AreSettled fewer changed (map (raised_item keep chains) items) new
+still_settled fewer keep changed items chains new le was kept k d within free =
+    let less : k < length items = omega (arith, within, length-map items (raised_item keep chains)) in
+    let i = get_or items k d in
+    let unnoted = sym (ap (is_changed changed) (collected_item keep chains new items kept k d less)) ∙ free in
+    let more = remembered (Some fewer) keep changed items chains le (λ n e. subst (λ m. AreSettled m changed items chains) (same_Some fewer n e) was) k d less unnoted in
+    subst (IsSettled fewer new) (sym (stays_item keep chains new items kept k d less more))
+    (settled_same fewer chains new i (stays_chain keep chains new items kept k d less more) (was k d less unnoted))
+
+-- and so after it what is remembered holds
+pub collection_remembered : (keep : ℕ) (last now : Option ℕ) (changed noted : List Bool) (items : List ChainedItem) (chains new : List (List Version)) → Remembers last changed items chains → IsRemembered keep last changed now noted
+    → item_chains (map (raised_item keep chains) items) new ≡ map (kept_chain keep chains) items → Remembers now noted (map (raised_item keep chains) items) new
+collection_remembered keep last now changed noted items chains new was (inl anew) kept number is =
+    subst (λ n. AreSettled n noted (map (raised_item keep chains) items) new) (same_Some keep number (sym anew.0 ∙ is)) (all_settled keep chains new items kept noted)
+collection_remembered keep last now changed noted items chains new was (inr left) kept number is =
+    let before : last ≡ Some number = sym left.1 ∙ is in
+    let less : number < keep = subst (λ o. IsSomeAnd o (λ n. n < keep)) before left.0 in
+    subst (λ flags. AreSettled number flags (map (raised_item keep chains) items) new) (sym left.2)
+    (still_settled number keep changed items chains new (omega (arith, less)) (was number before) kept)

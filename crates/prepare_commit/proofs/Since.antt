@@ -2,7 +2,7 @@
 use Rattle.std.proofs.Common.{◌≡◌, ◌≢◌, ℕ, ◌<◌, ◌≤◌, ◌==◌, Bool, true, false, not, ◌&&◌, cond, List, [], ◌∷◌, map, set, length, get_or, count_by, All, Option, Some, inl, inr, refl, sym, ap, subst, ◌∙◌, arith}
 use Rattle.std.specs.Prelude.{insert, IsSomeAnd}
 use Rattle.std.proofs.lemmas.Bool.{false_from_ne_true, both_ways}
-use Rattle.std.proofs.lemmas.List.{get_or-set_same, get_or-set_other, get_or-map, length-map}
+use Rattle.std.proofs.lemmas.List.{get_or-set_same, get_or-set_other, length-map}
 use Rattle.plain_store.proofs.Counting.{count_by-cons}
 use Rattle.stamps.specs.Record.{Record}
 use Rattle.version_chain.specs.declared.chains.Insert.{Insert}
@@ -21,7 +21,7 @@ use Rattle.prepare_commit.proofs.Chaining.{at, within}
 use Rattle.prepare_commit.proofs.Holding.{holdings_at, holdings_long}
 use Rattle.prepare_commit.proofs.ListsOfLists.{at_each, All-insert}
 use Rattle.prepare_commit.proofs.Places.{lies_there}
-use Rattle.prepare_commit.proofs.Remembering.{settled_pair, remembered}
+use Rattle.prepare_commit.proofs.Remembering.{remembered, collected_item, stays_item, stays_chain}
 use Rattle.prepare_commit.proofs.StandsAfter.{unmarked}
 
 -- there are no items
@@ -92,15 +92,10 @@ pub kept_collected : (begun : BegunBase) (keep : ℕ) (last : Option ℕ) (chang
 kept_collected begun keep last changed old since items chains new remembers noted known kept was k d within free =
     let less : k < length items = omega (arith, within, length-map items (raised_item keep chains)) in
     let i = get_or items k d in
-    let is = get_or-map (raised_item keep chains) items k d d less in
-    let all = noted i.chain (known k d less) (sym (ap (λ (j : ChainedItem). get_or since j.chain false) is) ∙ free) in
+    let all = noted i.chain (known k d less) (sym (ap (λ (j : ChainedItem). get_or since j.chain false) (collected_item keep chains new items kept k d less)) ∙ free) in
     let settled = remembered last keep changed items chains all.0 remembers k d less all.2 in
-    let same = is ∙ ap (λ (p : ChainedItem × List Version). p.0) (settled_pair keep chains i settled) in
-    let its =
-    sym (get_or-map (λ (x : ChainedItem). chain_at new x.chain) (map (raised_item keep chains) items) k d [] within ∙ ap (λ (x : ChainedItem). chain_at new x.chain) is)
-    ∙ ap (λ (vs : List (List Version)). get_or vs k []) kept
-    ∙ get_or-map (kept_chain keep chains) items k d [] less
-    ∙ ap (λ (p : ChainedItem × List Version). p.1) (settled_pair keep chains i settled) in
+    let same = stays_item keep chains new items kept k d less settled in
+    let its = stays_chain keep chains new items kept k d less settled in
     subst (λ (j : ChainedItem). IsAsBegun begun new j) (sym same) (same_still begun chains new i its (was k d less all.1))
 
 -- ---- a base that was made of the items, or that has what they have

@@ -21,7 +21,7 @@ pub record Parts : Type 0 where
   pub items : List ChainedItem
   pub index : Index
   pub marks : List ℕ
-  -- the chains that are noted as changed, and how many versions the last collection kept
+  -- the chains that are noted as changed, and how many versions the last collection kept that left none noted
   pub changed : List Bool
   pub last : Option ℕ
   -- the parts of the last base, where in them the items lie, and the chains that are noted as changed since

@@ -1,5 +1,6 @@
 -- Which items a collection may still change.
-use Rattle.std.specs.Prelude.{◌≡◌, ◌≤◌, ℕ, Bool, false, All, List, length, slice_index_or, Option, Some, if◌then◌else◌, ◌==◌, count_by}
+use Rattle.std.specs.Prelude.{◌≡◌, ◌⊎◌, ◌<◌, ◌≤◌, ℕ, Bool, false, All, List, length, slice_index_or, Option, Some, IsSomeAnd, if◌then◌else◌, ◌==◌, count_by}
+use Rattle.std.specs.List.{list_any}
 use Rattle.plain_store.specs.Stamps.{kth_greatest}
 use Rattle.version_chain.specs.declared.version.Version.{Version}
 use Rattle.prepare_commit.specs.declared.items.ChainedItem.{ChainedItem}
@@ -19,9 +20,21 @@ abbrev pub AreSettled : ℕ → List Bool → List ChainedItem → List (List Ve
 AreSettled keep changed items chains =
     All (λ (i : ChainedItem). is_changed changed i ≡ false → IsSettled keep chains i) items
 
--- since the last collection, which kept so many, each item's chain was noted that another such collection may change
+-- since a collection that kept so many, each item's chain was noted that another such collection may change
 abbrev pub Remembers : Option ℕ → List Bool → List ChainedItem → List (List Version) → Type 0
 Remembers last changed items chains = (keep : ℕ) → last ≡ Some keep → AreSettled keep changed items chains
+
+-- it leaves each item as it is whose chain is not one of these
+abbrev pub AreSettledBeside : ℕ → List ℕ → List ChainedItem → List (List Version) → Type 0
+AreSettledBeside keep chains items lists =
+    All (λ (i : ChainedItem). list_any (λ n. n == i.chain) chains ≡ false → IsSettled keep lists i) items
+
+-- After a collection that kept so many, either this number is remembered, and no chain is noted; or it is greater than the one that was
+-- remembered, and all is as it was.
+abbrev pub IsRemembered : ℕ → Option ℕ → List Bool → Option ℕ → List Bool → Type 0
+IsRemembered keep last changed now noted =
+    ((now ≡ Some keep) × ((chain : ℕ) → slice_index_or noted chain false ≡ false))
+    ⊎ (IsSomeAnd last (λ number. number < keep) × (now ≡ last) × (noted ≡ changed))
 
 -- what was noted still is, and each chain was noted that holds something else now
 abbrev pub AreNotedWhere : List Bool → List Bool → List (List Version) → List (List Version) → Type 0

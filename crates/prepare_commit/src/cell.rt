@@ -56,7 +56,7 @@ use version_chain::{Block, Insert, VersionList};
 /// changes no cell of another tenant, and leaves the others' shares as they are. Only `open` takes memory. `found` looks its tag up in the index. `prepare` and `get` look their item up by a binary
 /// search, and then walk its chain, or, far down, beside it the list of the versions by stamp. `commit` and `discard` look the versions of their stamp up.
 /// `collect`
-/// goes over the items of which a version was committed since the last one.
+/// goes over the items of which a version was committed since an earlier one, or over all.
 pub struct Cell {
     slots: u32,
     items: u32,
@@ -65,7 +65,7 @@ pub struct Cell {
     entries: RowList<ChainedItem>,
     index: TagIndex,
     marks: Vec<Stamp>,
-    // The chains of which a version was committed since the last collection, and how many versions that kept.
+    // The chains of which a version was committed since the last collection that left none noted, and how many versions that one kept.
     changed: ChangedChains,
     last: Option<Keep>,
     // The parts of the last base that was made of the cell, or that it was compared with, and what changed since.
@@ -466,10 +466,12 @@ impl Cell {
     /// floor is lower. Gives up the versions below their items' floors, committed or not, and answers how many they
     /// were. Entries stay, and each item stands under the same tag as before. This rule is the store's own.
     ///
-    /// It visits the items of which a version was committed since the last collection, each by a binary search, or all in their
-    /// order where that kept more versions; and it walks down the chain of each. Where it gave up any version, it
-    /// goes over the list of the kept versions once. Where bases are cut of the cell, and much changed since the last one, it packs that
-    /// ahead of the next.
+    /// It visits the items of which a version was committed since the last collection, each by a binary search, and walks down the chain of
+    /// each. Where the last one kept more versions, it visits all items in their order. Where the last one kept fewer, and such items are
+    /// at most 255, they stay noted: later collections visit them again, and one that keeps as few as before visits no others.
+    ///
+    /// Where it gave up any version, it goes over the list of the kept versions once. Where bases are cut of the cell, and much changed
+    /// since the last one, it packs that ahead of the next.
     pub fn collect(&mut self, block: &mut Block, keep: Keep) -> u32
         requires { LiesIn block.old self.old }
         ensures { IsServed block.old self.old block.new self.new
@@ -486,9 +488,7 @@ impl Cell {
         ensures { IsServed block.old self.old block.new self.new
             (Call.Collect keep) (Reply.Freed result) }
     {
-        let last = self.last;
         let before = self.last;
-        self.last = Some(keep);
         note_collected(
             &mut self.last_base.since,
             &self.changed,
@@ -501,7 +501,7 @@ impl Cell {
             &mut self.entries,
             &mut self.versions,
             &mut self.changed,
-            last,
+            &mut self.last,
             keep,
         )
     }

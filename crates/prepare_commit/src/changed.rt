@@ -1,11 +1,12 @@
 //! Chains that were changed since something was done with them all.
 ghost use Rattle.std.specs.Prelude.{◌≡◌, ◌≤◌, ◌<◌, ◌==◌, ◌||◌, ℕ, true, false, All, length, replicate, slice_set, slice_index_or, IfOk, IfSome, None};
 ghost use Rattle.std.specs.List.{list_any};
+ghost use Rattle.prepare_commit.specs.Remembered.{AreNoted};
 
 use std::alloc::{AllocError, Global};
 use std::marker::Model;
 
-/// The chains of a cell that were changed since its last collection, or since a base was made of it. Contracts see for each
+/// The chains of a cell that were changed since a collection, or since a base was made of it. Contracts see for each
 /// chain whether it is noted.
 ///
 /// Only `open` takes memory.
@@ -53,6 +54,18 @@ impl ChangedChains {
     /// Whether so many chains are noted that they fill a part of a base.
     pub(crate) fn fill_a_part(&self) -> bool {
         self.numbers.len() >= A_PART
+    }
+
+    /// Whether so few chains are noted that a collection may leave them noted.
+    pub(crate) fn are_few(&self) -> bool {
+        self.numbers.len() <= MOST_LEFT
+    }
+
+    /// The numbers of the chains that are noted, each once.
+    pub(crate) fn numbers(&self) -> &[u32]
+        ensures { AreNoted self.now result.now }
+    {
+        &self.numbers
     }
 
     /// Notes a chain; it may have been noted before.
@@ -128,3 +141,7 @@ impl ChangedChains {
 
 /// So many chains are packed together ahead of a base.
 const A_PART: usize = 256;
+
+/// So many chains at most stay noted after a collection that kept more versions than are remembered. Each further collection visits them
+/// again, so they are few, and they fill no part of a base.
+const MOST_LEFT: usize = A_PART - 1;

@@ -1,10 +1,10 @@
 //! What a collection does to the items.
-ghost use Rattle.std.specs.Prelude.{◌≡◌, ◌<◌, ◌≤◌, ◌^◌, ◌↔◌, ℕ, false, IsSomeAnd, IsTrue, length, slice_set, slice_index_or};
+ghost use Rattle.std.specs.Prelude.{◌≡◌, ◌<◌, ◌≤◌, ◌^◌, ◌↔◌, ℕ, false, All, IsSomeAnd, IsTrue, length, slice_set, slice_index_or};
 ghost use Rattle.version_chain.specs.Changes.{HasChain};
 ghost use Rattle.prepare_commit.specs.declared.items.ChainedItem.{ChainedItem};
 ghost use Rattle.prepare_commit.specs.Calls.{lists_of, GivesUpOf, HoldItems, IsCollected, IsCollectedAt};
 ghost use Rattle.prepare_commit.specs.Layout.{raised_item, kept_chain};
-ghost use Rattle.prepare_commit.specs.Remembered.{AreSettled, Remembers};
+ghost use Rattle.prepare_commit.specs.Remembered.{AreSettledBeside, IsRemembered, Remembers};
 
 use crate::changed::ChangedChains;
 use crate::items::{self, ChainedItem, KnownItem};
@@ -14,29 +14,30 @@ use stamps::Keep;
 use version_chain::Block;
 
 /// Raises each item's floor to the stamp of its last committed version that a collection keeps, gives up the versions
-/// below the floors, and answers how many they were. Where the last collection kept as many or fewer, it visits the items alone whose
-/// chains are noted as changed, else all; and it sweeps the list of the kept versions once where it gave up any. After it no
-/// chain is noted.
+/// below the floors, and answers how many they were. Where as many versions are remembered or fewer, it visits the items alone whose
+/// chains are noted as changed, else all; and it sweeps the list of the kept versions once where it gave up any.
 pub(crate) fn collect(
     block: &mut Block,
     items: &mut RowList<ChainedItem>,
     versions: &mut Versions,
     changed: &mut ChangedChains,
-    last: Option<Keep>,
+    last: &mut Option<Keep>,
     keep: Keep,
 ) -> u32
     requires held { HoldItems block.old versions.old items.old.items }
     requires few { versions.old.chains.used < 2 ^ 32 }
     requires long { length changed.old ≡ length (lists_of block.old versions.old) }
-    requires remembers { Remembers last changed.old items.old.items
+    requires remembers { Remembers last.old changed.old items.old.items
         (lists_of block.old versions.old) }
     ensures collected { IsCollected keep result
         block.old versions.old items.old block.new versions.new items.new }
     ensures long { length changed.new ≡ length changed.old }
-    ensures none { (chain : ℕ) → slice_index_or changed.new chain false ≡ false }
+    ensures remembers { Remembers last.new changed.new items.new.items
+        (lists_of block.new versions.new) }
 {
-    let freed = cut(block, items, versions, changed, last, keep);
+    let freed = cut(block, items, versions, changed, *last, keep);
     versions.sweep(block);
+    remember(changed, last, keep);
     freed
 }
 
@@ -45,29 +46,49 @@ fn cut(
     block: &mut Block,
     items: &mut RowList<ChainedItem>,
     versions: &mut Versions,
-    changed: &mut ChangedChains,
+    changed: &ChangedChains,
     last: Option<Keep>,
     keep: Keep,
 ) -> u32
     requires held { HoldItems block.old versions.old items.old.items }
     requires few { versions.old.chains.used < 2 ^ 32 }
-    requires long { length changed.old ≡ length (lists_of block.old versions.old) }
-    requires remembers { Remembers last changed.old items.old.items
+    requires long { length changed.now ≡ length (lists_of block.old versions.old) }
+    requires remembers { Remembers last changed.now items.old.items
         (lists_of block.old versions.old) }
-    ensures collected { IsCollected keep result
+    ensures { IsCollected keep result
         block.old versions.old items.old block.new versions.new items.new }
-    ensures long { length changed.new ≡ length changed.old }
-    ensures none { (chain : ℕ) → slice_index_or changed.new chain false ≡ false }
 {
     if kept_no_more(last, keep) {
-        return cut_noted(block, items, versions, changed, keep);
+        return cut_each(block, items, versions, changed.numbers(), keep);
     }
-    changed.clear();
     cut_items(block, items, versions, keep)
 }
 
-/// Whether the last collection kept as many versions as this one will, or fewer. Then it left nothing to this one in an item that did
-/// not change since.
+/// Remembers how many versions a collection kept, and takes out all chains that are noted. Where fewer versions are remembered, and few
+/// chains are noted, it leaves both as they are: a later collection that keeps so few then visits these chains alone, and not all.
+fn remember(changed: &mut ChangedChains, last: &mut Option<Keep>, keep: Keep)
+    ensures long { length changed.new ≡ length changed.old }
+    ensures remembered { IsRemembered keep last.old changed.old last.new changed.new }
+{
+    if kept_fewer(*last, keep) && changed.are_few() {
+        return;
+    }
+    changed.clear();
+    *last = Some(keep);
+}
+
+/// Whether fewer versions are remembered than this collection keeps.
+fn kept_fewer(last: Option<Keep>, keep: Keep) -> bool
+    ensures { IsTrue result ↔ IsSomeAnd last (λ number. number < keep) }
+{
+    match last {
+        Some(last) => last < keep,
+        None => false,
+    }
+}
+
+/// Whether as many versions are remembered as this collection keeps, or fewer. Then the collection that kept them left nothing to this
+/// one in an item that did not change since.
 fn kept_no_more(last: Option<Keep>, keep: Keep) -> bool
     ensures { IsTrue result ↔ IsSomeAnd last (λ number. number ≤ keep) }
 {
@@ -96,27 +117,25 @@ fn cut_items(
     freed
 }
 
-/// What such a collection does to the items whose chains are noted as changed, where it changes no other.
-fn cut_noted(
+/// What such a collection does to the items of some chains, where it changes no other.
+fn cut_each(
     block: &mut Block,
     items: &mut RowList<ChainedItem>,
     versions: &mut Versions,
-    changed: &mut ChangedChains,
+    chains: &[u32],
     keep: Keep,
 ) -> u32
     requires held { HoldItems block.old versions.old items.old.items }
     requires few { versions.old.chains.used < 2 ^ 32 }
-    requires long { length changed.old ≡ length (lists_of block.old versions.old) }
-    requires settled { AreSettled keep changed.old items.old.items
+    requires known { All (λ chain. chain < length (lists_of block.old versions.old)) chains.now }
+    requires settled { AreSettledBeside keep chains.now items.old.items
         (lists_of block.old versions.old) }
-    ensures collected { IsCollected keep result
+    ensures { IsCollected keep result
         block.old versions.old items.old block.new versions.new items.new }
-    ensures long { length changed.new ≡ length changed.old }
-    ensures none { (chain : ℕ) → slice_index_or changed.new chain false ≡ false }
 {
     let mut freed = 0;
-    while let Some(chain) = changed.take() {
-        freed += cut_chain(block, items, versions, chain, keep);
+    for chain in chains {
+        freed += cut_chain(block, items, versions, *chain, keep);
     }
     freed
 }
@@ -187,8 +206,8 @@ fn raised_item(block: &Block, item: ChainedItem, versions: &Versions, keep: Keep
     }
 }
 
-/// Notes the chains that a collection may change, and no others, of which there are so many in all: those that are noted as changed where the last
-/// collection kept as many versions or fewer, else all.
+/// Notes the chains that a collection may change, and no others, of which there are so many in all: those that are noted as changed where as many
+/// versions are remembered or fewer, else all.
 pub(crate) fn note_collected(
     since: &mut ChangedChains,
     changed: &ChangedChains,

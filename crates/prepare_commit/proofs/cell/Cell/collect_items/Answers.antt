@@ -1,11 +1,8 @@
-use Rattle.std.proofs.Common.{◌≡◌, ◌+◌, length, ap, sym, ◌∙◌, subst, arith}
-use Rattle.std.proofs.lemmas.Option.{same_Some}
+use Rattle.std.proofs.Common.{◌≡◌, ◌+◌, length, ap, sym, ◌∙◌, arith}
 use Rattle.prepare_commit.specs.Layout.{chain_lists, together, item_chains}
-use Rattle.prepare_commit.specs.Remembered.{AreSettled}
 use Rattle.prepare_commit.proofs.Chaining.{lists_long}
 use Rattle.prepare_commit.proofs.Collecting.{collect_holds, collect_serves}
 use Rattle.prepare_commit.proofs.Lying.{lies_at, has_all}
-use Rattle.prepare_commit.proofs.Remembering.{all_settled}
 use Rattle.prepare_commit.proofs.Since.{kept_collected}
 use Rattle.prepare_commit.specs.Spots.{begun_by}
 use Rattle.prepare_commit.proofs.cell.Cell.collect_items.Goals as goal
@@ -35,9 +32,7 @@ returns c =
     record {
       lies = record {
         versions = left.held.lies;
-        remembers = λ keep e.
-            subst (λ k. AreSettled k c.collect.new.changed c.collect.new.items.items lists) (same_Some c.args.keep keep e)
-            (subst (λ xs. AreSettled c.args.keep c.collect.new.changed xs lists) (sym done.raised) (all_settled c.args.keep start lists items (ap (λ xs. item_chains xs lists) (sym done.raised) ∙ done.kept) c.collect.new.changed));
+        remembers = c.collect.ensures.remembers;
         since =
             let begun = begun_by c.self.inside.last_base in
             rw done.raised (kept_collected begun c.args.keep c.self.inside.last c.self.inside.changed c.self.inside.last_base.since c.note_collected.new.since items start lists lies.remembers (λ chain within. (c.note_collected.ensures.noted chain within).0)
