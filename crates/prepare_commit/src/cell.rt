@@ -52,11 +52,11 @@ use version_chain::{Block, Insert, VersionList};
 /// stamp was discarded, the greatest of these stamps. The versions lie in a block that the caller passes to each call; contracts
 /// see with it all versions, entries and marks, how many of each there is room for, and the tag of each item.
 ///
-/// The caller's condition is the block: it has the versions of this cell, and no other version of its tenant. A call
-/// changes no cell of another tenant, and leaves the others' shares as they are. Only `open` takes memory. `found` looks its tag up in the index. `prepare` and `get` look their item up by a binary
-/// search, and then walk its chain, or, far down, beside it the list of the versions by stamp. `commit` and `discard` look the versions of their stamp up.
-/// `collect`
-/// goes over the items of which a version was committed since an earlier one, or over all.
+/// The caller's condition is the block: it has the versions of this cell, and no other version of its tenant. A call changes no cell of
+/// another tenant, and leaves the others' shares as they are. Only `open` takes memory. `found` looks its tag up in the index. `prepare`
+/// and `get` look their item up by a binary search, and then walk its chain, or, far down, beside it the list of the versions by stamp.
+/// `commit` and `discard` look the versions of their stamp up. `collect` goes over the items of which a version was committed since an
+/// earlier one, or over all.
 pub struct Cell {
     slots: u32,
     items: u32,

@@ -37,9 +37,9 @@ impl Gate for Open {
     fn inside(&self, _partition: u32, _nth: u64) {}
 }
 
-/// Serves the connections of this server, each in a thread of its own: its lines are answered as `run_session_as` answers them,
-/// by the server's options and the tenants of these names. Where the server is to stay, it ends when the input does, or can't be read; else nothing is
-/// read of it. When it returns, no connection is accepted any more, and these threads have ended. What they left the server
+/// Serves the connections of this server, each in a thread of its own: its lines are answered as `run_session_as` answers them, by the
+/// server's options and the tenants of these names. Where the server is to stay, it ends when the input does, or can't be read; else
+/// nothing is read of it. When it returns, no connection is accepted any more, and these threads have ended. What they left the server
 /// reports.
 pub fn serve_connections<
     J: Naming + Send + Sync,

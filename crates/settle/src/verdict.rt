@@ -21,9 +21,9 @@ use std::alloc::Global;
 /// each once and in their order, to which a store of this tenant alone answers what they say. Right before a collection that kept
 /// another number of versions than was in force stands a step that sets it. `closed` is only read.
 ///
-/// NoTenant comes exactly where the config has no such tenant. Missing: a journal, the epochs before what a journal has, the
-/// transcript of a seat's event, or the event of a reply that was taken is not there, or an event's seat never sent that call. Mismatch: a journal's limits are not
-/// the config's, keep aside, or the run differs from what was noted. Stuck: steps are left, and none can come next.
+/// NoTenant comes exactly where the config has no such tenant. Missing: a journal, the epochs before what a journal has, the transcript of
+/// a seat's event, or the event of a reply that was taken is not there, or an event's seat never sent that call. Mismatch: a journal's
+/// limits are not the config's, keep aside, or the run differs from what was noted. Stuck: steps are left, and none can come next.
 /// OutOfMemory: an allocation failed. Which of several faults is answered is open.
 ///
 /// Memory goes by the steps of the list, and by the messages in flight.

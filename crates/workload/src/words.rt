@@ -32,8 +32,9 @@ use std::time::Clock;
 /// - `ramp sim [--parts P] [--slots N] [--items N] [--clients N] [--keep K] TENANT..` answers the steps of these tenants, none
 ///   named twice, which have the same limits.
 /// - `ramp serve` takes what `ramp sim` takes, and `[--port N] [--sessions N] [--stay] [--strict] [--newest] [--queue N] [--every N]
-///   [--epoch N] [--status N]`, and serves sessions of the tenants over TCP, as [`run_server`] says. With `--stay` the number of sessions is of those at
-///   a time. With `--strict` a line that can't be read ends a connection that has no seat. With `--newest` each put reads its keys first.
+///   [--epoch N] [--status N]`, and serves sessions of the tenants over TCP, as [`run_server`] says. With `--stay` the number of sessions
+///   is of those at a time. With `--strict` a line that can't be read ends a connection that has no seat. With `--newest` each put reads its
+///   keys first.
 /// - `ramp load` takes what `ramp sim` takes, `--queue`, `--every` and `--epoch`, and `[--seats N] [--rounds N] [--seed N] [--keys N]`, and
 ///   runs seats of the tenants, as [`run_load`] says: no more of a tenant than it has clients.
 ///
