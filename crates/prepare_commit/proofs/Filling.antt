@@ -267,6 +267,7 @@ pub new_lies : (room : Room) (cell : Parts) → IsNew room cell → (block : Cel
 new_lies room cell new block none = record {
   versions = new.lies block none;
   remembers = λ keep e. not_yet keep (sym new.not_collected ∙ e);
+  remembers_least = λ keep e. not_yet keep (sym new.none_collected ∙ e);
   since = kept_nothing cell.begun cell.since cell.items (chain_lists block cell.chains) new.no_items;
   holds = rw (new.room_is, new.no_items, new.empty block, new.index) (nothing_holds room.slots room.items);
 }

@@ -9,7 +9,7 @@ use Rattle.prepare_commit.specs.Content.{Content}
 use Rattle.prepare_commit.specs.Layout.{chain_lists, together, item_chains, entries_of, HoldsTogether}
 use Rattle.prepare_commit.specs.InBlock.{Parts, content_in, LiesIn}
 use Rattle.prepare_commit.specs.Marks.{marks_of}
-use Rattle.prepare_commit.specs.Remembered.{Remembers}
+use Rattle.prepare_commit.specs.Remembered.{Remembers, in_either}
 use Rattle.prepare_commit.proofs.Chaining.{chains_same}
 
 module _ (old new : Cells) (tenant : ℕ) (others : OthersKept old new tenant) (cell : Parts) (different : cell.chains.tenant ≢ tenant) (lies : LiesIn old cell) where
@@ -30,6 +30,7 @@ module _ (old new : Cells) (tenant : ℕ) (others : OthersKept old new tenant) (
       swept = λ is. swept_kept old new tenant others cell.chains different (lies.versions.swept is);
     };
     remembers = subst (λ (lists : List (List Version)). Remembers cell.last cell.changed cell.items lists) (sym same_lists) lies.remembers;
+    remembers_least = subst (λ (lists : List (List Version)). Remembers cell.least (in_either cell.left cell.changed) cell.items lists) (sym same_lists) lies.remembers_least;
     since = subst (λ (lists : List (List Version)). IsKeptSince cell.begun cell.since cell.items lists) (sym same_lists) lies.since;
     holds =
         subst (λ (lists : List (List Version)). HoldsTogether cell.room.slots cell.room.items cell.items (record { share = cell.chains.share; used = cell.chains.used; chains = lists }) cell.index)

@@ -1,7 +1,8 @@
 -- For `Cell`, the calls that change it. Which items another collection may still change.
-use Rattle.std.proofs.Common.{◌≡◌, ℕ, max, ◌<◌, ◌≤◌, ◌==◌, Bool, true, false, cond, not, ◌&&◌, nat_le, Option, Some, None, List, [], ◌∷◌, ◌++◌, map, set, filter, length, get_or, count_by, All, inl, inr, refl, sym, ap, subst, ◌∙◌, arith}
+use Rattle.std.proofs.Common.{◌≡◌, ℕ, zero, suc, max, ◌<◌, ◌≤◌, ◌==◌, Bool, true, false, cond, not, ◌&&◌, ◌||◌, nat_le, Option, Some, None, List, [], ◌∷◌, ◌++◌, map, set, filter, length, get_or, count_by, All, inl, inr, refl, sym, ap, subst, ◌∙◌, arith}
 use Rattle.std.specs.Prelude.{insert, IsSomeAnd}
-use Rattle.std.proofs.lemmas.Bool.{le-leb, leb-true, and_parts, cases_eq, cases_lt}
+use mathlib.Core.Bool.{or-false}
+use Rattle.std.proofs.lemmas.Bool.{le-leb, leb-true, and_parts, or_parts, cases_eq, cases_lt}
 use Rattle.std.proofs.lemmas.Bool.Decides.{nat_tests}
 use Rattle.std.proofs.lemmas.Option.{same_Some}
 use Rattle.std.proofs.lemmas.List.{get_or-set_same, get_or-set_other, get_or-map, get_or_default, length-map, map-append}
@@ -16,7 +17,7 @@ use Rattle.version_chain.specs.declared.version.Version.{Version}
 use Rattle.version_chain.specs.Chain.{IsInserted, is_open_at, without_open}
 use Rattle.prepare_commit.specs.declared.items.ChainedItem.{ChainedItem}
 use Rattle.prepare_commit.specs.Layout.{Chained, chain_at, item_chains, committed_of, raised_item, kept_chain, InsertGives, IsLaid}
-use Rattle.prepare_commit.specs.Remembered.{IsSettled, is_changed, AreSettled, IsRemembered, AreNotedWhere, Remembers}
+use Rattle.prepare_commit.specs.Remembered.{IsSettled, is_changed, AreSettled, IsRemembered, AreNotedWhere, Remembers, StayNoted, in_either}
 use Rattle.prepare_commit.proofs.ListsOfLists.{at_each, filter_all, filter_alike, filter-filter, All-insert}
 use Rattle.prepare_commit.proofs.OwnChains.{all_inserted}
 
@@ -63,6 +64,39 @@ settled_same keep chains new i same settled = settled_by keep new i (chain_at ch
 -- an item without versions
 pub settled_empty : (keep : ℕ) (chains : List (List Version)) (i : ChainedItem) → chain_at chains i.chain ≡ [] → IsSettled keep chains i
 settled_empty keep chains i none = settled_by keep chains i [] none (omega arith) (All-nil (λ (v : Version). i.entry.floor ≤ v.prepared.stamp))
+
+-- ---- chains that are noted in one of two lists
+
+pub either_at : (xs ys : List Bool) (n : ℕ) → get_or (in_either xs ys) n false ≡ (get_or xs n false || get_or ys n false)
+either_at [] ys zero = refl
+either_at [] ys (suc n) = refl
+either_at (x ∷ xs) [] zero = sym (or-false x)
+either_at (x ∷ xs) [] (suc n) = sym (or-false (get_or xs n false))
+either_at (x ∷ xs) (y ∷ ys) zero = refl
+either_at (x ∷ xs) (y ∷ ys) (suc n) = either_at xs ys n
+
+-- it is not where it is in neither
+pub in_neither : (xs ys : List Bool) (n : ℕ) → get_or xs n false ≡ false → get_or ys n false ≡ false → get_or (in_either xs ys) n false ≡ false
+in_neither xs ys n first second = either_at xs ys n ∙ ap (λ b. b || get_or ys n false) first ∙ second
+
+pub neither : (xs ys : List Bool) (n : ℕ) → get_or (in_either xs ys) n false ≡ false → (get_or xs n false ≡ false) × (get_or ys n false ≡ false)
+neither xs ys n free = or_parts (get_or xs n false) (get_or ys n false) (sym (either_at xs ys n) ∙ free)
+
+pub either_noted : (left old new : List Bool) (chains after : List (List Version)) → AreNotedWhere old new chains after → AreNotedWhere (in_either left old) (in_either left new) chains after
+either_noted left old new chains after noted n free =
+    let parts = neither left new n free in
+    let both = noted n parts.1 in
+    (in_neither left old n parts.0 both.0, both.1)
+
+-- one list that has what both have
+pub gathered : (left changed all : List Bool) → ((chain : ℕ) → get_or all chain false ≡ (get_or left chain false || get_or changed chain false)) → StayNoted (in_either left changed) all
+gathered left changed all both chain free =
+    let parts = or_parts (get_or left chain false) (get_or changed chain false) (sym (both chain) ∙ free) in
+    in_neither left changed chain parts.0 parts.1
+
+-- where more is noted, no more is claimed
+pub noted_more : (keep : ℕ) (old new : List Bool) (items : List ChainedItem) (chains : List (List Version)) → StayNoted old new → AreSettled keep old items chains → AreSettled keep new items chains
+noted_more keep old new items chains more was k d within free = was k d within (more (get_or items k d).chain free)
 
 -- ---- a PREPARE
 
@@ -225,5 +259,5 @@ collection_remembered keep last now changed noted items chains new was (inl anew
 collection_remembered keep last now changed noted items chains new was (inr left) kept number is =
     let before : last ≡ Some number = sym left.1 ∙ is in
     let less : number < keep = subst (λ o. IsSomeAnd o (λ n. n < keep)) before left.0 in
-    subst (λ flags. AreSettled number flags (map (raised_item keep chains) items) new) (sym left.2)
+    noted_more number changed noted (map (raised_item keep chains) items) new left.2
     (still_settled number keep changed items chains new (omega (arith, less)) (was number before) kept)

@@ -1,6 +1,6 @@
 -- For `Cell`, the calls that change it, and for its bases. Which items are still what they were when a base was made.
 use Rattle.std.proofs.Common.{◌≡◌, ◌≢◌, ℕ, ◌<◌, ◌≤◌, ◌==◌, Bool, true, false, not, ◌&&◌, cond, List, [], ◌∷◌, map, set, length, get_or, count_by, All, Option, Some, inl, inr, refl, sym, ap, subst, ◌∙◌, arith}
-use Rattle.std.specs.Prelude.{insert, IsSomeAnd}
+use Rattle.std.specs.Prelude.{insert}
 use Rattle.std.proofs.lemmas.Bool.{false_from_ne_true, both_ways}
 use Rattle.std.proofs.lemmas.List.{get_or-set_same, get_or-set_other, length-map}
 use Rattle.plain_store.proofs.Counting.{count_by-cons}
@@ -16,7 +16,7 @@ use Rattle.prepare_commit.specs.declared.parts.EntryPosition.{EntryPosition}
 use Rattle.prepare_commit.specs.Begun.{BegunBase, IsAsBegun, IsKeptSince, IsNotedAt, LieAt, held_at, holdings, no_place, none_held}
 use Rattle.prepare_commit.specs.Content.{marked_at}
 use Rattle.prepare_commit.specs.Layout.{Chained, chain_lists, chain_at, item_chains, raised_item, kept_chain, InsertGives}
-use Rattle.prepare_commit.specs.Remembered.{is_changed, AreNotedWhere, Remembers}
+use Rattle.prepare_commit.specs.Remembered.{is_changed, AreNotedWhere, IsPassedOver, IsSettled, Remembers}
 use Rattle.prepare_commit.proofs.Chaining.{at, within}
 use Rattle.prepare_commit.proofs.Holding.{holdings_at, holdings_long}
 use Rattle.prepare_commit.proofs.ListsOfLists.{at_each, All-insert}
@@ -84,19 +84,22 @@ noted_gone stamp old new chains after noted gone n free =
 
 -- ---- a collection
 
-pub kept_collected : (begun : BegunBase) (keep : ℕ) (last : Option ℕ) (changed old since : List Bool) (items : List ChainedItem) (chains new : List (List Version)) → Remembers last changed items chains
-    → ((chain : ℕ) → chain < length old → get_or since chain false ≡ false → IsSomeAnd last (λ number. number ≤ keep) × (get_or old chain false ≡ false) × (get_or changed chain false ≡ false))
+pub kept_collected : (begun : BegunBase) (keep : ℕ) (last : Option ℕ) (changed : List Bool) (least : Option ℕ) (noted_since old since : List Bool) (items : List ChainedItem) (chains new : List (List Version)) → Remembers last changed items chains → Remembers least noted_since items chains
+    → ((chain : ℕ) → chain < length old → get_or since chain false ≡ false → (get_or old chain false ≡ false) × IsPassedOver keep last changed least noted_since chain)
     → All (λ (i : ChainedItem). i.chain < length old) items
     → item_chains (map (raised_item keep chains) items) new ≡ map (kept_chain keep chains) items
     → IsKeptSince begun old items chains → IsKeptSince begun since (map (raised_item keep chains) items) new
-kept_collected begun keep last changed old since items chains new remembers noted known kept was k d within free =
+kept_collected begun keep last changed least noted_since old since items chains new remembers remembers_least noted known kept was k d within free =
     let less : k < length items = omega (arith, within, length-map items (raised_item keep chains)) in
     let i = get_or items k d in
     let all = noted i.chain (known k d less) (sym (ap (λ (j : ChainedItem). get_or since j.chain false) (collected_item keep chains new items kept k d less)) ∙ free) in
-    let settled = remembered last keep changed items chains all.0 remembers k d less all.2 in
+    let settled : IsSettled keep chains i = elim all.1 [
+      | inl recent ↦ remembered last keep changed items chains recent.0 remembers k d less recent.1
+      | inr before ↦ remembered least keep noted_since items chains before.0 remembers_least k d less before.1
+    ] in
     let same = stays_item keep chains new items kept k d less settled in
     let its = stays_chain keep chains new items kept k d less settled in
-    subst (λ (j : ChainedItem). IsAsBegun begun new j) (sym same) (same_still begun chains new i its (was k d less all.1))
+    subst (λ (j : ChainedItem). IsAsBegun begun new j) (sym same) (same_still begun chains new i its (was k d less all.0))
 
 -- ---- a base that was made of the items, or that has what they have
 

@@ -110,6 +110,7 @@ pub record IsNew (room : Room) (cell : Parts) : Type 0 where
   pub index : cell.index ≡ record { room = room.items; tags = no_tags }
   pub no_marks : cell.marks ≡ []
   pub not_collected : cell.last ≡ None
+  pub none_collected : cell.least ≡ None
 
 -- the tag is that of the item's latest committed version, empty where none is committed
 abbrev pub IsTagOf : Key → List Version → Tag → Type 0

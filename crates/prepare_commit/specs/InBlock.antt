@@ -9,7 +9,7 @@ use Rattle.prepare_commit.specs.declared.items.ChainedItem.{ChainedItem}
 use Rattle.prepare_commit.specs.Content.{Content}
 use Rattle.prepare_commit.specs.Layout.{held_in, chain_lists, together, item_chains, entries_of, HoldsTogether}
 use Rattle.prepare_commit.specs.Marks.{marks_of}
-use Rattle.prepare_commit.specs.Remembered.{Remembers}
+use Rattle.prepare_commit.specs.Remembered.{Remembers, in_either}
 use Rattle.prepare_commit.specs.Begun.{BegunBase, IsKeptSince}
 
 -- what a cell has beside the block
@@ -21,9 +21,12 @@ pub record Parts : Type 0 where
   pub items : List ChainedItem
   pub index : Index
   pub marks : List ℕ
-  -- the chains that are noted as changed, and how many versions the last collection kept that left none noted
+  -- the chains that are noted as changed since the last collection, and how many versions that one kept
   pub changed : List Bool
   pub last : Option ℕ
+  -- those that changed before, since the last collection that kept the least, and how many that one kept
+  pub left : List Bool
+  pub least : Option ℕ
   -- the parts of the last base, where in them the items lie, and the chains that are noted as changed since
   pub begun : BegunBase
   pub since : List Bool
@@ -49,6 +52,8 @@ begun_with cell begun since = record {
   marks = cell.marks;
   changed = cell.changed;
   last = cell.last;
+  left = cell.left;
+  least = cell.least;
   begun = begun;
   since = since;
 }
@@ -66,5 +71,6 @@ pub record AreIn (block : Cells) (chains : Heads) (is_swept : Bool) : Type 0 whe
 pub record LiesIn (block : Cells) (cell : Parts) : Type 0 where
   pub versions : AreIn block cell.chains cell.is_swept
   pub remembers : Remembers cell.last cell.changed cell.items (chain_lists block cell.chains)
+  pub remembers_least : Remembers cell.least (in_either cell.left cell.changed) cell.items (chain_lists block cell.chains)
   pub since : IsKeptSince cell.begun cell.since cell.items (chain_lists block cell.chains)
   pub holds : HoldsTogether cell.room.slots cell.room.items cell.items (held_in block cell.chains) cell.index

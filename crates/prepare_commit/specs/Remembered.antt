@@ -1,5 +1,5 @@
 -- Which items a collection may still change.
-use Rattle.std.specs.Prelude.{◌≡◌, ◌⊎◌, ◌<◌, ◌≤◌, ℕ, Bool, false, All, List, length, slice_index_or, Option, Some, IsSomeAnd, if◌then◌else◌, ◌==◌, count_by}
+use Rattle.std.specs.Prelude.{◌≡◌, ◌⊎◌, ◌||◌, ◌<◌, ◌≤◌, ℕ, Bool, false, All, List, [], ◌∷◌, length, slice_index_or, Option, Some, IsSomeAnd, if◌then◌else◌, ◌==◌, count_by}
 use Rattle.std.specs.List.{list_any}
 use Rattle.plain_store.specs.Stamps.{kth_greatest}
 use Rattle.version_chain.specs.declared.version.Version.{Version}
@@ -29,12 +29,29 @@ abbrev pub AreSettledBeside : ℕ → List ℕ → List ChainedItem → List (Li
 AreSettledBeside keep chains items lists =
     All (λ (i : ChainedItem). list_any (λ n. n == i.chain) chains ≡ false → IsSettled keep lists i) items
 
--- After a collection that kept so many, either this number is remembered, and no chain is noted; or it is greater than the one that was
--- remembered, and all is as it was.
+-- a chain is noted in one of the two
+abbrev pub in_either : List Bool → List Bool → List Bool
+in_either [] others = others
+in_either (b ∷ bs) [] = b ∷ bs
+in_either (b ∷ bs) (c ∷ cs) = (b || c) ∷ in_either bs cs
+
+-- what was noted still is
+abbrev pub StayNoted : List Bool → List Bool → Type 0
+StayNoted old new = (chain : ℕ) → slice_index_or new chain false ≡ false → slice_index_or old chain false ≡ false
+
+-- After a collection that kept so many, either this is the least number, and no chain is noted; or it is greater than the least one, and
+-- what was noted still is.
 abbrev pub IsRemembered : ℕ → Option ℕ → List Bool → Option ℕ → List Bool → Type 0
-IsRemembered keep last changed now noted =
-    ((now ≡ Some keep) × ((chain : ℕ) → slice_index_or noted chain false ≡ false))
-    ⊎ (IsSomeAnd last (λ number. number < keep) × (now ≡ last) × (noted ≡ changed))
+IsRemembered keep least noted now after =
+    ((now ≡ Some keep) × ((chain : ℕ) → slice_index_or after chain false ≡ false))
+    ⊎ (IsSomeAnd least (λ number. number < keep) × (now ≡ least) × StayNoted noted after)
+
+-- a collection that keeps so many leaves the item of a chain as it is: the last one kept as many or fewer, or the one that kept the
+-- least did, and the chain was not noted since
+abbrev pub IsPassedOver : ℕ → Option ℕ → List Bool → Option ℕ → List Bool → ℕ → Type 0
+IsPassedOver keep last changed least noted chain =
+    (IsSomeAnd last (λ number. number ≤ keep) × (slice_index_or changed chain false ≡ false))
+    ⊎ (IsSomeAnd least (λ number. number ≤ keep) × (slice_index_or noted chain false ≡ false))
 
 -- what was noted still is, and each chain was noted that holds something else now
 abbrev pub AreNotedWhere : List Bool → List Bool → List (List Version) → List (List Version) → Type 0

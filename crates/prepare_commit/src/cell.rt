@@ -65,9 +65,12 @@ pub struct Cell {
     entries: RowList<ChainedItem>,
     index: TagIndex,
     marks: Vec<Stamp>,
-    // The chains of which a version was committed since the last collection that left none noted, and how many versions that one kept.
+    // The chains of which a version was committed since the last collection, and how many versions that one kept.
     changed: ChangedChains,
     last: Option<Keep>,
+    // Those of which one was committed before, since the last collection that kept the least, and how many that one kept.
+    left: ChangedChains,
+    least: Option<Keep>,
     // The parts of the last base that was made of the cell, or that it was compared with, and what changed since.
     last_base: LastBase,
 }
@@ -85,6 +88,8 @@ impl Drop for Cell {
             marks: _,
             changed: _,
             last: _,
+            left: _,
+            least: _,
             last_base: _,
         } = self;
     }
@@ -113,6 +118,8 @@ impl Model for Cell {
       marks = c.marks.items;
       changed = c.changed;
       last = c.last;
+      left = c.left;
+      least = c.least;
       begun = begun_by c.last_base;
       since = c.last_base.since;
     } };
@@ -120,7 +127,8 @@ impl Model for Cell {
     ghost invariant = { λ c. (length c.entries.items ≤ c.items) × (c.entries.room ≡ c.items)
         × (c.slots < 2 ^ 32) × (c.items < 2 ^ 32)
         × IsInOrder nat_cmp mark_row c.marks.items × (vec_len c.marks ≤ c.clients) × (c.clients ≤ vec_capacity c.marks)
-        × (length c.changed ≡ c.items) × (length c.last_base.since ≡ c.items) × (length c.last_base.spots.items ≡ c.items) };
+        × (length c.changed ≡ c.items) × (length c.last_base.since ≡ c.items) × (length c.last_base.spots.items ≡ c.items)
+        × (length c.left ≡ c.items) };
 }
 
 impl Cell {
@@ -170,6 +178,8 @@ impl Cell {
             marks: Vec::with_capacity(alloc, clients as usize)?,
             changed: ChangedChains::open(alloc, items)?,
             last: None,
+            left: ChangedChains::open(alloc, items)?,
+            least: None,
             last_base: LastBase::none(alloc, items)?,
             entries: RowList::open(alloc, items)?,
             index: TagIndex::open(alloc, items)?,
@@ -467,8 +477,8 @@ impl Cell {
     /// were. Entries stay, and each item stands under the same tag as before. This rule is the store's own.
     ///
     /// It visits the items of which a version was committed since the last collection, each by a binary search, and walks down the chain of
-    /// each. Where the last one kept more versions, it visits all items in their order. Where the last one kept fewer, and such items are
-    /// at most 255, they stay noted: later collections visit them again, and one that keeps as few as before visits no others.
+    /// each. Where the last one kept more versions, it visits those of which one was committed since the last that kept the least; and all
+    /// items in their order where even that one kept more.
     ///
     /// Where it gave up any version, it goes over the list of the kept versions once. Where bases are cut of the cell, and much changed
     /// since the last one, it packs that ahead of the next.
@@ -488,12 +498,13 @@ impl Cell {
         ensures { IsServed block.old self.old block.new self.new
             (Call.Collect keep) (Reply.Freed result) }
     {
-        let before = self.last;
         note_collected(
             &mut self.last_base.since,
             &self.changed,
+            &self.left,
             self.items,
-            before,
+            self.last,
+            self.least,
             keep,
         );
         collect(
@@ -501,7 +512,9 @@ impl Cell {
             &mut self.entries,
             &mut self.versions,
             &mut self.changed,
+            &mut self.left,
             &mut self.last,
+            &mut self.least,
             keep,
         )
     }

@@ -56,11 +56,6 @@ impl ChangedChains {
         self.numbers.len() >= A_PART
     }
 
-    /// Whether so few chains are noted that a collection may leave them noted.
-    pub(crate) fn are_few(&self) -> bool {
-        self.numbers.len() <= MOST_LEFT
-    }
-
     /// The numbers of the chains that are noted, each once.
     pub(crate) fn numbers(&self) -> &[u32]
         ensures { AreNoted self.now result.now }
@@ -141,7 +136,3 @@ impl ChangedChains {
 
 /// So many chains are packed together ahead of a base.
 const A_PART: usize = 256;
-
-/// So many chains at most stay noted after a collection that kept more versions than are remembered. Each further collection visits them
-/// again, so they are few, and they fill no part of a base.
-const MOST_LEFT: usize = A_PART - 1;

@@ -1,10 +1,10 @@
 //! What a collection does to the items.
-ghost use Rattle.std.specs.Prelude.{◌≡◌, ◌<◌, ◌≤◌, ◌^◌, ◌↔◌, ℕ, false, All, IsSomeAnd, IsTrue, length, slice_set, slice_index_or};
+ghost use Rattle.std.specs.Prelude.{◌≡◌, ◌<◌, ◌≤◌, ◌^◌, ◌↔◌, ℕ, false, All, Some, IsSomeAnd, IsTrue, length, slice_set, slice_index_or};
 ghost use Rattle.version_chain.specs.Changes.{HasChain};
 ghost use Rattle.prepare_commit.specs.declared.items.ChainedItem.{ChainedItem};
 ghost use Rattle.prepare_commit.specs.Calls.{lists_of, GivesUpOf, HoldItems, IsCollected, IsCollectedAt};
 ghost use Rattle.prepare_commit.specs.Layout.{raised_item, kept_chain};
-ghost use Rattle.prepare_commit.specs.Remembered.{AreSettledBeside, IsRemembered, Remembers};
+ghost use Rattle.prepare_commit.specs.Remembered.{AreSettledBeside, IsPassedOver, IsRemembered, Remembers, StayNoted, in_either};
 
 use crate::changed::ChangedChains;
 use crate::items::{self, ChainedItem, KnownItem};
@@ -14,70 +14,105 @@ use stamps::Keep;
 use version_chain::Block;
 
 /// Raises each item's floor to the stamp of its last committed version that a collection keeps, gives up the versions
-/// below the floors, and answers how many they were. Where as many versions are remembered or fewer, it visits the items alone whose
-/// chains are noted as changed, else all; and it sweeps the list of the kept versions once where it gave up any.
+/// below the floors, and answers how many they were. Where the last collection kept as many or fewer, it visits the items alone whose
+/// chains changed since; else, where the one that kept the least did, those whose chains changed since that one; else all. It sweeps
+/// the list of the kept versions once where it gave up any.
 pub(crate) fn collect(
     block: &mut Block,
     items: &mut RowList<ChainedItem>,
     versions: &mut Versions,
     changed: &mut ChangedChains,
+    left: &mut ChangedChains,
     last: &mut Option<Keep>,
+    least: &mut Option<Keep>,
     keep: Keep,
 ) -> u32
     requires held { HoldItems block.old versions.old items.old.items }
     requires few { versions.old.chains.used < 2 ^ 32 }
     requires long { length changed.old ≡ length (lists_of block.old versions.old) }
+    requires as_long { length left.old ≡ length changed.old }
     requires remembers { Remembers last.old changed.old items.old.items
+        (lists_of block.old versions.old) }
+    requires least { Remembers least.old (in_either left.old changed.old) items.old.items
         (lists_of block.old versions.old) }
     ensures collected { IsCollected keep result
         block.old versions.old items.old block.new versions.new items.new }
     ensures long { length changed.new ≡ length changed.old }
+    ensures as_long { length left.new ≡ length left.old }
     ensures remembers { Remembers last.new changed.new items.new.items
         (lists_of block.new versions.new) }
+    ensures least { Remembers least.new (in_either left.new changed.new) items.new.items
+        (lists_of block.new versions.new) }
 {
-    let freed = cut(block, items, versions, changed, *last, keep);
+    let freed = cut(block, items, versions, changed, left, *last, *least, keep);
     versions.sweep(block);
-    remember(changed, last, keep);
+    remember(changed, left, last, least, keep);
     freed
 }
 
-/// A collection that does not sweep the list of the kept versions.
+/// A collection that does not sweep the list of the kept versions. Where the last one kept more, it notes with those that were left the
+/// chains that changed.
 fn cut(
     block: &mut Block,
     items: &mut RowList<ChainedItem>,
     versions: &mut Versions,
     changed: &ChangedChains,
+    left: &mut ChangedChains,
     last: Option<Keep>,
+    least: Option<Keep>,
     keep: Keep,
 ) -> u32
     requires held { HoldItems block.old versions.old items.old.items }
     requires few { versions.old.chains.used < 2 ^ 32 }
     requires long { length changed.now ≡ length (lists_of block.old versions.old) }
+    requires as_long { length left.old ≡ length changed.now }
     requires remembers { Remembers last changed.now items.old.items
         (lists_of block.old versions.old) }
-    ensures { IsCollected keep result
+    requires least { Remembers least (in_either left.old changed.now) items.old.items
+        (lists_of block.old versions.old) }
+    ensures collected { IsCollected keep result
         block.old versions.old items.old block.new versions.new items.new }
+    ensures as_long { length left.new ≡ length left.old }
+    ensures left { StayNoted (in_either left.old changed.now) (in_either left.new changed.now) }
 {
     if kept_no_more(last, keep) {
         return cut_each(block, items, versions, changed.numbers(), keep);
     }
+    left.note_those(changed);
+    if kept_no_more(least, keep) {
+        return cut_each(block, items, versions, left.numbers(), keep);
+    }
     cut_items(block, items, versions, keep)
 }
 
-/// Remembers how many versions a collection kept, and takes out all chains that are noted. Where fewer versions are remembered, and few
-/// chains are noted, it leaves both as they are: a later collection that keeps so few then visits these chains alone, and not all.
-fn remember(changed: &mut ChangedChains, last: &mut Option<Keep>, keep: Keep)
+/// Remembers how many versions a collection kept, and takes out the chains that changed. Where an earlier one kept fewer, these are noted
+/// for the next one that keeps so few.
+fn remember(
+    changed: &mut ChangedChains,
+    left: &mut ChangedChains,
+    last: &mut Option<Keep>,
+    least: &mut Option<Keep>,
+    keep: Keep,
+)
+    requires { length left.old ≡ length changed.old }
     ensures long { length changed.new ≡ length changed.old }
-    ensures remembered { IsRemembered keep last.old changed.old last.new changed.new }
+    ensures as_long { length left.new ≡ length left.old }
+    ensures last { last.new ≡ Some keep }
+    ensures none { (chain : ℕ) → slice_index_or changed.new chain false ≡ false }
+    ensures least { IsRemembered keep least.old (in_either left.old changed.old)
+        least.new (in_either left.new changed.new) }
 {
-    if kept_fewer(*last, keep) && changed.are_few() {
-        return;
+    if kept_fewer(*least, keep) {
+        left.note_those(changed);
+    } else {
+        left.clear();
+        *least = Some(keep);
     }
     changed.clear();
     *last = Some(keep);
 }
 
-/// Whether fewer versions are remembered than this collection keeps.
+/// Whether an earlier collection kept fewer versions than this one.
 fn kept_fewer(last: Option<Keep>, keep: Keep) -> bool
     ensures { IsTrue result ↔ IsSomeAnd last (λ number. number < keep) }
 {
@@ -87,8 +122,8 @@ fn kept_fewer(last: Option<Keep>, keep: Keep) -> bool
     }
 }
 
-/// Whether as many versions are remembered as this collection keeps, or fewer. Then the collection that kept them left nothing to this
-/// one in an item that did not change since.
+/// Whether an earlier collection kept as many versions as this one, or fewer. Then it left nothing to this one in an item that did not
+/// change since.
 fn kept_no_more(last: Option<Keep>, keep: Keep) -> bool
     ensures { IsTrue result ↔ IsSomeAnd last (λ number. number ≤ keep) }
 {
@@ -206,26 +241,30 @@ fn raised_item(block: &Block, item: ChainedItem, versions: &Versions, keep: Keep
     }
 }
 
-/// Notes the chains that a collection may change, and no others, of which there are so many in all: those that are noted as changed where as many
-/// versions are remembered or fewer, else all.
+/// Notes the chains that a collection may change, and no others, of which there are so many in all: those that `collect` visits.
 pub(crate) fn note_collected(
     since: &mut ChangedChains,
     changed: &ChangedChains,
+    left: &ChangedChains,
     chains: u32,
     last: Option<Keep>,
+    least: Option<Keep>,
     keep: Keep,
 )
     requires as_long { length since.old ≡ length changed.now }
+    requires left { length since.old ≡ length left.now }
     requires chains { length since.old ≡ chains }
     ensures long { length since.new ≡ length since.old }
     ensures noted { (chain : ℕ) → chain < length since.old
         → ((slice_index_or since.new chain false ≡ false)
-        ↔ (IsSomeAnd last (λ number. number ≤ keep)
-        × (slice_index_or since.old chain false ≡ false)
-        × (slice_index_or changed.now chain false ≡ false))) }
+        ↔ ((slice_index_or since.old chain false ≡ false)
+        × IsPassedOver keep last changed.now least (in_either left.now changed.now) chain)) }
 {
     if kept_no_more(last, keep) {
         since.note_those(changed);
+    } else if kept_no_more(least, keep) {
+        since.note_those(changed);
+        since.note_those(left);
     } else {
         since.note_all(chains);
     }

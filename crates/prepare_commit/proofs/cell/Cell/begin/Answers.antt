@@ -29,6 +29,7 @@ returns-clause-lies c block is same =
     record {
       versions = lies.versions;
       remembers = lies.remembers;
+      remembers_least = lies.remembers_least;
       since = kept_begun (record { parts = c.in_ok-self-inside.field-0; spots = c.set_spots.new.spots.items }) c.clear.new.self cell.entries.items (chain_lists block cell.versions.chains) c.parts.result.1.now lie c.set_spots.ensures.each;
       holds = lies.holds;
     }

@@ -4,11 +4,12 @@ use Rattle.prepare_commit.proofs.Chaining.{lists_long}
 use Rattle.prepare_commit.proofs.Collecting.{collect_holds, collect_serves}
 use Rattle.prepare_commit.proofs.Lying.{lies_at, has_all}
 use Rattle.prepare_commit.proofs.Since.{kept_collected}
+use Rattle.prepare_commit.specs.Remembered.{in_either}
 use Rattle.prepare_commit.specs.Spots.{begun_by}
 use Rattle.prepare_commit.proofs.cell.Cell.collect_items.Goals as goal
 
 pub note_collected-requires : goal.note_collected-requires
-note_collected-requires c = record { as_long = c.self.invariant.8 ∙ sym c.self.invariant.7; chains = c.self.invariant.8 }
+note_collected-requires c = record { as_long = c.self.invariant.8 ∙ sym c.self.invariant.7; left = c.self.invariant.8 ∙ sym c.self.invariant.10; chains = c.self.invariant.8 }
 
 pub collect-requires : goal.collect-requires
 collect-requires c =
@@ -17,7 +18,9 @@ collect-requires c =
       held = record { lies = lies.versions; have = has_all _ _ lies c.self.invariant.0 };
       few = omega (arith, lies.holds.fits, c.self.invariant.2);
       long = omega (arith, c.self.invariant.7, lies.holds.chains);
+      as_long = c.self.invariant.10 ∙ sym c.self.invariant.7;
       remembers = lies.remembers;
+      least = lies.remembers_least;
     }
 
 pub returns : goal.returns
@@ -33,9 +36,10 @@ returns c =
       lies = record {
         versions = left.held.lies;
         remembers = c.collect.ensures.remembers;
+        remembers_least = c.collect.ensures.least;
         since =
             let begun = begun_by c.self.inside.last_base in
-            rw done.raised (kept_collected begun c.args.keep c.self.inside.last c.self.inside.changed c.self.inside.last_base.since c.note_collected.new.since items start lists lies.remembers (λ chain within. (c.note_collected.ensures.noted chain within).0)
+            rw done.raised (kept_collected begun c.args.keep c.self.inside.last c.self.inside.changed c.self.inside.least (in_either c.self.inside.left c.self.inside.changed) c.self.inside.last_base.since c.note_collected.new.since items start lists lies.remembers lies.remembers_least (λ chain within. (c.note_collected.ensures.noted chain within).0)
             (λ k d w. (let given = lies.holds.laid.given k d w in omega (arith, given, c.self.invariant.0, c.self.invariant.8))) (ap (λ xs. item_chains xs lists) (sym done.raised) ∙ done.kept) lies.since);
         holds = collect_holds _ _ _ _ c.collect.new.versions.chains _ _ lies done.raised done.kept freed left.held.have.laid left.fewer (left.own.shape.share, lists_long _ _ _ _ left.own);
       };

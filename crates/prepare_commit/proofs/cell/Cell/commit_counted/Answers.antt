@@ -4,8 +4,9 @@ use Rattle.prepare_commit.specs.Layout.{chain_lists}
 use Rattle.prepare_commit.proofs.Committing.{commit_holds, commit_initial, commit_is_served, commit_nothing}
 use Rattle.prepare_commit.proofs.Lying.{lies_at, has_all}
 use Rattle.prepare_commit.proofs.Moving.{items_known}
-use Rattle.prepare_commit.proofs.Remembering.{settled_noted}
+use Rattle.prepare_commit.proofs.Remembering.{either_noted, settled_noted}
 use Rattle.prepare_commit.proofs.Since.{kept_noted}
+use Rattle.prepare_commit.specs.Remembered.{in_either}
 use Rattle.prepare_commit.specs.Spots.{begun_by}
 use Rattle.prepare_commit.proofs.cell.Cell.commit_counted.Goals as goal
 
@@ -33,6 +34,7 @@ returns c =
         lies = record {
           versions = done.changed.lies;
           remembers = λ keep e. settled_noted keep c.self.inside.changed c.commit.new.changed _ _ (chain_lists c.commit.new.block heads) done.noted.noted (lies.remembers keep e);
+          remembers_least = λ keep e. settled_noted keep (in_either c.self.inside.left c.self.inside.changed) (in_either c.self.inside.left c.commit.new.changed) _ _ (chain_lists c.commit.new.block heads) (either_noted c.self.inside.left c.self.inside.changed c.commit.new.changed _ (chain_lists c.commit.new.block heads) done.noted.noted) (lies.remembers_least keep e);
           since = kept_noted (begun_by c.self.inside.last_base) c.self.inside.last_base.since c.commit.new.since _ _ (chain_lists c.commit.new.block heads) done.since.noted lies.since;
           holds = commit_holds _ _ _ heads _ _ _ lies few done.marked done.count done.moved;
         };

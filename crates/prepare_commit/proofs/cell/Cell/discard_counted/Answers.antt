@@ -9,6 +9,7 @@ use Rattle.prepare_commit.proofs.Remembering.{gone_settled}
 use Rattle.prepare_commit.proofs.Since.{kept_noted}
 use Rattle.prepare_commit.specs.Spots.{begun_by}
 use Rattle.prepare_commit.specs.Layout.{chain_lists}
+use Rattle.prepare_commit.specs.Remembered.{in_either}
 use Rattle.prepare_commit.proofs.cell.Cell.discard_counted.Goals as goal
 
 pub discard-requires : goal.discard-requires
@@ -39,7 +40,7 @@ pub returns-then-not-raise-clause-served : goal.returns-then-not-raise-clause-se
 returns-then-not-raise-clause-served c =
     let lies = lies_at c.args.block.now _ _ c.self.view_is c.requires.lies in
     record {
-      lies = record { versions = lies.versions; remembers = lies.remembers; since = lies.since; holds = lies.holds };
+      lies = record { versions = lies.versions; remembers = lies.remembers; remembers_least = lies.remembers_least; since = lies.since; holds = lies.holds };
       own = rw (← c.self.view_is) (own_none c.args.block.now c.self.inside.versions.chains);
       serves = rw (c.if-not-raise.ensures.refused refl, ← c.self.view_is) (discards_refused _ c.args.stamp (above_none _ c.if-eq.ensures) (turned _ _ c.if-not-raise.ensures.full));
     }
@@ -56,6 +57,7 @@ returns-clause-served c =
       lies = record {
         versions = done.changed.lies;
         remembers = λ keep e. gone_settled keep c.args.stamp c.self.inside.changed c.self.inside.entries.items _ _ done.gone (lies.remembers keep e);
+        remembers_least = λ keep e. gone_settled keep c.args.stamp (in_either c.self.inside.left c.self.inside.changed) c.self.inside.entries.items _ _ done.gone (lies.remembers_least keep e);
         since = kept_noted (begun_by c.self.inside.last_base) c.self.inside.last_base.since c.discard.new.since _ _ (chain_lists c.discard.new.block c.discard.new.self.chains) done.since.noted lies.since;
         holds = discard_holds _ _ _ c.discard.new.self.chains _ _ lies c.self.invariant.0 done.changed.lies.stands done.gone done.fewer done.changed.own.shape.share;
       };

@@ -43,6 +43,8 @@ before c = record {
   marks = c.self.inside.marks.items;
   changed = c.self.inside.changed;
   last = c.self.inside.last;
+  left = c.self.inside.left;
+  least = c.self.inside.least;
   begun = begun_by c.self.inside.last_base;
   since = c.self.inside.last_base.since;
 }
@@ -146,6 +148,7 @@ returns c =
       lies = record {
         versions = put.changed.lies;
         remembers = λ keep e. not_yet keep (sym (new at).not_collected ∙ e);
+        remembers_least = λ keep e. not_yet keep (sym (new at).none_collected ∙ e);
         since = kept_noted_all (begun_by c.self.inside.last_base) c.note_all.new.self (items at) (chain_lists block heads)
             (λ chain less. c.note_all.ensures.noted chain (omega (arith, less, c.note_all.ensures.long)))
             (λ k d w. (let given = put.laid.given k d w in omega (arith, given, few at, long at, c.note_all.ensures.long, c.self.invariant.8, ap (λ (r : Room). r.items) room)));

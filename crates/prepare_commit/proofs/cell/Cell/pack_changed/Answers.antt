@@ -30,6 +30,7 @@ returns-in-Err-clause-lies c =
     record {
       versions = lies.versions;
       remembers = lies.remembers;
+      remembers_least = lies.remembers_least;
       since = kept_noted_all (record { parts = c.pack_noted.new.last.parts; spots = c.pack_noted.new.last.spots.items }) c.note_all.new.self cell.entries.items (chain_lists c.args.block.now cell.versions.chains)
           (λ chain less. c.note_all.ensures.noted chain (omega (arith, less, c.note_all.ensures.long)))
           (λ k d w. (let given = lies.holds.laid.given k d w in omega (arith, given, c.self-2.invariant.0, c.note_all.ensures.long, c.pack_noted.ensures.since, c.self-2.invariant.8)));
@@ -42,6 +43,7 @@ returns-in-Ok-pack_noted-clause-lies c =
     record {
       versions = lies.versions;
       remembers = lies.remembers;
+      remembers_least = lies.remembers_least;
       since = c.in-Ok-pack_noted.ensures.kept;
       holds = lies.holds;
     }

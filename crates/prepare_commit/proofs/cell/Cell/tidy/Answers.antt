@@ -16,6 +16,7 @@ returns-then-is_small-clause-lies c block is =
     record {
       versions = lies.versions;
       remembers = lies.remembers;
+      remembers_least = lies.remembers_least;
       since = kept_noted_all (record { parts = c.new.result; spots = cell.last_base.spots.items }) c.note_all.new.self cell.entries.items (chain_lists block cell.versions.chains)
           (λ chain less. c.note_all.ensures.noted chain (omega (arith, less, c.note_all.ensures.long)))
           (λ k d w. (let given = lies.holds.laid.given k d w in omega (arith, given, c.self.invariant.0, c.note_all.ensures.long, c.self.invariant.8)));
@@ -29,6 +30,7 @@ returns-in_err-room-clause-lies c block is =
     record {
       versions = lies.versions;
       remembers = lies.remembers;
+      remembers_least = lies.remembers_least;
       since = kept_more (begun_by cell.last_base) cell.last_base.since cell.entries.items (chain_lists block cell.versions.chains) lies.since c.make_room.new.since c.make_room.ensures.more;
       holds = lies.holds;
     }
@@ -40,6 +42,7 @@ returns-clause-lies c block is =
     record {
       versions = lies.versions;
       remembers = lies.remembers;
+      remembers_least = lies.remembers_least;
       since = kept_more (begun_by cell.last_base) cell.last_base.since cell.entries.items (chain_lists block cell.versions.chains) lies.since c.make_room.new.since c.make_room.ensures.more;
       holds = lies.holds;
     }
