@@ -1,8 +1,8 @@
 #!/usr/bin/env python3
 """Proves the crates of the program, several at a time, and builds it: crates/ramp/out/ramp. Reports each crate that is proved, on standard error.
 
-It begins with the crates that have the longest chains of others behind them, and gives these most of the processors. What an earlier run or
-`rt check` has proved of the same text is not proved again. Its copies lie in TMPDIR, and are links where that is in this file system. Status 1 where a
+It begins with the crates that have the longest chains of others behind them, and gives these most of the processors. RT_JOBS is how many crates at a
+time; without it one for each processor, where memory allows. What an earlier run or `rt check` has proved of the same text is not proved again. Its copies lie in TMPDIR, and are links where that is in this file system. Status 1 where a
 crate is not proved; then what rt said of it is shown.
 """
 import glob
@@ -143,12 +143,16 @@ def tell(what):
 
 def prove(stands_on, room):
     """Proves each of these crates behind those that it stands on. Gives the log of the first that is not proved, or None."""
-    behind, most, running, proved, removals = chains(stands_on), len(os.sched_getaffinity(0)), {}, set(), []
+    behind, running, proved, removals, has_waited = chains(stands_on), {}, set(), [], False
+    most = int(os.environ.get("RT_JOBS") or len(os.sched_getaffinity(0)))
     left = sorted(stands_on, key=behind.get, reverse=True)
     try:
         while left or running:
             for crate in [name for name in left if proved.issuperset(stands_on[name])][: most - len(running)]:
                 if running and not has_room():
+                    if not has_waited:
+                        tell(f"{crate} waits for memory: {len(running)} of {most} crates are proved at a time")
+                    has_waited = True
                     break
                 left.remove(crate)
                 running[crate] = Proof(room, crate, *urgency(behind[crate], [behind[name] for name in (*left, *running)]))

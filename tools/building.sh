@@ -56,3 +56,15 @@ tell_of_older() {
         echo "${0##*/}: the previous build still runs as ${1#"$top/"}; one that ./install has put elsewhere is never built again" >&2
     fi
 }
+
+# How many proofs may run at a time: one for each processor, and for each 3 GB of free memory. Says so where memory decides.
+proofs_at_a_time() {
+    local processors free
+    processors=$(nproc)
+    free=$(awk '/^MemAvailable:/ { print int($2 / 1000000) }' /proc/meminfo)
+    if [ $((free / 3)) -lt "$processors" ]; then
+        echo "${0##*/}: $((free / 3 > 1 ? free / 3 : 1)) of $processors processors prove at a time, since $free GB of memory are free and a proof takes up to 4 GB" >&2
+        processors=$((free / 3 > 1 ? free / 3 : 1))
+    fi
+    echo "$processors"
+}

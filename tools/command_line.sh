@@ -67,6 +67,13 @@ check_seats() {
     ((10#${seats#+} <= 10#${clients#+})) || refuse "--seats is $seats and --clients $clients: each seat is a client of its own"
 }
 
+# Refuses a server that is to record nothing and to have epochs checked.
+check_record() {
+    local epoch=${given[epoch]-0}
+    [ -z "${given[unrecorded]-}" ] || ((10#${epoch#[+-]} == 0)) ||
+        refuse "--unrecorded and --epoch $epoch exclude each other: a server that records nothing has no epochs to check"
+}
+
 # Answers help, or exits with what is wrong with the words of a command.
 answer_command() {
     local command=$1 word option has_value
@@ -109,6 +116,7 @@ answer_command() {
     if [ "$command" != cell ]; then
         check_tenants ${tenants+"${tenants[@]}"}
         check_seats
+        check_record
     elif [ ${#tenants[@]} -gt 0 ]; then
         refuse "ramp cell names no tenant, and \"${tenants[0]}\" is one"
     fi

@@ -8,7 +8,7 @@ from begin import give_up
 TOP = pathlib.Path(__file__).resolve().parent.parent
 CRATES = TOP / "crates"
 LIMITS = TOP / "tools" / "limits.txt"
-TESTS = {"tests_base", "tests_integration", "tests_programs", "tests_rows", "tests_server", "tests_surface", "tests_threads", "tests_verdicts"}
+TESTS = {"tests_rows", "tests_surface", "tests_surface_programs"}
 MODEL = "oracle"
 """A program that has the names of the definitions that it evaluates."""
 REQUIRED = {"StandsFor"}
@@ -149,7 +149,7 @@ def frames(sources):
 
 
 def edits(_):
-    return [str(it.relative_to(TOP)) for pattern in ("*/must-fail/*.edit", "*/wrong-bodies/*.edit", "*/wrong-bodies.edits") for it in sorted(CRATES.glob(pattern))]
+    return [str(it.relative_to(TOP)) for pattern in ("*/mutants/*.edit", "*/wrong-bodies/*.edit", "*/wrong-bodies.edits") for it in sorted(CRATES.glob(pattern))]
 
 
 COUNTS = {

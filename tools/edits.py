@@ -1,15 +1,15 @@
 """The mutants of a crate that `tools/wrong-bodies` tries, and how an edit is read.
 
 An edit is made of a line `file: PATH`, a path in the crate, and of pairs of lines `old: TEXT` and `new: TEXT`; TEXT of `old:` stands once in that file.
-One that no clause refuses has a line `test: CRATE NAME`, the stored test that has to fail over it.
+One that no clause refuses has a line `test: PART NAME`, the test of that part of tests/ that has to fail over it.
 The file `crates/CRATE/wrong-bodies.edits` holds many, each after a line `== NAME`. A file `crates/CRATE/wrong-bodies/NAME.edit` is one more, or
-the newer one of that name; `fold` takes such files into the one of their crate. The edits that the gate tries are `crates/CRATE/must-fail/NAME.edit`.
+the newer one of that name; `fold` takes such files into the one of their crate. The edits that the gate tries are `crates/CRATE/mutants/NAME.edit`.
 """
 import pathlib
 
 TOP = pathlib.Path(__file__).resolve().parent.parent
 CRATES = TOP / "crates"
-ONE, SINGLE, GATE = "wrong-bodies.edits", "wrong-bodies", "must-fail"
+ONE, SINGLE, GATE = "wrong-bodies.edits", "wrong-bodies", "mutants"
 HEAD = """# Mutants, which tools/wrong-bodies tries and the gate does not. Each has a line `== NAME`, then `file:`, and pairs of `old:` and `new:`.
 """
 
@@ -50,6 +50,11 @@ def of_the_gate(crate):
     return {it.stem: it.read_text(encoding="utf-8") for it in singles(crate, GATE)}
 
 
+def every_of_the_gate():
+    """The same of each crate that has some."""
+    return {crate: found for crate in sorted(it.name for it in CRATES.iterdir() if it.is_dir()) if (found := of_the_gate(crate))}
+
+
 def changes_of(text):
     """What an edit changes: the path of a file, the text that stands there once, and what is to stand in its place."""
     path, old, found = None, None, []
@@ -64,18 +69,18 @@ def changes_of(text):
 
 
 def test_of(text):
-    """The crate and the name of the stored test that has to fail over an edit; nothing where a clause has to refuse it."""
+    """The part of tests/ and the name of the test that has to fail over an edit; nothing where a clause has to refuse it."""
     for line in text.split("\n"):
         if line.startswith("test: "):
-            crate, _, name = line.removeprefix("test: ").partition(" ")
-            return crate, name.strip()
+            part, _, name = line.removeprefix("test: ").partition(" ")
+            return part, name.strip()
     return None
 
 
-def has_test(crate, name):
-    """Whether a crate has a stored test of this name."""
+def has_test(part, name):
+    """Whether a part of tests/ has a test of this name."""
     said = f"fn {name}("
-    return any(said in it.read_text(encoding="utf-8") for it in (CRATES / crate / "src").rglob("*.rt"))
+    return any(said in it.read_text(encoding="utf-8") for it in (TOP / "tests" / part).rglob("*.rt.txt"))
 
 
 def applied(text, folder, texts):

@@ -30,11 +30,10 @@ def find_module(room):
     return None
 
 
-def make_module(crate, module):
-    """Has `rt try` write the module, and ends it then: it would go on to compile and run the program."""
+def make_module(crate, module, words=("--", "--help")):
+    """Has `rt try` write the module, and ends it then: it would go on to compile and run the program. `--test` among the words makes that of the tests."""
     with tempfile.TemporaryDirectory() as room, open(f"{room}/said", "w+", encoding="utf-8", errors="replace") as said:
-        trying = subprocess.Popen(["rt", "try", "--", "--help"], cwd=crate, env={**os.environ, "TMPDIR": room}, stdin=subprocess.DEVNULL,
-                                  stdout=said, stderr=said)
+        trying = subprocess.Popen(["rt", "try", *words], cwd=crate, env={**os.environ, "TMPDIR": room}, stdin=subprocess.DEVNULL, stdout=said, stderr=said)
         try:
             while True:
                 has_ended = trying.poll() is not None
@@ -66,13 +65,13 @@ def compile_at(tools, module, made, level):
                     "-c", "-x", "ir", module, "-o", made, "-fPIE", f"-O{level}"], check=True)
 
 
-def build(crate, program, level=3, has_module=False):
-    """Builds the program of a crate's folder. What stands at `program` is replaced at the end, in one step."""
+def build(crate, program, level=3, has_module=False, words=("--", "--help")):
+    """Builds the program of a crate's folder, or its tests by the words `--test`. What stands at `program` is replaced at the end, in one step."""
     kit = pathlib.Path(subprocess.run(["rt", "doc"], capture_output=True, text=True, check=True).stdout.strip()).parent
     module, made, linked = (program.with_suffix(suffix) for suffix in (".bc", ".o", ".linked"))
     program.parent.mkdir(parents=True, exist_ok=True)
     if not has_module:
-        make_module(crate, module)
+        make_module(crate, module, words)
     if level == "quick":
         compile_quickly(kit / "toolchain", module, made)
     else:

@@ -90,6 +90,10 @@ strict_rule = record (new_rule (codes "strict")) { long = Some (codes "strict");
 abbrev pub newest_rule : Rule
 newest_rule = record (new_rule (codes "newest")) { long = Some (codes "newest"); action = Some SetTrue }
 
+-- and one, which says that it records nothing
+abbrev pub unrecorded_rule : Rule
+unrecorded_rule = record (new_rule (codes "unrecorded")) { long = Some (codes "unrecorded"); action = Some SetTrue }
+
 abbrev pub queue_rule : Rule
 queue_rule = number_rule (codes "queue") (codes "64") (pos 1024)
 
@@ -145,10 +149,10 @@ abbrev pub sim_command : App
 sim_command = with_rules (new_app (codes "sim")) (store_rules ++ tenants_rule ∷ [])
 
 -- `serve [--parts N] [--slots N] [--items N] [--clients N] [--keep N] [--port N] [--sessions N] [--stay] [--strict]
--- [--newest] [--queue N] [--every N] [--epoch N] [--status N] TENANT..`
+-- [--newest] [--unrecorded] [--queue N] [--every N] [--epoch N] [--status N] TENANT..`
 abbrev pub serve_command : App
 serve_command = with_rules (new_app (codes "serve"))
-    (store_rules ++ port_rule ∷ sessions_rule ∷ stay_rule ∷ strict_rule ∷ newest_rule
+    (store_rules ++ port_rule ∷ sessions_rule ∷ stay_rule ∷ strict_rule ∷ newest_rule ∷ unrecorded_rule
     ∷ pace_rules ++ status_rule ∷ tenants_rule ∷ [])
 
 -- `load [--parts N] [--slots N] [--items N] [--clients N] [--keep N] [--seats N] [--rounds N] [--seed N] [--keys N]
@@ -211,13 +215,15 @@ pub record GivesParts (rows : List Row) (parts : ℕ) : Type 0 where
   pub in_range : IsParts parts
   pub of_parts : IsOptionNumber (codes "parts") rows parts
 
--- where a server listens, which connections it serves and how, and how its store is paced
+-- Where a server listens, which connections it serves and how, and how its store is paced. One that records nothing has no
+-- epochs (`ServerOptions.unchecked`).
 pub record GivesOptions (rows : List Row) (options : ServerOptions) : Type 0 where
   pub of_port : IsOptionNumber (codes "port") rows options.port
   pub of_sessions : IsOptionNumber (codes "sessions") rows options.sessions
   pub of_stay : IsOptionFlag (codes "stay") rows options.stay
   pub of_strict : IsOptionFlag (codes "strict") rows options.strict
   pub of_newest : IsOptionFlag (codes "newest") rows options.newest
+  pub of_unrecorded : IsOptionFlag (codes "unrecorded") rows options.unrecorded
   pub of_queue : IsOptionNumber (codes "queue") rows options.queue
   pub of_every : IsOptionNumber (codes "every") rows options.every
   pub of_epoch : IsOptionNumber (codes "epoch") rows options.epoch

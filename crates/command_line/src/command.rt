@@ -2,18 +2,18 @@
 ghost use Rattle.std.specs.Prelude.{◌≡◌, IfOk, false, pos};
 ghost use Rattle.clap.specs.Words.{app_of};
 ghost use Rattle.clap.specs.declared.builder.command.Command.TheViews.{out-Command as fields_of};
-ghost use Rattle.command_line.specs.Words.{IsOwnOption, Knows, cell_command, load_command, mix_rules, newest_rule, pace_rules, port_rule, program, ranged_rule, rules_of, serve_command, sim_command, stay_rule, store_rules, strict_rule, tenants_rule, with_rules};
+ghost use Rattle.command_line.specs.Words.{IsOwnOption, Knows, cell_command, load_command, mix_rules, newest_rule, pace_rules, port_rule, program, ranged_rule, rules_of, serve_command, sim_command, stay_rule, store_rules, strict_rule, tenants_rule, unrecorded_rule, with_rules};
 
 use crate::options::{
     CLIENTS, EPOCH, EVERY, ITEMS, KEEP, KEYS, NEWEST, NumberOption, PARTS, PORT, QUEUE, ROUNDS,
-    SEATS, SEED, SESSIONS, SLOTS, STATUS, STAY, STRICT,
+    SEATS, SEED, SESSIONS, SLOTS, STATUS, STAY, STRICT, UNRECORDED,
 };
 use clap::builder::ValueParser;
 use clap::{Arg, ArgAction, Command};
 use std::alloc::{AllocError, Global};
 
 /// Which program it is, as `ramp --version` reports.
-pub const VERSION: &str = "0.1.0";
+pub const VERSION: &str = "0.3.0";
 
 const ABOUT: &str = "A key-value store of many tenants with read atomic transactions.";
 
@@ -83,6 +83,8 @@ After the last connection, and with --stay once standard input has ended, a line
 With --epoch it is instead:
   checked TENANT yes                each reply was the one after the calls before it, at each partition, or
   checked TENANT no                 one was not, and the status is 1
+With --unrecorded it is what was answered, and no verdict:
+  served TENANT puts N gets N finds N refusals N restarts N
 
 With --status N, GET http://127.0.0.1:N/metrics has numbers for each tenant and partition, in the text format
 of Prometheus. GET http://127.0.0.1:N/health answers 200, or 503 where an epoch was not right or not checked,
@@ -153,7 +155,8 @@ fn serve_command<'a>(alloc: Global) -> Result<Command<'a>, AllocError>
         .arg(number(alloc, &SESSIONS))?
         .arg(stay(alloc))?
         .arg(strict(alloc))?
-        .arg(newest(alloc))?;
+        .arg(newest(alloc))?
+        .arg(unrecorded(alloc))?;
     with_pace(alloc, serve)?
         .arg(number(alloc, &STATUS))?
         .arg(tenants(alloc))
@@ -276,6 +279,16 @@ fn newest<'a>(alloc: Global) -> Arg<'a>
         .long(NEWEST)
         .action(ArgAction::SetTrue)
         .help("Have each put read its keys first, so that it is newer than what was done there")
+}
+
+// Whether it records nothing.
+fn unrecorded<'a>(alloc: Global) -> Arg<'a>
+    ensures { IsOwnOption result unrecorded_rule }
+{
+    Arg::new(alloc, UNRECORDED)
+        .long(UNRECORDED)
+        .action(ArgAction::SetTrue)
+        .help("Record nothing and tell no verdict; excludes an --epoch above 0")
 }
 
 // The names of the tenants.

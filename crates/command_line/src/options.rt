@@ -96,6 +96,9 @@ pub(crate) const STRICT: &str = "strict";
 /// The option of a server whose puts read their keys first.
 pub(crate) const NEWEST: &str = "newest";
 
+/// The option of a server that records nothing.
+pub(crate) const UNRECORDED: &str = "unrecorded";
+
 /// How many calls may wait at a partition.
 pub(crate) const QUEUE: NumberOption = NumberOption {
     name: "queue",
@@ -294,7 +297,8 @@ fn read_store(alloc: Global, sim: &ArgMatches<'_>) -> Result<StoreOptions, Progr
     })
 }
 
-// Where a server listens, which connections it serves, and how its store is paced.
+// Where a server listens, which connections it serves, and how its store is paced. None where it is to record nothing and to
+// have epochs checked.
 fn read_server(serve: &ArgMatches<'_>) -> Option<ServerOptions>
     ensures options { IfSome result (GivesOptions (rows_of (found_of serve.now))) }
     ensures none { IfNone result (GivesNoOptions (rows_of (found_of serve.now))) }
@@ -304,16 +308,21 @@ fn read_server(serve: &ArgMatches<'_>) -> Option<ServerOptions>
     let stay = read_flag(serve, STAY)?;
     let strict = read_flag(serve, STRICT)?;
     let newest = read_flag(serve, NEWEST)?;
+    let unrecorded = read_flag(serve, UNRECORDED)?;
     let queue = read_within(serve, &QUEUE)?;
     let every = read_within(serve, &EVERY)?;
     let epoch = read_within(serve, &EPOCH)?;
     let status = read_within(serve, &STATUS)?;
+    if unrecorded && epoch > 0 {
+        return None;
+    }
     Some(ServerOptions {
         port,
         sessions,
         stay,
         strict,
         newest,
+        unrecorded,
         queue,
         every,
         epoch,

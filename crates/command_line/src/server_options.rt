@@ -1,5 +1,5 @@
 //! How a server is reached, whom it serves, and how its store is paced.
-ghost use Rattle.std.specs.Prelude.{◌<◌, ◌≤◌, ◌^◌};
+ghost use Rattle.std.specs.Prelude.{◌≡◌, ◌<◌, ◌≤◌, ◌^◌, IsTrue};
 
 /// Where a server listens, which connections it serves and how, and how its store is paced.
 #[derive(Clone, Copy)]
@@ -14,11 +14,13 @@ pub struct ServerOptions {
     pub strict: bool,
     /// Whether each put reads its keys first, so that its stamp is above all that was done there.
     pub newest: bool,
+    /// Whether it records nothing: its journals are cut and dropped, and it has no verdict.
+    pub unrecorded: bool,
     /// How many calls may wait at a partition, 1 to 1024.
     pub queue: u32,
     /// After how many calls a partition is collected, 1 to 65536.
     pub every: u32,
-    /// After how many events of a journal it is cut, 0 to 1048576; 0 is never.
+    /// After how many events of a journal it is cut to be checked, 0 to 1048576; 0 is never, as where nothing is recorded.
     pub epoch: u32,
     /// The port of 127.0.0.1 that reports over HTTP how the server stands, 0 to 65535; 0 is none.
     pub status: u32,
@@ -31,4 +33,5 @@ pub struct ServerOptions {
     pub ghost few_calls: { every ≤ 65536 },
     pub ghost few_events: { epoch ≤ 1048576 },
     pub ghost few_ports: { status ≤ 65535 },
+    pub ghost unchecked: { IsTrue unrecorded → epoch ≡ 0 },
 }

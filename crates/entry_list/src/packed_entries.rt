@@ -255,6 +255,15 @@ impl EntryList {
         self.list.push(entry)
     }
 
+    /// Takes all entries out, and keeps the memory for others. It has no room then, as contracts see it.
+    pub fn clear(&mut self)
+        ensures items { self.new.items ≡ [] }
+        ensures room { self.new.room ≡ 0 }
+    {
+        self.room = 0;
+        self.list.clear();
+    }
+
     /// Hands out the entries with the memory that they take. The list is empty then, and has no room.
     pub fn take(&mut self) -> EntryList
         ensures given { result.items ≡ self.old.items }

@@ -427,6 +427,18 @@ impl<'a, G: Gate + Naming> RunningOperation<'a, G> {
         self.entries.take()
     }
 
+    /// Forgets the entries so far, and keeps their memory for those to come.
+    pub(crate) fn forget(&mut self)
+        ensures none { self.new.entries.items ≡ [] }
+        ensures rest { (self.new.name ≡ self.old.name) × (self.new.dispatcher ≡ self.old.dispatcher)
+            × (self.new.session ≡ self.old.session) × (self.new.first ≡ self.old.first)
+            × (self.new.place ≡ self.old.place) × (self.new.fault ≡ self.old.fault)
+            × (self.new.readings ≡ self.old.readings) × (self.new.seen ≡ self.old.seen)
+            × (self.new.mark ≡ self.old.mark) }
+    {
+        self.entries.clear();
+    }
+
     /// Ends an operation: counts the calls that it staged, and says whether there were any.
     pub(crate) fn count(&mut self) -> bool
         requires { self.old.first + max_calls ≤ 2 ^ 62 }

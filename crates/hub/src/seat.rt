@@ -139,6 +139,13 @@ impl<'a, G: Gate + Naming> Seat<'a, G> {
         self.operation.drain()
     }
 
+    /// Forgets the entries so far, as `drain` does where nobody wants them, and keeps their memory for those to come.
+    pub fn forget(&mut self)
+        ensures { self.new ≡ record self.old { entries = [] } }
+    {
+        self.operation.forget();
+    }
+
     /// Writes the items, and returns when all calls were answered.
     ///
     /// Where the seat was stopped it answers 19, where its calls are used up 26, and where room for the operation was

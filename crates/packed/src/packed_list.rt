@@ -192,6 +192,27 @@ impl PackedList {
             && are_bytes(self.bytes.as_slice(), other.bytes.as_slice())
     }
 
+    /// Takes all entries out, and keeps the memory for others.
+    pub fn clear(&mut self)
+        ensures { self.new.items ≡ [] }
+    {
+        self.bytes.clear();
+        self.ends.clear();
+    }
+
+    /// Hands out the entries with the memory that they take, and has room for about as many more, where there is memory for that.
+    pub fn take_on(&mut self) -> PackedList
+        ensures given { result.items ≡ self.old.items }
+        ensures empty { self.new.items ≡ [] }
+    {
+        let alloc = self.bytes.alloc();
+        let bytes = self.bytes.len();
+        let places = self.ends.len();
+        let taken = mem::replace(self, PackedList::new(alloc));
+        let _ = self.reserve(places, bytes);
+        taken
+    }
+
     /// Hands out the entries with the memory that they take. The list is empty then, and has no room.
     pub fn take(&mut self) -> PackedList
         ensures given { result.items ≡ self.old.items }

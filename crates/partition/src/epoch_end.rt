@@ -52,7 +52,7 @@ pub(crate) fn end_epoch(
         return Err(Refusal::OutOfMemory);
     };
     let alloc = journal.events.alloc();
-    let events = journal.events.take();
+    let events = journal.events.take_on();
     let begun = mem::replace(&mut journal.base, base);
     let number = journal.number;
     journal.number += 1;

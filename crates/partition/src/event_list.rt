@@ -212,6 +212,16 @@ impl EventList {
         Ok(())
     }
 
+    /// Hands out the events with the memory that they take, and has room for about as many more, where there is memory for that.
+    pub fn take_on(&mut self) -> EventList
+        ensures given { result.items ≡ self.old.items }
+        ensures empty { self.new.items ≡ [] }
+    {
+        EventList {
+            list: self.list.take_on(),
+        }
+    }
+
     /// Hands out the events with the memory that they take. The list is empty then, and has no room.
     pub fn take(&mut self) -> EventList
         ensures given { result.items ≡ self.old.items }

@@ -3,8 +3,8 @@ use Rattle.std.specs.Prelude.{ℕ, List, [], ◌∷◌, codes}
 use Rattle.server_metrics.specs.declared.families.Family.{Family}
 use Rattle.server_metrics.specs.declared.families.Family.TheVariants.{Items, ItemsLimit, Versions, VersionsLimit}
 use Rattle.server_metrics.specs.declared.families.Family.TheVariants.{Marks, MarksLimit, Calls, Cut, Checked}
-use Rattle.server_metrics.specs.declared.families.Family.TheVariants.{Waiting, Wrong, Clients, ClientsLimit}
-use Rattle.server_metrics.specs.declared.families.Family.TheVariants.{Refusals, Restarts, Collections, Connections}
+use Rattle.server_metrics.specs.declared.families.Family.TheVariants.{Waiting, Wrong, Clients, ClientsLimit, Sessions, Operations}
+use Rattle.server_metrics.specs.declared.families.Family.TheVariants.{Refusals, HellosBusy, Restarts, Collections, Connections}
 use Rattle.server_metrics.specs.declared.families.Family.TheVariants.{ConnectionsLimit, ConnectionsBegun}
 use Rattle.server_metrics.specs.declared.families.Family.TheVariants.{Started, Build}
 
@@ -23,7 +23,10 @@ name_text Waiting = codes "ramp_epochs_waiting"
 name_text Wrong = codes "ramp_journal_wrong"
 name_text Clients = codes "ramp_clients"
 name_text ClientsLimit = codes "ramp_clients_limit"
+name_text Sessions = codes "ramp_sessions"
+name_text Operations = codes "ramp_operations_total"
 name_text Refusals = codes "ramp_refusals_total"
+name_text HellosBusy = codes "ramp_hellos_busy_total"
 name_text Restarts = codes "ramp_restarts_total"
 name_text Collections = codes "ramp_collections_total"
 name_text Connections = codes "ramp_connections"
@@ -47,7 +50,10 @@ help_text Waiting = codes "Epochs of a tenant's journal at a partition that wait
 help_text Wrong = codes "1 where an epoch of a tenant's journal at a partition was not right or not checked, else 0."
 help_text Clients = codes "Client numbers of a tenant that were used."
 help_text ClientsLimit = codes "Client numbers that a tenant may use."
-help_text Refusals = codes "Lines of sessions that were answered by this refusal."
+help_text Sessions = codes "Sessions of a tenant that are open."
+help_text Operations = codes "Lines put, get and find of a tenant that were answered done, read and list."
+help_text Refusals = codes "Lines of sessions that were answered by this refusal, but 12."
+help_text HellosBusy = codes "Lines hello that were refused 12, since the client number has a session: clients then draw another."
 help_text Restarts = codes "Lines of sessions that were answered by a restart."
 help_text Collections = codes "Collections of a tenant at a partition."
 help_text Connections = codes "Connections that are served now."
@@ -71,7 +77,10 @@ kind_text Waiting = codes " gauge\n"
 kind_text Wrong = codes " gauge\n"
 kind_text Clients = codes " gauge\n"
 kind_text ClientsLimit = codes " gauge\n"
+kind_text Sessions = codes " gauge\n"
+kind_text Operations = codes " counter\n"
 kind_text Refusals = codes " counter\n"
+kind_text HellosBusy = codes " counter\n"
 kind_text Restarts = codes " counter\n"
 kind_text Collections = codes " counter\n"
 kind_text Connections = codes " gauge\n"

@@ -3,5 +3,6 @@ pub mod Responses
 pub mod Families
 pub mod Figures
 pub mod MetricsText
+pub mod Health
 pub mod Pages
 pub mod Exchanges

@@ -7,8 +7,8 @@ use Rattle.server_metrics.specs.Figures.{family_text, figure_text}
 use Rattle.server_metrics.specs.declared.families.Family.{Family}
 use Rattle.server_metrics.specs.declared.families.Family.TheVariants.{Items, ItemsLimit, Versions, VersionsLimit}
 use Rattle.server_metrics.specs.declared.families.Family.TheVariants.{Marks, MarksLimit, Calls, Cut, Checked}
-use Rattle.server_metrics.specs.declared.families.Family.TheVariants.{Waiting, Wrong, Clients, ClientsLimit}
-use Rattle.server_metrics.specs.declared.families.Family.TheVariants.{Refusals, Restarts, Collections, Connections}
+use Rattle.server_metrics.specs.declared.families.Family.TheVariants.{Waiting, Wrong, Clients, ClientsLimit, Sessions, Operations}
+use Rattle.server_metrics.specs.declared.families.Family.TheVariants.{Refusals, HellosBusy, Restarts, Collections, Connections}
 use Rattle.server_metrics.specs.declared.families.Family.TheVariants.{ConnectionsLimit, ConnectionsBegun}
 use Rattle.server_metrics.specs.declared.families.Family.TheVariants.{Started, Build}
 use Rattle.server_metrics.specs.declared.metrics.ClientRow.{ClientRow}
@@ -31,7 +31,10 @@ number_of Waiting row = option_map (λ checked. row.cut - checked) row.checked
 number_of Wrong row = option_map (λ checked. if row.is_wrong then 1 else 0) row.checked
 number_of Clients row = None
 number_of ClientsLimit row = None
+number_of Sessions row = None
+number_of Operations row = None
 number_of Refusals row = None
+number_of HellosBusy row = None
 number_of Restarts row = None
 number_of Collections row = Some row.collections
 number_of Connections row = None
@@ -63,9 +66,10 @@ families_text rows families = flat_map (λ family. family_text family ++ rows_te
 unfoldable pub table_text : List Row → List ℕ
 table_text rows = families_text rows row_families
 
--- how many client numbers of a tenant were used, or may be
+-- how many client numbers of a tenant were used, or may be, or how many of its sessions are open
 abbrev pub clients_number : Family → ClientRow → ℕ
 clients_number ClientsLimit row = row.limit
+clients_number Sessions row = row.sessions
 clients_number _ row = row.clients
 
 -- the line of a tenant's clients
@@ -79,9 +83,27 @@ clients_text family rows = flat_map (client_text family) rows
 abbrev pub tenants_text : Family → List ClientRow → List ℕ
 tenants_text family rows = family_text family ++ clients_text family rows
 
--- how many were used of each tenant, and how many may be
+-- the line of a tenant's operations of a kind
+abbrev pub operation_text : List ℕ → List ℕ → ℕ → List ℕ
+operation_text tenant kind number = figure_text Operations ((codes "tenant", tenant) ∷ (codes "kind", kind) ∷ []) number
+
+-- the lines of its operations
+unfoldable pub operations_of : ClientRow → List ℕ
+operations_of row =
+    operation_text row.tenant.now (codes "put") row.puts ++ (operation_text row.tenant.now (codes "get") row.gets
+    ++ operation_text row.tenant.now (codes "find") row.finds)
+
+abbrev pub operation_rows_text : List ClientRow → List ℕ
+operation_rows_text rows = flat_map operations_of rows
+
+-- the family of the operations
+abbrev pub operations_text : List ClientRow → List ℕ
+operations_text rows = family_text Operations ++ operation_rows_text rows
+
+-- how many client numbers were used of each tenant and may be, its open sessions, and its operations
 unfoldable pub all_tenants_text : List ClientRow → List ℕ
-all_tenants_text rows = tenants_text Clients rows ++ tenants_text ClientsLimit rows
+all_tenants_text rows =
+    tenants_text Clients rows ++ (tenants_text ClientsLimit rows ++ (tenants_text Sessions rows ++ operations_text rows))
 
 -- the line of a refusal
 abbrev pub refusal_text : Family → RefusalRow → List ℕ
@@ -113,7 +135,8 @@ process_text readings =
 -- the sessions and the process
 unfoldable pub server_text : ServerReadings → List ℕ
 server_text readings =
-    plain_text Restarts readings.restarts ++ (connections_text readings ++ process_text readings)
+    plain_text HellosBusy readings.busy ++ (plain_text Restarts readings.restarts
+    ++ (connections_text readings ++ process_text readings))
 
 -- the whole page
 abbrev pub metrics_text : ServerReadings → List ℕ

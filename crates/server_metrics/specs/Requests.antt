@@ -8,7 +8,7 @@ use Rattle.httparse.specs.Grammar.{ReadsRequest, RequestHead}
 use Rattle.httparse.specs.Spans.{RequestOverflows, name_and_value}
 use Rattle.server_metrics.specs.declared.request.PageRequest.{PageRequest}
 use Rattle.server_metrics.specs.declared.answer.Status.TheVariants.{BadRequest, Forbidden, NotFound, OtherMethod}
-use Rattle.server_metrics.specs.declared.request.PageRequest.TheVariants.{Metrics, Health, Refused}
+use Rattle.server_metrics.specs.declared.request.PageRequest.TheVariants.{Overview, Metrics, Health, Refused}
 
 -- two texts are the same
 abbrev pub same : List ℕ → List ℕ → Bool
@@ -40,8 +40,9 @@ is_foreign header = is_host header && not (is_here header.1)
 abbrev pub page_by : List ℕ → List ℕ → PageRequest
 page_by method target =
     if not (same method (codes "GET")) then Refused OtherMethod
+    else (if same target (codes "/") then Overview
     else (if same target (codes "/metrics") then Metrics
-    else (if same target (codes "/health") then Health else Refused NotFound))
+    else (if same target (codes "/health") then Health else Refused NotFound)))
 
 -- What a request with this method, this target, this minor version and these header lines asks for. A host that is not
 -- this machine comes before all; then a request of HTTP/1.1 without one.

@@ -1,8 +1,12 @@
 //! The text that answers a request.
 ghost use Rattle.std.specs.Prelude.{◌≡◌, IfOk, string_bytes};
-ghost use Rattle.server_metrics.specs.Responses.{more_of, response_text, status_line, words_of};
+ghost use Rattle.server_metrics.specs.Responses.{html_text, more_of, response_text, status_line, words_of};
 
 use std::alloc::{AllocError, Global};
+
+// What a browser lets the page do: its own style and script, and requests to this port.
+const OF_PAGE: &str =
+    "default-src 'none'; style-src 'unsafe-inline'; script-src 'unsafe-inline'; connect-src 'self'; frame-ancestors 'none'";
 
 /// How a request is answered.
 #[derive(Clone, Copy, Debug, PartialEq, Eq)]
@@ -21,6 +25,21 @@ pub enum Status {
     TooLarge,
     /// 503: the server is not well.
     NotWell,
+    /// 507: the server is well, and a limit is used up.
+    Full,
+}
+
+/// The whole text of an answer with this page of HTML, which may load nothing and run its own script. The connection ends behind it. The one
+/// error is that an allocation failed.
+pub(crate) fn html_response(alloc: Global, body: &str) -> Result<String, AllocError>
+    ensures { IfOk result (λ text. string_bytes text ≡ html_text body.now) }
+{
+    format!(in alloc;
+        "HTTP/1.1 200 OK\r\nContent-Type: text/html; charset=utf-8\r\nContent-Length: {}\r\nContent-Security-Policy: {}\r\nConnection: close\r\n\r\n{}",
+        body.len(),
+        OF_PAGE,
+        body
+    )
 }
 
 /// The whole text of an answer with this body. The connection ends behind it. The one error is that an allocation failed.
@@ -48,6 +67,7 @@ fn status_line(status: Status) -> &'static str
         Status::OtherMethod => "405 Method Not Allowed",
         Status::TooLarge => "431 Request Header Fields Too Large",
         Status::NotWell => "503 Service Unavailable",
+        Status::Full => "507 Insufficient Storage",
     }
 }
 
@@ -69,10 +89,11 @@ pub(crate) fn words_of(status: Status) -> &'static str
         Status::Well => "ok\n",
         Status::BadRequest => "This is no request of HTTP/1.1.\n",
         Status::Forbidden => "The host is not this machine.\n",
-        Status::NotFound => "There are /metrics and /health.\n",
+        Status::NotFound => "There are /, /metrics and /health.\n",
         Status::OtherMethod => "Only GET is answered.\n",
         Status::TooLarge => "The head of the request is too long.\n",
         Status::NotWell =>
             "An epoch was not right or could not be checked, or a partition is not there.\n",
+        Status::Full => "full: some writes are refused, or no session is free\n",
     }
 }

@@ -11,20 +11,21 @@ use std::sync::atomic::{AtomicBool, Ordering};
 // How many bytes of a request are read: its head has to be among them.
 const MOST_BYTES: usize = 8192;
 
-// How many reads a request takes, and how many its client's end.
+// How many reads the end of a client takes.
 const MOST_READS: u32 = 8;
 
 // How many writes a page takes.
 const MOST_WRITES: u32 = 64;
 
-/// Reads the head of a request, in 8 reads at most, and says what it asks for: one that the input cuts is refused 400, and one of
-/// 8 KiB or more 431. `None` where nothing came, a read failed, the reads did not do, or it is over.
+/// Reads the head of a request, in whatever pieces it comes, and says what it asks for: one that the input cuts is refused 400, and one
+/// of 8 KiB or more 431. `None` where nothing came, a read failed, or it is over.
 pub fn hear<R: Read>(reader: &mut R, is_over: &AtomicBool) -> Option<PageRequest>
     ensures { IfSome result (IsHeardOf (R.remaining reader.old) (R.remaining reader.new)) }
 {
     let mut bytes = [0; MOST_BYTES];
     let mut len = 0;
-    for _ in 0..MOST_READS {
+    // Each read takes a byte or more.
+    for _ in 0..MOST_BYTES {
         if is_over.load(Ordering::SeqCst) {
             return None;
         }

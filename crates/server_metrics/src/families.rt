@@ -19,7 +19,10 @@ pub enum Family {
     Wrong,
     Clients,
     ClientsLimit,
+    Sessions,
+    Operations,
     Refusals,
+    HellosBusy,
     Restarts,
     Connections,
     ConnectionsLimit,
@@ -63,7 +66,10 @@ pub(crate) fn name_text(family: Family) -> &'static str
         Family::Wrong => "ramp_journal_wrong",
         Family::Clients => "ramp_clients",
         Family::ClientsLimit => "ramp_clients_limit",
+        Family::Sessions => "ramp_sessions",
+        Family::Operations => "ramp_operations_total",
         Family::Refusals => "ramp_refusals_total",
+        Family::HellosBusy => "ramp_hellos_busy_total",
         Family::Restarts => "ramp_restarts_total",
         Family::Connections => "ramp_connections",
         Family::ConnectionsLimit => "ramp_connections_limit",
@@ -95,7 +101,12 @@ pub(crate) fn help_text(family: Family) -> &'static str
             "1 where an epoch of a tenant's journal at a partition was not right or not checked, else 0.",
         Family::Clients => "Client numbers of a tenant that were used.",
         Family::ClientsLimit => "Client numbers that a tenant may use.",
-        Family::Refusals => "Lines of sessions that were answered by this refusal.",
+        Family::Sessions => "Sessions of a tenant that are open.",
+        Family::Operations =>
+            "Lines put, get and find of a tenant that were answered done, read and list.",
+        Family::Refusals => "Lines of sessions that were answered by this refusal, but 12.",
+        Family::HellosBusy =>
+            "Lines hello that were refused 12, since the client number has a session: clients then draw another.",
         Family::Restarts => "Lines of sessions that were answered by a restart.",
         Family::Connections => "Connections that are served now.",
         Family::ConnectionsLimit => "Connections that are served at a time.",
@@ -114,7 +125,9 @@ pub(crate) fn kind_text(family: Family) -> &'static str
         | Family::Collections
         | Family::Cut
         | Family::Checked
+        | Family::Operations
         | Family::Refusals
+        | Family::HellosBusy
         | Family::Restarts
         | Family::ConnectionsBegun => " counter\n",
         _ => " gauge\n",

@@ -6,14 +6,14 @@ mod answer;
 mod exchange;
 mod families;
 mod figures;
+mod health;
 mod metrics;
+mod overview;
 mod page;
 mod request;
-#[cfg(test)]
-mod tests;
 
 pub use answer::{Status, response};
 pub use exchange::{hear, pass_over, write_page};
 pub use metrics::{ClientRow, RefusalRow, Row, ServerReadings, put_metrics};
-pub use page::{health_page, metrics_page, status_page};
+pub use page::{health_page, metrics_page, overview_page, status_page};
 pub use request::{MOST_FIELDS, PageRequest, read_request};

@@ -3,7 +3,7 @@ ghost use Rattle.std.specs.Prelude.{◌≡◌, ◌-◌, ◌++◌, OnOk, if◌the
 ghost use Rattle.std.specs.List.{list_all};
 ghost use Rattle.std.specs.Option.{option_map};
 ghost use Rattle.server_metrics.specs.Figures.{figure_text};
-ghost use Rattle.server_metrics.specs.MetricsText.{all_tenants_text, client_text, clients_number, clients_text, connections_text, families_text, is_well, metrics_text, number_of, place_of, plain_text, process_text, refusal_rows_text, refusal_text, refusals_text, row_text, rows_text, server_text, table_text, tenants_text};
+ghost use Rattle.server_metrics.specs.MetricsText.{all_tenants_text, client_text, clients_number, clients_text, connections_text, families_text, is_well, metrics_text, number_of, operation_rows_text, operation_text, operations_of, operations_text, place_of, plain_text, process_text, refusal_rows_text, refusal_text, refusals_text, row_text, rows_text, server_text, table_text, tenants_text};
 
 use crate::families::{Family, OF_ROWS};
 use crate::figures::{Label, put_family, put_figure};
@@ -33,12 +33,18 @@ pub struct Row<'a> {
     pub is_wrong: bool,
 }
 
-/// How many client numbers of a tenant were used, of how many.
+/// How many client numbers of a tenant were used, of how many, and what its sessions did.
 #[derive(Clone, Copy)]
 pub struct ClientRow<'a> {
     pub tenant: &'a str,
     pub clients: u64,
     pub limit: u64,
+    /// Its sessions that are open.
+    pub sessions: u64,
+    /// Its operations that ended well, by kind.
+    pub puts: u64,
+    pub gets: u64,
+    pub finds: u64,
 }
 
 /// How many lines were answered by one refusal.
@@ -56,8 +62,10 @@ pub struct ServerReadings<'a> {
     pub rows: Vec<Row<'a>>,
     /// A row of each tenant.
     pub clients: Vec<ClientRow<'a>>,
-    /// A row of each refusal.
+    /// A row of each refusal but 12.
     pub refusals: Vec<RefusalRow>,
+    /// How many lines `hello` were refused 12, since the client number has a session.
+    pub busy: u64,
     /// How many lines were answered by a restart.
     pub restarts: u64,
     /// The connections that are open, how many are served at a time, and how many were begun in all.
@@ -208,14 +216,70 @@ fn wrong_of(row: &Row<'_>) -> Option<u64>
     Some(if row.is_wrong { 1 } else { 0 })
 }
 
-// Appends how many client numbers of each tenant were used, and how many may be.
+// Appends how many client numbers of each tenant were used and may be, its open sessions, and its operations.
 #[tactic(auto, unfolding(crate::specs::MetricsText::all_tenants_text))]
 fn put_all_tenants(text: &mut String, rows: &[ClientRow<'_>]) -> Result<(), AllocError>
     ensures { OnOk result (string_bytes text.new
         ≡ string_bytes text.old ++ all_tenants_text rows.now) }
 {
     put_tenants(text, Family::Clients, rows)?;
-    put_tenants(text, Family::ClientsLimit, rows)
+    put_tenants(text, Family::ClientsLimit, rows)?;
+    put_tenants(text, Family::Sessions, rows)?;
+    put_operations(text, rows)
+}
+
+// Appends the family of the operations.
+fn put_operations(text: &mut String, rows: &[ClientRow<'_>]) -> Result<(), AllocError>
+    ensures { OnOk result (string_bytes text.new
+        ≡ string_bytes text.old ++ operations_text rows.now) }
+{
+    put_family(text, Family::Operations)?;
+    put_operation_rows(text, rows)
+}
+
+// Appends the lines of each tenant's operations.
+fn put_operation_rows(text: &mut String, rows: &[ClientRow<'_>]) -> Result<(), AllocError>
+    ensures { OnOk result (string_bytes text.new
+        ≡ string_bytes text.old ++ operation_rows_text rows.now) }
+{
+    for row in rows {
+        put_operations_of(text, row)?;
+    }
+    Ok(())
+}
+
+// Appends the lines of a tenant's operations.
+#[tactic(auto, unfolding(crate::specs::MetricsText::operations_of))]
+fn put_operations_of(text: &mut String, row: &ClientRow<'_>) -> Result<(), AllocError>
+    ensures { OnOk result (string_bytes text.new
+        ≡ string_bytes text.old ++ operations_of row.now) }
+{
+    put_operation(text, row.tenant, "put", row.puts)?;
+    put_operation(text, row.tenant, "get", row.gets)?;
+    put_operation(text, row.tenant, "find", row.finds)
+}
+
+// Appends the line of a tenant's operations of a kind.
+fn put_operation<'a>(
+    text: &mut String,
+    tenant: &'a str,
+    kind: &'a str,
+    number: u64,
+) -> Result<(), AllocError>
+    ensures { OnOk result (string_bytes text.new
+        ≡ string_bytes text.old ++ operation_text tenant.now kind.now number) }
+{
+    let labels = [
+        Label {
+            name: "tenant",
+            value: tenant,
+        },
+        Label {
+            name: "kind",
+            value: kind,
+        },
+    ];
+    put_figure(text, Family::Operations, &labels, number)
 }
 
 // Appends a family with its number of each tenant.
@@ -256,6 +320,7 @@ fn clients_number(family: Family, row: &ClientRow<'_>) -> u64
 {
     match family {
         Family::ClientsLimit => row.limit,
+        Family::Sessions => row.sessions,
         _ => row.clients,
     }
 }
@@ -304,6 +369,7 @@ fn put_server(text: &mut String, readings: &ServerReadings<'_>) -> Result<(), Al
     ensures { OnOk result (string_bytes text.new
         ≡ string_bytes text.old ++ server_text readings.now) }
 {
+    put_plain(text, Family::HellosBusy, readings.busy)?;
     put_plain(text, Family::Restarts, readings.restarts)?;
     put_connections(text, readings)?;
     put_process(text, readings)

@@ -15,6 +15,8 @@ pub const MOST_FIELDS: usize = 64;
 /// What a request asks for.
 #[derive(Clone, Copy, Debug, PartialEq, Eq)]
 pub enum PageRequest {
+    /// The page that shows it: `GET /`.
+    Overview,
     /// How the server stands, in figures: `GET /metrics`.
     Metrics,
     /// Whether it is well: `GET /health`.
@@ -68,6 +70,9 @@ fn page_of(method: &str, path: &str) -> PageRequest
 {
     if method != "GET" {
         return PageRequest::Refused(Status::OtherMethod);
+    }
+    if path == "/" {
+        return PageRequest::Overview;
     }
     if path == "/metrics" {
         return PageRequest::Metrics;

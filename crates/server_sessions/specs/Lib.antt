@@ -1,4 +1,5 @@
 pub mod Counting
+pub mod TenantCounting
 pub mod SeatAnswers
 pub mod Histories
 pub mod Telling

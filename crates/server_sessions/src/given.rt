@@ -55,6 +55,11 @@ impl Given {
         self.answer = Answer::Refused(refusal);
     }
 
+    /// Counts it for the tenant of its session.
+    pub(crate) fn count_for(&self, counts: &AnswerCounts, tenant: u32) {
+        counts.count_for(tenant, &self.answer);
+    }
+
     /// Counts it, and answers the receipt; none where it is neither a refusal nor a restart.
     pub(crate) fn count(&self, counts: &AnswerCounts) -> Option<Counted>
         ensures { kind_of result ≡ counted_as self.now }

@@ -12,6 +12,7 @@ mod server;
 mod serving;
 mod session_count;
 mod session_options;
+mod tenant_counts;
 
 pub use answer_counts::AnswerCounts;
 pub use kept_transcripts::KeptTranscripts;
@@ -21,3 +22,4 @@ pub use served::{Connections, Left};
 pub use server::Server;
 pub use serving::{Open, OpenHub, OpenSeat, serve_connections};
 pub use session_options::SessionOptions;
+pub use tenant_counts::{ServedCounts, TenantCount};

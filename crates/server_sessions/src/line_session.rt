@@ -150,7 +150,7 @@ pub fn run_session_as<'s, G: Gate + Naming, H: Wait, R: Read, W: Write>(
     };
     let ended = answer_lines(rt, hub, &mut connection, &mut out, reader, writer);
     let counts = connection.terms.counts;
-    let left = end_seat(rt, connection.seat);
+    let left = end_seat(rt, connection.seat, counts);
     match ended {
         Ok(ending) => {
             let counted = count_last(ending, counts);
@@ -161,12 +161,19 @@ pub fn run_session_as<'s, G: Gate + Naming, H: Wait, R: Read, W: Write>(
     }
 }
 
-// Ends the seat, if one was opened.
-fn end_seat<G: Gate + Naming, H: Wait>(rt: &H, seat: Option<Seat<'_, G>>) -> Option<SessionLeft<G>>
+// Ends the seat, if one was opened, and counts that where answers are counted.
+fn end_seat<G: Gate + Naming, H: Wait>(
+    rt: &H,
+    seat: Option<Seat<'_, G>>,
+    counts: Option<&AnswerCounts>,
+) -> Option<SessionLeft<G>>
     ensures { IsOfSeat 0 seat.entry result }
 {
     match seat {
         Some(seat) => {
+            if let Some(counts) = counts {
+                counts.count_end(seat.tenant());
+            }
             let seen = seat.seen();
             Some((seat.end(rt), seen))
         }
@@ -501,7 +508,12 @@ impl<'s, G: Gate + Naming> Connection<'s, G> {
         ensures { kind_of result ≡ if_counts self.now.terms.counts (counted_as self.now.answer) }
     {
         match self.terms.counts {
-            Some(counts) => self.answer.count(counts),
+            Some(counts) => {
+                if let Some(seat) = &self.seat {
+                    self.answer.count_for(counts, seat.tenant());
+                }
+                self.answer.count(counts)
+            }
             None => None,
         }
     }
@@ -604,11 +616,11 @@ impl<'s, G: Gate + Naming> Connection<'s, G> {
     }
 }
 
-// Hands out what a seat noted, where journals are cut.
+// Forgets what a seat noted, where journals are cut.
 fn drain_seat<G: Gate + Naming>(hub: &Hub<G>, seat: &mut Seat<'_, G>)
     ensures { IsDrained hub.now.epoch seat.old seat.new }
 {
     if hub.epoch() > 0 {
-        drop(seat.drain());
+        seat.forget();
     }
 }

@@ -121,20 +121,30 @@ impl<L, G: Naming> Server<L, G> {
     where
         L: Drop,
     {
+        let (left, _answers) = self.left_and_answers();
+        left
+    }
+
+    /// What it left, once all its sessions have ended, and how their lines were answered.
+    pub fn left_and_answers(self) -> (Left<G>, AnswerCounts)
+    where
+        L: Drop,
+        ensures { result.1 ≡ answers_of self }
+    {
         let Server {
             alloc: _,
             listener: _,
             sessions: _,
             stays: _,
             options: _,
-            answers: _,
+            answers,
             served,
             changed: _,
             is_ending: _,
             is_cut: _,
             count: _,
         } = self;
-        served.into_inner().leave()
+        (served.into_inner().leave(), answers)
     }
 
     /// Where its connections come from.

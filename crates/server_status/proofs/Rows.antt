@@ -1,5 +1,5 @@
 -- One row more, behind those that were there.
-use Rattle.std.proofs.Common.{◌≡◌, ◌∙◌, ℕ, suc, ◌+◌, ◌<◌, ◌≤◌, List, [], ◌∷◌, ◌++◌, Option, Some, take, length, length-take-le, get_or, sym, ap, subst, append_assoc, add-one, arith}
+use Rattle.std.proofs.Common.{◌≡◌, ◌≢◌, ◌∙◌, ℕ, suc, ◌+◌, ◌<◌, ◌≤◌, List, [], ◌∷◌, ◌++◌, Option, Some, take, length, length-take-le, get_or, sym, ap, subst, append_assoc, add-one, arith}
 use Rattle.std.specs.Prelude.{IfNone, IfSome, IsSomeAnd, None, slice_get, unwrap_or}
 use Rattle.std.proofs.Math.Seq.{take-suc}
 use Rattle.stamps.specs.declared.bounds.Limits.{Limits}
@@ -69,14 +69,14 @@ clients_more (n ∷ names) (l ∷ limits) (r ∷ rows) name its row are named li
     (are.0, clients_more names limits rows name its row are.1 named limited is)
 
 -- a refusal more, or none of this number: for `read_refusals`
-pub refusals_more : (from below : ℕ) (rows : List RefusalRow) (row : RefusalRow) → AreRefusalRows from below rows → row.number ≡ below → 0 < row.lines
+pub refusals_more : (from below : ℕ) (rows : List RefusalRow) (row : RefusalRow) → AreRefusalRows from below rows → row.number ≡ below → below ≢ 12 → 0 < row.lines
     → AreRefusalRows from (below + 1) (rows ++ row ∷ [])
-refusals_more from below [] row are is some = (omega (arith, are, is), some, omega (arith, is))
-refusals_more from below (r ∷ rows) row are is some = (are.0, are.1, refusals_more (r.number + 1) below rows row are.2 is some)
+refusals_more from below [] row are is other some = (omega (arith, are, is), subst (λ (k : ℕ). k ≢ 12) (sym is) other, some, omega (arith, is))
+refusals_more from below (r ∷ rows) row are is other some = (are.0, are.1, are.2, refusals_more (r.number + 1) below rows row are.3 is other some)
 
 pub refusals_wider : (from below : ℕ) (rows : List RefusalRow) → AreRefusalRows from below rows → AreRefusalRows from (below + 1) rows
 refusals_wider from below [] are = omega (arith, are)
-refusals_wider from below (r ∷ rows) are = (are.0, are.1, refusals_wider (r.number + 1) below rows are.2)
+refusals_wider from below (r ∷ rows) are = (are.0, are.1, are.2, refusals_wider (r.number + 1) below rows are.3)
 
 -- what the journal told, or none where there is none: for `read_check`
 pub check_is : {C : Type 0} (HasTold : C → CheckProgress → Type 0) (its : Option C) (check : Option CheckProgress)

@@ -2,11 +2,10 @@
 use Rattle.std.specs.Prelude.{◌≡◌, ◌⊎◌, ℕ, List, Option, Bool, false, IsTrue, take}
 use Rattle.std.specs.Io.KnownBytes.{Appends, Keeps}
 use Rattle.server_metrics.specs.Exchanges.{IsHeardOf}
-use Rattle.server_metrics.specs.MetricsText.{is_well}
-use Rattle.server_metrics.specs.Pages.{health_status, metrics_text_page, text_page}
+use Rattle.server_metrics.specs.Pages.{health_text_page, metrics_text_page, overview_text_page, text_page}
 use Rattle.server_metrics.specs.declared.metrics.ServerReadings.{ServerReadings}
 use Rattle.server_metrics.specs.declared.request.PageRequest.{PageRequest}
-use Rattle.server_metrics.specs.declared.request.PageRequest.TheVariants.{Metrics, Health, Refused}
+use Rattle.server_metrics.specs.declared.request.PageRequest.TheVariants.{Overview, Metrics, Health, Refused}
 use Rattle.server_status.specs.Reported.{IsReadOf}
 use Rattle.server_verdicts.specs.declared.epochs.checked.CheckProgress.{CheckProgress}
 use Rattle.history.specs.declared.rule.Naming.{Ghosts}
@@ -17,12 +16,13 @@ use Rattle.server_status.specs.declared.serving.StatusPort.{StatusPort}
 abbrev pub port_listener : {L : Type 0} → StatusPort L → L
 port_listener port = port.listener
 
--- the page that answers what was asked of a server: how it stands as it was read, or the words of a refusal
+-- the page that answers what was asked of a server: the one that shows it, how it stands as it was read, or the words of a refusal
 abbrev pub IsAnswerTo : {J C : Type 0} {naming : Ghosts J} → (C → CheckProgress → Type 0) → Watched J C naming → PageRequest → List ℕ → Type 0
+IsAnswerTo HasTold watched Overview page = page ≡ overview_text_page
 IsAnswerTo HasTold watched Metrics page =
     (readings : ServerReadings) × IsReadOf HasTold watched readings × (page ≡ metrics_text_page readings)
 IsAnswerTo HasTold watched Health page =
-    (readings : ServerReadings) × IsReadOf HasTold watched readings × (page ≡ text_page (health_status (is_well readings)))
+    (readings : ServerReadings) × IsReadOf HasTold watched readings × (page ≡ health_text_page readings)
 IsAnswerTo HasTold watched (Refused status) page = page ≡ text_page status
 
 -- a prefix of the page was written, or where that is said the whole of it

@@ -29,14 +29,14 @@ pub record IsRowOf (used : TenantUsage) (row : Row) : Type 0 where
   pub collections : row.collections ≡ used.collections
   pub cut : row.cut ≡ used.usage.epoch - 1
 
--- it is of the tenant of this name at this partition, has these limits, and says how far its checks have come, if it has any
+-- it is of the tenant of this name at this partition, has these limits, and says how many of the epochs that were cut are checked, if any are
 pub record IsRowAt (at : ℕ) (name : List ℕ) (limits : Limits) (progress : Option CheckProgress) (row : Row) : Type 0 where
   pub tenant : row.tenant.now ≡ name
   pub partition : row.partition ≡ at
   pub items : row.items_limit ≡ limits.items
   pub versions : row.versions_limit ≡ limits.slots
   pub marks : row.marks_limit ≡ limits.clients
-  pub checked : row.checked ≡ option_map (λ (its : CheckProgress). its.checked) progress
+  pub checked : row.checked ≡ option_map (λ (its : CheckProgress). min its.checked row.cut) progress
   pub wrong : IsTrue row.is_wrong ↔ IsSomeAnd progress (λ (its : CheckProgress). its.standing ≢ Right)
 
 -- a row of each usage, in their order: that of the tenant of the next name, limits and checks
@@ -102,10 +102,10 @@ AreClientRows names limits [] = Unit {0}
 AreClientRows (name ∷ names) (its ∷ limits) (row ∷ rows) = IsClientRow name its row × AreClientRows names limits rows
 AreClientRows _ _ _ = ⊥
 
--- the rows are of refusals with rising numbers, from the first of these to before the second, each of one line or more
+-- the rows are of refusals with rising numbers, from the first of these to before the second, none of them 12, each of one line or more
 abbrev pub AreRefusalRows : ℕ → ℕ → List RefusalRow → Type 0
 AreRefusalRows from below [] = from ≤ below
-AreRefusalRows from below (row ∷ rows) = (from ≤ row.number) × (0 < row.lines) × AreRefusalRows (row.number + 1) below rows
+AreRefusalRows from below (row ∷ rows) = (from ≤ row.number) × (row.number ≢ 12) × (0 < row.lines) × AreRefusalRows (row.number + 1) below rows
 
 -- ---- all that is read
 

@@ -3,6 +3,7 @@
 
 mod reading;
 mod serving;
+mod visitor;
 
 pub use reading::Watched;
 pub use serving::{StatusPort, serve_and_report};

@@ -1,15 +1,19 @@
 //! What a scrape reads of a running server.
-ghost use Rattle.std.specs.Prelude.{◌≡◌, ◌-◌, ◌^◌, [], min, IfOk, IsTrue, vec_len, length};
+ghost use Rattle.std.specs.Prelude.{◌≡◌, ◌≢◌, ◌<◌, ◌-◌, ◌^◌, [], min, IfOk, IsTrue, vec_len, length};
 ghost use Rattle.server_status.specs.Reported.{AreChecksAt, AreClientRows, AreRefusalRows, AreRowsAt, AreRowsBefore, AreRowsBehind, IsCheckOf, IsReadOf, IsRowAt, IsRowOf, known_in};
 
 use hub::{Gate, Hub, Naming, TenantUsage};
 use line_protocol::Name;
 use server_metrics::{ClientRow, RefusalRow, Row, ServerReadings};
-use server_sessions::{AnswerCounts, Listener, Server};
+use server_sessions::{AnswerCounts, Listener, Server, TenantCount};
 use server_verdicts::{CheckProgress, Checked, JournalChecks, Standing, progress_at};
 use stamps::Limits;
 use std::alloc::{AllocError, Global};
 use std::sync::{Mutex, Wait};
+
+/// The number by which a `hello` is refused whose client number has a session. Clients draw numbers until one is free, so these lines are
+/// no trouble, and have a count of their own.
+const BUSY: u8 = 12;
 
 /// What a status port reports of.
 #[derive(Drop)]
@@ -42,6 +46,7 @@ impl<'s, G: Gate + Naming, C: JournalChecks> Watched<'s, G, C> {
             rows,
             clients: self.read_clients(rt, alloc)?,
             refusals: read_refusals(alloc, self.server.answers())?,
+            busy: self.server.answers().refusals(BUSY),
             restarts: self.server.answers().restarts(),
             open: connections.open as u64,
             most: connections.most as u64,
@@ -84,12 +89,12 @@ impl<'s, G: Gate + Naming, C: JournalChecks> Watched<'s, G, C> {
         ensures { IfOk result (λ is_there. IsTrue is_there
             → AreRowsAt C.has_told self.now partition rows.old.items rows.new.items) }
     {
-        // Before the epochs, so that no more are checked than cut.
-        let checks = self.read_checks(rt, alloc, partition)?;
         let mut usages = Vec::new(alloc);
         if !self.hub.status(rt, partition, &mut usages)? {
             return Ok(false);
         }
+        // Behind the epochs that were cut, since a read of the checks waits: meanwhile more are cut, of which none seems to wait.
+        let checks = self.read_checks(rt, alloc, partition)?;
         self.put_rows(partition, &usages, &checks, rows)
     }
 
@@ -145,6 +150,26 @@ impl<'s, G: Gate + Naming, C: JournalChecks> Watched<'s, G, C> {
         Ok(true)
     }
 
+    // The row of a tenant's clients, of which so many numbers were used.
+    fn client_row(&self, tenant: u32, name: &'s Name, limits: &Limits, used: u64) -> ClientRow<'s>
+        ensures { (result.tenant.now ≡ name.now) × (result.clients ≡ used)
+            × (result.limit ≡ limits.now.clients) }
+    {
+        let answers = self.server.answers();
+        // Behind it others may be opened, and none of these seems to be closed.
+        let closed = answers.of_tenant(tenant, TenantCount::Closed);
+        let opened = answers.of_tenant(tenant, TenantCount::Opened);
+        ClientRow {
+            tenant: text_of(name),
+            clients: used,
+            limit: u64::from(limits.clients),
+            sessions: opened.saturating_sub(closed),
+            puts: answers.of_tenant(tenant, TenantCount::Puts),
+            gets: answers.of_tenant(tenant, TenantCount::Gets),
+            finds: answers.of_tenant(tenant, TenantCount::Finds),
+        }
+    }
+
     // A row of each tenant's clients.
     fn read_clients<H: Wait>(&self, rt: &H, alloc: Global) -> Result<Vec<ClientRow<'s>>, AllocError>
         ensures all { IfOk result (λ rows. vec_len rows
@@ -161,11 +186,8 @@ impl<'s, G: Gate + Naming, C: JournalChecks> Watched<'s, G, C> {
             ) else {
                 break;
             };
-            clients.push(ClientRow {
-                tenant: text_of(name),
-                clients: self.hub.clients(rt, tenant) as u64,
-                limit: u64::from(limits.clients),
-            })?;
+            let used = self.hub.clients(rt, tenant) as u64;
+            clients.push(self.client_row(tenant, name, limits, used))?;
         }
         Ok(clients)
     }
@@ -178,18 +200,28 @@ fn tenants_of(names: &[Name]) -> u32
     u32::try_from(names.len()).unwrap_or(u32::MAX)
 }
 
-// A row of each refusal that was answered.
+// A row of each refusal that was answered, but 12.
 fn read_refusals(alloc: Global, answers: &AnswerCounts) -> Result<Vec<RefusalRow>, AllocError>
     ensures { IfOk result (λ rows. AreRefusalRows 0 43 rows.items) }
 {
     let mut refusals = Vec::new(alloc);
     for number in 0..AnswerCounts::NUMBERS {
-        let lines = answers.refusals(number);
+        let lines = lines_of(answers, number);
         if lines > 0 {
             refusals.push(RefusalRow { number, lines })?;
         }
     }
     Ok(refusals)
+}
+
+// How many lines were answered by this refusal, but 12.
+fn lines_of(answers: &AnswerCounts, number: u8) -> u64
+    ensures { 0 < result → number ≢ BUSY }
+{
+    if number == BUSY {
+        return 0;
+    }
+    answers.refusals(number)
 }
 
 // The row of a tenant at a partition.
@@ -203,11 +235,12 @@ fn row_of<'s>(
     ensures used { IsRowOf used.now result }
     ensures at { IsRowAt partition tenant.now limits.now progress result }
 {
+    let usage = &used.usage;
+    let cut = usage.epoch.saturating_sub(1);
     let (checked, is_wrong) = match progress {
-        Some(its) => (Some(its.checked), its.standing != Standing::Right),
+        Some(its) => (Some(its.checked.min(cut)), its.standing != Standing::Right),
         None => (None, false),
     };
-    let usage = &used.usage;
     Row {
         tenant,
         partition,
@@ -219,7 +252,7 @@ fn row_of<'s>(
         marks_limit: limits.clients,
         calls: usage.served,
         collections: used.collections,
-        cut: usage.epoch.saturating_sub(1),
+        cut,
         checked,
         is_wrong,
     }

@@ -1,12 +1,13 @@
-//! Requests of HTTP, one at a time, each on a connection of its own.
+//! Requests of HTTP, each on a connection of its own.
 ghost use Rattle.std.specs.Prelude.{◌≡◌, IfOk, string_bytes};
 ghost use Rattle.std.specs.Io.KnownBytes.{Keeps};
 ghost use Rattle.server_status.specs.Answered.{HasAnswered, IsAnswerTo, port_listener};
 
 use crate::reading::Watched;
+use crate::visitor::Visitor;
 use hub::{Gate, Named, Naming};
 use server_metrics::{
-    PageRequest, health_page, hear, metrics_page, pass_over, status_page, write_page,
+    PageRequest, health_page, hear, metrics_page, overview_page, pass_over, status_page, write_page,
 };
 use server_sessions::{Accept, Listener, Open, serve_connections};
 use server_verdicts::JournalChecks;
@@ -19,22 +20,31 @@ use std::thread;
 use std::thread::Threads;
 use std::time::{Clock, Duration};
 
-/// How many seconds a read or a write waits for its client.
-const PATIENCE: u64 = 1;
+/// How many connections are answered at a time, each by a thread.
+const MOST_AT_ONCE: u32 = 16;
+
+/// Within how many milliseconds of its connection a client has sent its request.
+const TO_ASK: u64 = 5_000;
+
+/// Within how many it has taken its answer.
+const TO_TAKE: u64 = 15_000;
+
+/// Within how many it has closed its connection.
+const TO_CLOSE: u64 = 16_000;
 
 /// After how many milliseconds an `accept` that failed is tried again.
 const MOMENT: u64 = 50;
 
-/// The port at which a server reports of itself. Requests are answered one at a time, and a client that is slow or silent holds
-/// it for a minute and a half at most, and for a second at most once it is closed.
+/// The port at which a server reports of itself. It answers 16 connections at a time. One that sends nothing for a second ends, and
+/// however slow its client is, a connection ends 16 seconds after it was accepted, and within a second once the port is closed.
 #[derive(Drop)]
 pub struct StatusPort<L = Listener> {
     listener: L,
     is_closed: AtomicBool,
 }
 
-/// Serves the connections of a server as `serve_connections` does, and meanwhile answers the requests that come to a port, in a
-/// thread of its own. Where that can't be started, the port is closed, and the server goes on.
+/// Serves the connections of a server as `serve_connections` does, and meanwhile answers the requests that come to a port, in
+/// threads of their own, of which there are 16, or as many as can be started. Where none can, the port is closed, and the server goes on.
 pub fn serve_and_report<
     J: Naming + Send + Sync,
     C: JournalChecks + Send + Sync,
@@ -60,6 +70,9 @@ pub fn serve_and_report<
             let started = scope.spawn(move || port.serve(rt, alloc, watched));
             if started.is_err() {
                 port.close();
+            }
+            for _more in 1..MOST_AT_ONCE {
+                let _ = scope.spawn(move || port.serve(rt, alloc, watched));
             }
             serve_connections(
                 rt,
@@ -87,7 +100,7 @@ impl<L> StatusPort<L> {
 }
 
 impl<L: Accept> StatusPort<L> {
-    /// Answers requests, one at a time, until it is closed.
+    /// Answers requests, one at a time, until it is closed. Threads may do so side by side.
     fn serve<G: Gate + Naming, C: JournalChecks, H: Wait + Clock>(
         &self,
         rt: &H,
@@ -117,26 +130,26 @@ impl<L: Accept> StatusPort<L> {
 
     // Answers the request of a connection, and waits for its client to close it: a close behind unread bytes might lose the answer.
     // One that sends nothing, or takes too long, gets no answer, and so does one for whose answer an allocation failed.
-    fn answer<G: Gate + Naming, C: JournalChecks, H: Wait>(
+    fn answer<G: Gate + Naming, C: JournalChecks, H: Wait + Clock>(
         &self,
         rt: &H,
         alloc: Global,
         watched: &Watched<'_, G, C>,
         stream: &TcpStream,
     ) {
-        let patience = Some(Duration::from_secs(PATIENCE));
-        if stream.set_read_timeout(patience).is_err()
-            || stream.set_write_timeout(patience).is_err()
-        {
+        let (Some(mut asking), Some(mut taking), Some(mut closing)) = (
+            Visitor::new(rt, stream, TO_ASK),
+            Visitor::new(rt, stream, TO_TAKE),
+            Visitor::new(rt, stream, TO_CLOSE),
+        ) else {
             return;
-        }
-        let (mut reader, mut writer) = (stream, stream);
+        };
         let is_over = &self.is_closed;
-        if !answer_one(rt, alloc, watched, &mut reader, &mut writer, is_over) {
+        if !answer_one(rt, alloc, watched, &mut asking, &mut taking, is_over) {
             return;
         }
         let _ = stream.shutdown(Shutdown::Write);
-        pass_over(&mut reader, is_over);
+        pass_over(&mut closing, is_over);
     }
 }
 
@@ -171,6 +184,7 @@ fn answer_to<G: Gate + Naming, C: JournalChecks, H: Wait>(
     ensures { IfOk result (λ page. IsAnswerTo C.has_told watched.now asked (string_bytes page)) }
 {
     match asked {
+        PageRequest::Overview => overview_page(alloc),
         PageRequest::Metrics => metrics_page(alloc, &watched.read(rt, alloc)?),
         PageRequest::Health => health_page(alloc, &watched.read(rt, alloc)?),
         PageRequest::Refused(status) => status_page(alloc, status),

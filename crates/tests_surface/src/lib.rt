@@ -34,8 +34,6 @@ mod of_version_arena;
 #[cfg(test)]
 mod of_version_chain;
 #[cfg(test)]
-mod of_workload;
-#[cfg(test)]
 mod of_world;
 #[cfg(test)]
 mod values;

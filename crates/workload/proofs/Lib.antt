@@ -1,5 +1,6 @@
 pub mod Outcomes
 pub mod Listening
+pub mod Served
 pub mod Counting
 pub mod ToldKept
 pub mod GivenNumbers

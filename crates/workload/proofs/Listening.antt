@@ -1,5 +1,5 @@
--- What a server told of itself: for `tell_port`, `serve_and_settle` and `serve_and_check`.
-use Rattle.std.proofs.Common.{◌≡◌, ℕ, ◌<◌, ◌^◌, ◌⊎◌, Bool, true, false, List, [], length, take, Option, Some, None, Result, Ok, Err, refl, sym, ap, subst, inl, inr, arith, ◌∙◌}
+-- What a server told of itself: for `tell_port`, `serve_and_settle`, `serve_and_check` and `serve_unrecorded`.
+use Rattle.std.proofs.Common.{◌≡◌, ℕ, ◌<◌, ◌^◌, ◌⊎◌, Bool, true, false, List, [], length, take, Option, Some, None, Result, Ok, Err, refl, sym, subst, inl, inr, arith, ◌∙◌}
 use Rattle.std.specs.Prelude.{codes, if◌then◌else◌, nat_lt}
 use Rattle.std.specs.Io.KnownBytes.{Appends}
 use Rattle.std.proofs.KnownBytes.{Appends-nil, Appends-trans, Keeps-refl}
@@ -10,6 +10,7 @@ use Rattle.hub.specs.Hubs.{ConfigView}
 use Rattle.closed_store.specs.declared.closed.Closed.{Closed}
 use Rattle.line_runs.specs.Statuses.{status_of}
 use Rattle.workload.specs.Serving.{EndsAfter, HasChecked, HasListened, HasServed, IsClosed, IsFaultBefore, TellsPortFirst, TellsPortFor, greater_fault, listening_line}
+use Rattle.workload.specs.Unrecorded.{TellsAllServed, TellsServed, served_line}
 use Rattle.server_sessions.specs.declared.listener.Listener.{Listener}
 use Rattle.server_sessions.specs.Ports.{IsPortFor, port_of}
 use Rattle.server_verdicts.specs.Judged.{IsCheckedAs}
@@ -29,32 +30,83 @@ line_told old new line port is small adds =
 pub is_closed : (view hub : ConfigView) (closed : Closed) → IsClosed hub closed → hub ≡ view → IsClosed view closed
 is_closed view hub closed is opened = subst (λ (v : ConfigView). IsClosed v closed) opened is
 
+not_both : {A : Type 0} → ◌≡◌ {A = Bool} true false → A
+not_both bad = absurd cc
+
+both_not : {A : Type 0} → ◌≡◌ {A = Bool} false true → A
+both_not bad = absurd cc
+
 -- a server told its port, closed its store, and told the verdicts
 pub closed_on : (view : ConfigView) (names : List (List ℕ)) (old between new : Option (List ℕ)) (closed : Closed) (told ended : Result (Unit {0}) ProgramFault)
     → HasListened old between (Ok tt) → IsClosed view closed → (view.epoch ≡ 0 → TellsVerdicts closed names between new told)
-    → (0 < view.epoch → HasChecked view closed names between new told) → EndsAfter told ended → HasServed view names old new ended
-closed_on view names old between new closed told (Ok done) listened opened verdicts checks ends =
-    record { between = between; listened = listened; closed = closed; opened = opened; told = told; verdicts = verdicts; checks = checks; ends = ends }
-closed_on view names old between new closed told (Err fault) listened opened verdicts checks ends =
-    inr (record { between = between; listened = listened; closed = closed; opened = opened; told = told; verdicts = verdicts; checks = checks; ends = ends })
+    → (0 < view.epoch → HasChecked view closed names between new told) → EndsAfter told ended → HasServed false view names old new ended
+closed_on view names old between new closed told (Ok done) listened opened verdicts checks ends = record {
+  between = between;
+  listened = listened;
+  closed = closed;
+  opened = opened;
+  told = told;
+  verdicts = λ recorded. verdicts;
+  checks = λ recorded. checks;
+  served = λ unrecorded. both_not unrecorded;
+  ends = ends;
+}
+closed_on view names old between new closed told (Err fault) listened opened verdicts checks ends = inr (record {
+  between = between;
+  listened = listened;
+  closed = closed;
+  opened = opened;
+  told = told;
+  verdicts = λ recorded. verdicts;
+  checks = λ recorded. checks;
+  served = λ unrecorded. both_not unrecorded;
+  ends = ends;
+})
+
+-- a server that records nothing told its port, closed its store, and told what it had answered
+pub closed_unrecorded : (view : ConfigView) (names : List (List ℕ)) (old between new : Option (List ℕ)) (closed : Closed) (told ended : Result (Unit {0}) ProgramFault)
+    → HasListened old between (Ok tt) → IsClosed view closed → TellsServed (length view.limits) names between new told → EndsAfter told ended → HasServed true view names old new ended
+closed_unrecorded view names old between new closed told (Ok done) listened opened served ends = record {
+  between = between;
+  listened = listened;
+  closed = closed;
+  opened = opened;
+  told = told;
+  verdicts = λ recorded. not_both recorded;
+  checks = λ recorded. not_both recorded;
+  served = λ unrecorded. served;
+  ends = ends;
+}
+closed_unrecorded view names old between new closed told (Err fault) listened opened served ends = inr (record {
+  between = between;
+  listened = listened;
+  closed = closed;
+  opened = opened;
+  told = told;
+  verdicts = λ recorded. not_both recorded;
+  checks = λ recorded. not_both recorded;
+  served = λ unrecorded. served;
+  ends = ends;
+})
 
 -- a server one of whose transcripts found no memory told its port and no verdict
 pub no_transcript : (view : ConfigView) (names : List (List ℕ)) (old new : Option (List ℕ)) (closed : Closed)
-    → HasListened old new (Ok tt) → IsClosed view closed → view.epoch ≡ 0 → HasServed view names old new (Err OutOfMemory)
+    → HasListened old new (Ok tt) → IsClosed view closed → view.epoch ≡ 0 → HasServed false view names old new (Err OutOfMemory)
 no_transcript view names old new closed listened opened kept =
     closed_on view names old new new closed (Err OutOfMemory) (Err OutOfMemory) listened opened
     (λ again. record { verdicts = []; few = omega arith; each = λ tenant verdict at. absurd (let bad : None ≡ Some verdict = at in cc); size = 0; written = Appends-nil new })
     (λ cut. absurd (omega (arith, kept, cut))) (Ok tt, tt, refl)
 
 -- a server that could not open its store told nothing
-pub nothing_told : (view : ConfigView) (names : List (List ℕ)) (writer : Option (List ℕ)) (fault : ProgramFault) → (fault ≡ OutOfMemory) ⊎ (fault ≡ Device)
-    → HasServed view names writer writer (Err fault)
-nothing_told view names writer fault (inl same) = subst (λ (f : ProgramFault). HasServed view names writer writer (Err f)) (sym same) (inl (Keeps-refl writer))
-nothing_told view names writer fault (inr same) = subst (λ (f : ProgramFault). HasServed view names writer writer (Err f)) (sym same) (inl (0, omega arith, (0, Appends-nil writer)))
+pub nothing_told : (unrecorded : Bool) (view : ConfigView) (names : List (List ℕ)) (writer : Option (List ℕ)) (fault : ProgramFault) → (fault ≡ OutOfMemory) ⊎ (fault ≡ Device)
+    → HasServed unrecorded view names writer writer (Err fault)
+nothing_told unrecorded view names writer fault (inl same) = subst (λ (f : ProgramFault). HasServed unrecorded view names writer writer (Err f)) (sym same) (inl (Keeps-refl writer))
+nothing_told unrecorded view names writer fault (inr same) =
+    subst (λ (f : ProgramFault). HasServed unrecorded view names writer writer (Err f)) (sym same) (inl (0, omega arith, (0, Appends-nil writer)))
 
 -- a server whose epochs were checked told its port and nothing else, since an allocation failed
 pub no_room_to_check : (view : ConfigView) (names : List (List ℕ)) (old new : Option (List ℕ)) (closed : Closed)
-    → HasListened old new (Ok tt) → IsClosed view closed → 0 < view.epoch → HasServed view names old new (Err OutOfMemory)
+    → HasListened old new (Ok tt) → IsClosed view closed → 0 < view.epoch → HasServed false view names old new (Err OutOfMemory)
 no_room_to_check view names old new closed listened opened cut =
     closed_on view names old new new closed (Err OutOfMemory) (Err OutOfMemory) listened opened (λ kept. absurd (omega (arith, kept, cut))) (λ more. inl (refl, Keeps-refl new)) (Ok tt, tt, refl)
 
@@ -123,6 +175,19 @@ pub port_then_checked : (view : ConfigView) (closed : Closed) (names : List (Lis
 port_then_checked view closed names port old between new told ended first (inl (none, keeps)) ends = port_alone port old new told ended none ends
 port_then_checked view closed names port old between new told ended first (inr (endings, limits, parts, left, checks)) ends =
     port_then (IsCheckedAs endings) (codes "checked ") (length endings.limits.items) names port old between new told ended first checks ends
+
+-- the same of what was answered
+pub port_then_served : (tenants : ℕ) (names : List (List ℕ)) (port : ℕ) (old between new : Option (List ℕ)) (told ended : Result (Unit {0}) ProgramFault)
+    → Appends old between (listening_line port) → TellsServed tenants names between new told → EndsAfter told ended → TellsPortFirst port old new ended
+port_then_served tenants names port old between new told (Ok done) first h (before, may, is) =
+    let all : TellsAllServed tenants names between new = subst (TellsServed tenants names between new) (told_well before told (sym is)) h in
+    (lines_text served_line all.all names, Appends-trans old between new (listening_line port) _ first all.written)
+port_then_served tenants names port old between new told (Err Settle) first h (before, may, is) = absurd (subst (TellsServed tenants names between new) (told_wrong before told may (sym is)) h)
+port_then_served tenants names port old between new told (Err LineTooLong) first h ends = tt
+port_then_served tenants names port old between new told (Err Cut) first h ends = tt
+port_then_served tenants names port old between new told (Err Options) first h ends = tt
+port_then_served tenants names port old between new told (Err OutOfMemory) first h ends = tt
+port_then_served tenants names port old between new told (Err Device) first h ends = tt
 
 -- where the port was not told, no verdict was
 pub no_port : (port : ℕ) (old between new : Option (List ℕ)) (fault : ProgramFault) → HasListened old between (Err fault) → TellsPortFirst port old new (Err fault)

@@ -1,4 +1,5 @@
 pub mod Program
 pub mod Serving
+pub mod Unrecorded
 pub mod Rounds
 pub mod Loading

@@ -1,6 +1,6 @@
 -- What a server reports about itself, and what one did that the words ask for.
 use Rattle.std.specs.Prelude.{◌≡◌, ◌⊎◌, ℕ, ◌<◌, ◌≤◌, ◌^◌, ◌++◌, length, List, Option, Result, Ok, Err, IfOk, IfErr, OnOk}
-use Rattle.std.specs.Prelude.{codes, decimal, if◌then◌else◌, map, nat_lt, take}
+use Rattle.std.specs.Prelude.{Bool, IsTrue, codes, decimal, false, if◌then◌else◌, map, nat_lt, take}
 use Rattle.std.specs.Io.KnownBytes.{Appends, Keeps}
 use Rattle.stamps.specs.Bounds.{IsParts}
 use Rattle.stamps.specs.declared.bounds.Limits.{Limits}
@@ -20,6 +20,7 @@ use Rattle.server_verdicts.specs.Judged.{AreLeft, TellsChecks}
 use Rattle.server_verdicts.specs.Verdicts.{TellsVerdicts}
 use Rattle.command_line.specs.Words.{AreTenants, AsksForServer}
 use Rattle.server_sessions.specs.Ports.{IsPortFor}
+use Rattle.workload.specs.Unrecorded.{TellsServed}
 
 -- the line that reports at which port a server listens
 abbrev pub listening_line : ℕ → List ℕ
@@ -97,29 +98,31 @@ EndsAfter told ended =
     (before : Result (Unit {0}) ProgramFault) × IsFaultBefore before × (ended ≡ greater_fault before told)
 
 -- What a server wrote that closed its store: the line of a port, and then the verdicts over what the close answered,
--- or, where its journals were cut, those over what was left of them. It told them also where an allocation failed to a
--- connection or a device failed before.
-pub record HasClosed (view : ConfigView) (names : List (List ℕ)) (old new : Option (List ℕ))
+-- or, where its journals were cut, those over what was left of them; or, where it records nothing, how many lines of each
+-- tenant it answered. It told them also where an allocation failed to a connection or a device failed before.
+pub record HasClosed (unrecorded : Bool) (view : ConfigView) (names : List (List ℕ)) (old new : Option (List ℕ))
     (ended : Result (Unit {0}) ProgramFault) : Type 0 where
   pub between : Option (List ℕ)
   pub listened : HasListened old between (Ok tt)
   pub closed : Closed
   pub opened : IsClosed view closed
   pub told : Result (Unit {0}) ProgramFault
-  pub verdicts : view.epoch ≡ 0 → TellsVerdicts closed names between new told
-  pub checks : 0 < view.epoch → HasChecked view closed names between new told
+  pub verdicts : unrecorded ≡ false → view.epoch ≡ 0 → TellsVerdicts closed names between new told
+  pub checks : unrecorded ≡ false → 0 < view.epoch → HasChecked view closed names between new told
+  pub served : IsTrue unrecorded → TellsServed (length view.limits) names between new told
   pub ends : EndsAfter told ended
 
 -- What a server of such a store wrote that ended so, whether it served so many connections or stayed until its input
--- ended: its port and all verdicts, which are all yes where it ended well, and not all where it ended with Settle.
+-- ended: its port and all verdicts, which are all yes where it ended well, and not all where it ended with Settle; one that
+-- records nothing has its counts in their place, and never ends with Settle.
 -- Where an allocation failed, it told its port at most, or its port and some verdicts: all, where it was refused to a
 -- connection alone. Where a device failed, it told a beginning of the line of its port, or its port and the verdicts:
 -- all, unless that device was the one that takes them. It ends in no other way.
-abbrev pub HasServed : ConfigView → List (List ℕ) → Option (List ℕ) → Option (List ℕ)
+abbrev pub HasServed : Bool → ConfigView → List (List ℕ) → Option (List ℕ) → Option (List ℕ)
     → Result (Unit {0}) ProgramFault → Type 0
-HasServed view names old new (Ok done) = HasClosed view names old new (Ok done)
-HasServed view names old new (Err fault) =
-    HasListened old new (Err fault) ⊎ HasClosed view names old new (Err fault)
+HasServed unrecorded view names old new (Ok done) = HasClosed unrecorded view names old new (Ok done)
+HasServed unrecorded view names old new (Err fault) =
+    HasListened old new (Err fault) ⊎ HasClosed unrecorded view names old new (Err fault)
 
 -- A store of so many partitions and a tenant of these limits for each name. As many calls may wait at a partition, and
 -- it is collected after so many; a journal is cut after so many events, or never.
@@ -127,19 +130,24 @@ abbrev pub store_view : ℕ → Limits → List (List ℕ) → ℕ → ℕ → �
 store_view parts limits names queue every epoch =
     record { parts = parts; limits = map (λ name. limits) names; queue = queue; every = every; epoch = epoch }
 
+-- after how many events a journal of such a server is cut: one that records nothing cuts it after a number of the program's
+abbrev pub server_epoch : ServerOptions → ℕ
+server_epoch options = if options.unrecorded then 5000 else options.epoch
+
 -- the words ask for a server, which ended so
 abbrev pub RunsServer : List (List ℕ) → Option (List ℕ) → Option (List ℕ) → Result (Unit {0}) ProgramFault → Type 0
 RunsServer words old new ended =
     (parts : ℕ) × (limits : Limits) × (names : List (List ℕ)) × (options : ServerOptions)
     × AsksForServer words parts limits names options
-    × HasServed (store_view parts limits names options.queue options.every options.epoch) names old new ended
+    × HasServed options.unrecorded
+    (store_view parts limits names options.queue options.every (server_epoch options)) names old new ended
     × TellsPortFor options.port old new ended
 
 -- the server wrote so, and told a port as is asked
-pub record ServesAndTells (view : ConfigView) (names : List (List ℕ))
+pub record ServesAndTells (unrecorded : Bool) (view : ConfigView) (names : List (List ℕ))
     (TellsPort : Option (List ℕ) → Option (List ℕ) → Result (Unit {0}) ProgramFault → Type 0)
     (old new : Option (List ℕ)) (ended : Result (Unit {0}) ProgramFault) : Type 0 where
-  pub served : HasServed view names old new ended
+  pub served : HasServed unrecorded view names old new ended
   pub port : TellsPort old new ended
 
 -- what was written of this port went so

@@ -1,8 +1,10 @@
 //! The programs: a server, a load, and whatever the words ask for.
 #![tactic(auto)]
 
+mod count_lines;
 mod load;
 mod serve;
+mod served_lines;
 mod words;
 
 pub use line_runs::{run_cell, run_sim};

@@ -1,11 +1,12 @@
 //! A server: sessions over TCP, and the verdicts over the store that they left.
-ghost use Rattle.std.specs.Prelude.{◌≡◌, ◌<◌, ◌≤◌, ◌⊎◌, cond, Ok, Err, IfOk, IfErr, string_bytes};
+ghost use Rattle.std.specs.Prelude.{◌≡◌, ◌<◌, ◌≤◌, ◌⊎◌, cond, false, true, Ok, Err, IfOk, IfErr, string_bytes};
 ghost use Rattle.line_runs.specs.declared.fault.ProgramFault.TheVariants.{Device, OutOfMemory as NoMemory};
 ghost use Rattle.hub.specs.Hubs.{config_view};
 ghost use Rattle.workload.specs.Serving.{DoneOrRefused, IsClosed, IsFaultBefore, ServesAndTells, TellsOfPort, TellsPortFirst, TellsPortFor, greater_fault, listening_line};
 ghost use Rattle.server_sessions.specs.Histories.{IsOfHistory};
 ghost use Rattle.server_sessions.specs.Ports.{IsServerOf, listener_of, most_of, options_of, port_of, stays_of, transcripts_of};
 
+use crate::served_lines::tell_served;
 use command_line::{ServerOptions, VERSION};
 use hub::{Closed, Config, Front, Hub, HubFault, Named, Naming, NewStore, Sink};
 use line_protocol::Name;
@@ -48,6 +49,9 @@ struct Reporting<'s> {
 /// while the store goes on; the partition's worker waits where two are left to be checked. At the end the lines are those of
 /// `tell_checks`, over these epochs and what is left.
 ///
+/// Where the options say that it records nothing, what is cut off a journal is dropped, and nothing is checked: the lines are then
+/// those of `tell_served`, how many lines of each tenant were answered. Journals are to be cut for memory to stay level.
+///
 /// Where the options have a status port, that reports meanwhile how the server stands.
 ///
 /// A connection's fault ends that connection alone. It is `Device` where a port can't be listened at or a line can't be
@@ -76,15 +80,18 @@ pub fn run_server<
     reader: &mut R,
     writer: &mut W,
 ) -> Result<(), ProgramFault>
-    ensures { ServesAndTells (config_view config) names.now (TellsPortFor options.port)
-        (W.contents writer.old) (W.contents writer.new) result }
+    ensures { ServesAndTells options.unrecorded (config_view config) names.now
+        (TellsPortFor options.port) (W.contents writer.old) (W.contents writer.new) result }
 {
     let Ok(listener) = Listener::bind(rt, options.port) else {
         return Err(ProgramFault::Device);
     };
     let status = bind_status(rt, options.status)?;
     let ports = Ports { listener, status };
-    if config.epoch == 0 {
+    if options.unrecorded {
+        let store = NewStore::of(config);
+        serve_unrecorded::<Brand, H, R, W>(rt, alloc, store, names, ports, options, reader, writer)
+    } else if config.epoch == 0 {
         let store = NewStore::of(config);
         serve_and_settle::<Brand, H, R, W>(rt, alloc, store, names, ports, options, reader, writer)
     } else {
@@ -161,7 +168,7 @@ fn serve_and_settle<
 ) -> Result<(), ProgramFault>
     requires kept { store.config.epoch ≡ 0 }
     requires name { store.history.seen.book ≡ J.book }
-    ensures { ServesAndTells (config_view store.config) names.now
+    ensures { ServesAndTells false (config_view store.config) names.now
         (TellsPortFirst (port_of ports.listener))
         (W.contents writer.old) (W.contents writer.new) result }
 {
@@ -202,7 +209,7 @@ fn serve_and_check<
 ) -> Result<(), ProgramFault>
     requires cut { 0 < store.config.epoch }
     requires name { store.history.seen.book ≡ J.book }
-    ensures { ServesAndTells (config_view store.config) names.now
+    ensures { ServesAndTells false (config_view store.config) names.now
         (TellsPortFirst (port_of ports.listener))
         (W.contents writer.old) (W.contents writer.new) result }
 {
@@ -222,6 +229,45 @@ fn serve_and_check<
     let limits = closed.config.limits;
     let endings = endings_of(alloc, limits, closed.journals, known)?;
     let ended = tell_checks(alloc, &endings, names, writer);
+    ended_after(before, ended)
+}
+
+// Serves a store of which nothing is recorded: what is cut off its journals is dropped. It reports how many lines were
+// answered.
+fn serve_unrecorded<
+    J: Naming + Send + Sync + Drop + 'static,
+    H: Threads + Wait + Clock + Clone + Send + Sync + Drop + 'static,
+    R: Read,
+    W: Write,
+>(
+    rt: &H,
+    alloc: Global,
+    store: NewStore,
+    names: &[Name],
+    ports: Ports,
+    options: ServerOptions,
+    reader: &mut R,
+    writer: &mut W,
+) -> Result<(), ProgramFault>
+    requires name { store.history.seen.book ≡ J.book }
+    ensures { ServesAndTells true (config_view store.config) names.now
+        (TellsPortFirst (port_of ports.listener))
+        (W.contents writer.old) (W.contents writer.new) result }
+{
+    let Ports { listener, status } = ports;
+    let server = server_of(alloc, listener, options)?;
+    let hub = open_hub::<J, (), H>(rt, alloc, store, ())?;
+    let reporting = Reporting {
+        port: status.as_ref(),
+        known: None,
+    };
+    let told = serve_all(rt, alloc, &hub, names, &server, reporting, reader, writer);
+    let (left, answers) = server.left_and_answers();
+    let before = fault_of(&left);
+    let (closed, _seen) = close_store(rt, hub, left.kept);
+    told?;
+    let tenants = closed.config.limits.len();
+    let ended = tell_served(alloc, &answers, tenants, names, writer);
     ended_after(before, ended)
 }
 

@@ -1,10 +1,10 @@
 //! The program as its words ask for it.
-ghost use Rattle.std.specs.Prelude.{◌≡◌, ◌<◌, ◌⊎◌, Result, IfOk, map, string_bytes};
+ghost use Rattle.std.specs.Prelude.{◌≡◌, ◌<◌, ◌≤◌, ◌⊎◌, Result, IfOk, map, string_bytes};
 ghost use Rattle.std.specs.Io.KnownBytes.{Keeps};
 ghost use Rattle.line_runs.specs.declared.fault.ProgramFault.{ProgramFault as Fault};
 ghost use Rattle.workload.specs.Program.{Runs, ended_as};
 ghost use Rattle.workload.specs.Loading.{HasLoaded, RunsLoad, load_view};
-ghost use Rattle.workload.specs.Serving.{IsAskedStore, IsPace, RunsServer, ServesAndTells, TellsPortFor, store_view};
+ghost use Rattle.workload.specs.Serving.{IsAskedStore, IsPace, RunsServer, ServesAndTells, TellsPortFor, server_epoch, store_view};
 ghost use Rattle.line_runs.specs.Statuses.{IsHelpStatus, exit_status};
 ghost use Rattle.command_line.specs.Words.{AsksForHelp, AsksForVersion};
 ghost use Rattle.hub.specs.Hubs.{config_view};
@@ -31,9 +31,9 @@ use std::time::Clock;
 /// - `ramp cell [--slots N] [--items N] [--clients N]` answers the calls of one cell, as [`line_runs::run_cell`] says.
 /// - `ramp sim [--parts P] [--slots N] [--items N] [--clients N] [--keep K] TENANT..` answers the steps of these tenants, none
 ///   named twice, which have the same limits.
-/// - `ramp serve` takes what `ramp sim` takes, and `[--port N] [--sessions N] [--stay] [--strict] [--newest] [--queue N] [--every N]
-///   [--epoch N] [--status N]`, and serves sessions of the tenants over TCP, as [`run_server`] says. With `--stay` the number of sessions
-///   is of those at a time. With `--strict` a line that can't be read ends a connection that has no seat. With `--newest` each put reads its
+/// - `ramp serve` takes what `ramp sim` takes, and `[--port N] [--sessions N] [--stay] [--strict] [--newest] [--unrecorded] [--queue N]
+///   [--every N] [--epoch N] [--status N]`, and serves sessions of the tenants over TCP, as [`run_server`] says. With `--stay` the number of sessions
+///   is of those at a time. With `--unrecorded` it keeps no record and has no verdict. With `--strict` a line that can't be read ends a connection that has no seat. With `--newest` each put reads its
 ///   keys first.
 /// - `ramp load` takes what `ramp sim` takes, `--queue`, `--every` and `--epoch`, and `[--seats N] [--rounds N] [--seed N] [--keys N]`, and
 ///   runs seats of the tenants, as [`run_load`] says: no more of a tenant than it has clients.
@@ -140,13 +140,29 @@ fn serve_store<
 ) -> Result<(), ProgramFault>
     requires { IsAskedStore store.now }
     ensures { let names = store.now.names.items in
-        ServesAndTells (store_view store.now.parts store.now.limits names
-        options.queue options.every options.epoch) names (TellsPortFor options.port)
+        ServesAndTells options.unrecorded (store_view store.now.parts store.now.limits names
+        options.queue options.every (server_epoch options)) names (TellsPortFor options.port)
         (W.contents writer.old) (W.contents writer.new) result }
 {
-    let config = config_of(alloc, store, options.queue, options.every, options.epoch)?;
+    let epoch = epoch_of(options);
+    let config = config_of(alloc, store, options.queue, options.every, epoch)?;
     let names = store.names.as_slice();
     run_server(rt, alloc, config, names, options, reader, writer)
+}
+
+/// After how many events a journal is cut of a server that records nothing: until then they take memory, up to 1.4 KB each.
+const UNRECORDED_EPOCH: u32 = 5000;
+
+// After how many events a journal is cut.
+fn epoch_of(options: ServerOptions) -> u32
+    ensures epoch { result ≡ server_epoch options }
+    ensures few { result ≤ 1048576 }
+{
+    if options.unrecorded {
+        UNRECORDED_EPOCH
+    } else {
+        options.epoch
+    }
 }
 
 // Opens the store that the options ask for, and has its tenants' seats do their rounds.

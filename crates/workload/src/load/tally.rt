@@ -1,16 +1,16 @@
 //! What is reported of a load: how many operations the seats of each tenant began.
-ghost use Rattle.std.specs.Prelude.{◌≡◌, ◌+◌, ◌++◌, IfErr, OnOk, decimal, sum_by};
+ghost use Rattle.std.specs.Prelude.{◌≡◌, ◌+◌, IfErr, OnOk, sum_by};
 ghost use Rattle.std.specs.Io.KnownBytes.{Appends};
 ghost use Rattle.server_verdicts.specs.Begun.{counts_begun, counts_in, counts_of, counts_of_entry, counts_of_operation};
 ghost use Rattle.workload.specs.Loading.{CountsMore};
 ghost use Rattle.server_verdicts.specs.Verdicts.{BreaksOff, TellsBegun, load_line};
 
+use crate::count_lines::push_count;
 use hub::{Closed, EntryList, Operation, Transcript};
-use itoa::Buffer;
 use line_protocol::Name;
 use line_runs::{ProgramFault, write_text};
 use server_verdicts::name_at;
-use std::alloc::{AllocError, Global};
+use std::alloc::Global;
 use std::io::Write;
 
 /// How many operations of each kind were begun.
@@ -139,14 +139,4 @@ fn write_begun<W: Write>(
     push_count(&mut line, " finds ", begun.finds)?;
     line.extend_from_slice(b"\n")?;
     Ok(write_text(writer, line.as_slice())?)
-}
-
-/// Appends a word and a number.
-fn push_count(line: &mut Vec<u8>, word: &str, count: u64) -> Result<(), AllocError>
-    ensures { OnOk result (line.new.items ≡ line.old.items ++ (word.now ++ decimal count)) }
-{
-    let mut buffer = Buffer::new();
-    line.extend_from_slice(word.as_bytes())?;
-    line.extend_from_slice(buffer.format(count).as_bytes())?;
-    Ok(())
 }

@@ -17,6 +17,9 @@ returns-in_err-strict-clause-none c = rw c.from_residual-in_err-strict.ensures (
 pub returns-in_err-newest-clause-none : goal.returns-in_err-newest-clause-none
 returns-in_err-newest-clause-none c = rw c.from_residual-in_err-newest.ensures (λ options given. c.in_err-newest.ensures.none options.newest given.of_newest)
 
+pub returns-in_err-unrecorded-clause-none : goal.returns-in_err-unrecorded-clause-none
+returns-in_err-unrecorded-clause-none c = rw c.from_residual-in_err-unrecorded.ensures (λ options given. c.in_err-unrecorded.ensures.none options.unrecorded given.of_unrecorded)
+
 pub returns-in_err-queue-clause-none : goal.returns-in_err-queue-clause-none
 returns-in_err-queue-clause-none c = rw c.from_residual-in_err-queue.ensures (λ options given. c.in_err-queue.ensures.none options.queue
     (record { from = options.some_room; up_to = options.little_room; of_option = given.of_queue }))

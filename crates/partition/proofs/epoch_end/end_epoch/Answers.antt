@@ -10,11 +10,11 @@ pub base-requires : goal.base-requires
 base-requires c = cell_has_log c.args.shelf.now c.args.tenant (account_of c.args.journal.now) c.args.lasts.now c.requires.kept
 
 next_is : (c : After-drop-lasts-4) → next_account (account_of c.args.journal.now) c.in-Ok.base
-    ≡ account_of (record { limits = c.args.journal.now.limits; number = c.args.journal.now.number + 1; before = c.args.journal.now.before + c.len.result; base = c.replace-begun.new.dest; events = c.take-events.new.self })
+    ≡ account_of (record { limits = c.args.journal.now.limits; number = c.args.journal.now.number + 1; before = c.args.journal.now.before + c.len.result; base = c.replace-begun.new.dest; events = c.take_on-events.new.self })
 next_is c =
     let long : length c.args.journal.now.events.items ≡ c.len.result = sym c.len.ensures.count in
     let begun = sym c.replace-begun.ensures.after in
-    let blank : [] ≡ c.take-events.new.self.items = sym c.take-events.ensures.empty in
+    let blank : [] ≡ c.take_on-events.new.self.items = sym c.take_on-events.ensures.empty in
     λ i. record { limits = c.args.journal.now.limits; start = record { number = c.args.journal.now.number + 1; before = c.args.journal.now.before + long i; base = begun i }; events = blank i }
 
 pub returns-clause-kept : goal.returns-clause-kept

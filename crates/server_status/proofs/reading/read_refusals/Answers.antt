@@ -8,6 +8,6 @@ loop-number-preserved c =
     let so_far = c.loop-number.refusals.items in
     elim c.if-lines-gt0.branch [
       | then-lines-gt0+in_ok-push w ↦
-          rw w.refusals-is (rw w.in_ok-push.ensures.items (refusals_more 0 c.loop-number.number so_far _ c.loop-number.invariant refl w.if-lines-gt0.true))
+          rw w.refusals-is (rw w.in_ok-push.ensures.items (refusals_more 0 c.loop-number.number so_far _ c.loop-number.invariant refl (c.lines_of-lines.ensures w.if-lines-gt0.true) w.if-lines-gt0.true))
       | else-lines-gt0 w ↦ rw w.refusals-is (refusals_wider 0 c.loop-number.number so_far c.loop-number.invariant)
     ]

@@ -4,6 +4,14 @@ use Rattle.hub.specs.Hubs.{config_view}
 use Rattle.workload.proofs.Listening.{no_port_for, nothing_told, port_is}
 use Rattle.workload.proofs.serve.run_server.Goals as goal
 
+pub returns-then-options : goal.returns-then-options
+returns-then-options g c = record {
+  served = rw c.if-options.true (search rules);
+  port =
+      port_is c.args.options.port c.in-Ok.listener (g.W.Write.contents c.args.writer.now) (g.W.Write.contents c.serve_unrecorded.new.writer) c.serve_unrecorded.result
+      c.in-Ok.ensures c.serve_unrecorded.ensures.port;
+}
+
 pub returns-then-config-eq0 : goal.returns-then-config-eq0
 returns-then-config-eq0 g c = record {
   served = search rules;
@@ -30,7 +38,7 @@ pub returns-in_err-status : goal.returns-in_err-status
 returns-in_err-status g c = record {
   served =
       let p = err_from_is_err_and c.from_residual.result c.from_residual.ensures.1 in
-      rw (p.1, p.2) (nothing_told (config_view c.args.config) c.args.names.now (g.W.Write.contents c.args.writer.now) c.in_err-status.field-0.0 c.in_err-status.ensures);
+      rw (p.1, p.2) (nothing_told c.args.options.unrecorded (config_view c.args.config) c.args.names.now (g.W.Write.contents c.args.writer.now) c.in_err-status.field-0.0 c.in_err-status.ensures);
   port =
       let p = err_from_is_err_and c.from_residual.result c.from_residual.ensures.1 in
       rw (p.1, p.2) (no_port_for c.args.options.port (g.W.Write.contents c.args.writer.now) c.in_err-status.field-0.0 c.in_err-status.ensures);

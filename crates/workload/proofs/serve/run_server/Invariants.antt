@@ -6,3 +6,6 @@ ghosts-serve_and_settle g a = record { book = a.store.history.seen.book }
 
 abbrev pub ghosts-serve_and_check : goal.ghosts-serve_and_check
 ghosts-serve_and_check g a = record { book = a.store.history.seen.book }
+
+abbrev pub ghosts-serve_unrecorded : goal.ghosts-serve_unrecorded
+ghosts-serve_unrecorded g a = record { book = a.store.history.seen.book }

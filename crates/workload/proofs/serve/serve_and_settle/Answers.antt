@@ -1,4 +1,4 @@
-use Rattle.std.proofs.Common.{arith, rules}
+use Rattle.std.proofs.Common.{arith, false, rules}
 use Rattle.std.specs.Prelude.{codes, length}
 use Rattle.std.proofs.lemmas.Result.{err_from_is_err_and}
 use Rattle.hub.specs.Hubs.{config_view}
@@ -31,7 +31,7 @@ pub returns-in_err-hub : goal.returns-in_err-hub
 returns-in_err-hub g c = record {
   served =
       let p = err_from_is_err_and c.from_residual-in_err-hub.result c.from_residual-in_err-hub.ensures.1 in
-      rw (p.1, p.2) (nothing_told (config_view c.args.store.config) c.args.names.now (g.W.Write.contents c.args.writer.now) c.in_err-hub.field-0.0 c.in_err-hub.ensures.refused);
+      rw (p.1, p.2) (nothing_told false (config_view c.args.store.config) c.args.names.now (g.W.Write.contents c.args.writer.now) c.in_err-hub.field-0.0 c.in_err-hub.ensures.refused);
   port =
       let p = err_from_is_err_and c.from_residual-in_err-hub.result c.from_residual-in_err-hub.ensures.1 in
       rw (p.1, p.2) (no_store (port_of c.args.ports.listener) (g.W.Write.contents c.args.writer.now) (g.W.Write.contents c.args.writer.now) c.in_err-hub.field-0.0 c.in_err-hub.ensures.refused);

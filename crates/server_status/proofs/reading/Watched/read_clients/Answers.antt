@@ -15,13 +15,14 @@ loop-tenant-preserved g c =
     let names = c.args.self.now.names.now in
     let all = c.args.self.now.hub.now.limits in
     let told = c.limits-limits.result.now in
-    let row : ClientRow = record { tenant = c.text_of.result; clients = c.clients.result; limit = c.from.result } in
+    let row = c.client_row.result in
     let limited : slice_get all nth ≡ Some found.limits.now =
     ap (λ (limits : List Limits). slice_get limits nth) (sym c.limits-limits.ensures)
     ∙ slice_get_read told (length told) nth found.limits.now refl found.ensures'.lookup.3.0 (found.ensures'.lookup.3.1 found.limits.now) in
     let named = slice_get_read names (length names) nth found.name.now refl found.ensures.lookup.3.0 (found.ensures.lookup.3.1 found.name.now) in
-    let few = subst (λ (its : Option Limits). IfSome its (λ (one : Limits). c.clients.result ≤ one.clients)) limited c.clients.ensures.few in
-    let is : IsClientRow found.name.now found.limits.now row = record { tenant = c.text_of.ensures; limit = c.from.ensures; few = few } in
+    let few = subst (λ (its : Option Limits). IfSome its (λ (one : Limits). c.clients-used.result ≤ one.clients)) limited c.clients-used.ensures.few in
+    let made = c.client_row.ensures in
+    let is : IsClientRow found.name.now found.limits.now row = record { tenant = made.0; limit = made.2; few = rw made.1 few } in
     let here = c.loop-tenant.invariant.so_far in
     let within : nth < length all = slice_get_within all nth found.limits.now limited in
     record {

@@ -1,0 +1,107 @@
+//! How many sessions and operations each tenant had.
+ghost use Rattle.std.specs.Prelude.{◌≡◌};
+ghost use Rattle.server_sessions.specs.TenantCounting.{counted_of_tenant, place_of};
+
+use plain_store::Answer;
+use std::alloc::{AllocError, Global};
+use std::sync::atomic::{AtomicU64, Ordering};
+
+/// Tenants that are counted, as many as a store may have.
+const MOST_TENANTS: usize = 64;
+
+/// What is counted of a tenant.
+#[derive(Clone, Copy, Debug, PartialEq, Eq)]
+pub enum TenantCount {
+    /// Sessions that were opened.
+    Opened,
+    /// Sessions that have ended.
+    Closed,
+    /// Lines `put` that were answered `done`.
+    Puts,
+    /// Lines `get` that were answered `read`.
+    Gets,
+    /// Lines `find` that were answered `list`.
+    Finds,
+    /// Lines that were answered `refused` or `ended`, while there was a seat.
+    Refusals,
+    /// Lines that were answered `restart`.
+    Restarts,
+}
+
+/// How many lines of a tenant's sessions were answered by what.
+#[derive(Clone, Copy)]
+pub struct ServedCounts {
+    pub tenant: u32,
+    pub puts: u64,
+    pub gets: u64,
+    pub finds: u64,
+    pub refusals: u64,
+    pub restarts: u64,
+}
+
+/// What was counted of each tenant of a server. Any thread may count and read.
+#[derive(Drop)]
+pub(crate) struct TenantCounts {
+    counts: Vec<AtomicU64>,
+}
+
+impl TenantCounts {
+    /// The kinds of counts.
+    const KINDS: usize = 7;
+
+    /// Nothing was counted yet. The one error is that an allocation failed.
+    pub(crate) fn new(alloc: Global) -> Result<TenantCounts, AllocError> {
+        let most = MOST_TENANTS * TenantCounts::KINDS;
+        let mut counts = Vec::with_capacity(alloc, most)?;
+        for _place in 0..most {
+            counts.push(AtomicU64::new(0))?;
+        }
+        Ok(TenantCounts { counts })
+    }
+
+    /// How often this was counted of a tenant.
+    pub(crate) fn of(&self, tenant: u32, what: TenantCount) -> u64 {
+        match self.counts.get(place_of(tenant, what)) {
+            Some(count) => count.load(Ordering::SeqCst),
+            None => 0,
+        }
+    }
+
+    /// Counts one.
+    pub(crate) fn count(&self, tenant: u32, what: TenantCount) {
+        if let Some(count) = self.counts.get(place_of(tenant, what)) {
+            count.fetch_add(1, Ordering::SeqCst);
+        }
+    }
+}
+
+// Where this is counted of a tenant. No two have one place.
+fn place_of(tenant: u32, what: TenantCount) -> usize
+    ensures { result ≡ place_of tenant what }
+{
+    let nth = match what {
+        TenantCount::Opened => 0,
+        TenantCount::Closed => 1,
+        TenantCount::Puts => 2,
+        TenantCount::Gets => 3,
+        TenantCount::Finds => 4,
+        TenantCount::Refusals => 5,
+        TenantCount::Restarts => 6,
+    };
+    tenant as usize * TenantCounts::KINDS + nth
+}
+
+/// What an answer counts as for its tenant, if it does.
+pub(crate) fn counted_of_tenant(answer: &Answer) -> Option<TenantCount>
+    ensures { result ≡ counted_of_tenant answer.now }
+{
+    match answer {
+        Answer::Ready(_) => Some(TenantCount::Opened),
+        Answer::Done(_) => Some(TenantCount::Puts),
+        Answer::Read(_) => Some(TenantCount::Gets),
+        Answer::Listed(_) => Some(TenantCount::Finds),
+        Answer::Refused(_) | Answer::Ended(..) => Some(TenantCount::Refusals),
+        Answer::Restart(..) => Some(TenantCount::Restarts),
+        _ => None,
+    }
+}
