@@ -10,6 +10,7 @@ import zipfile
 
 HERE = pathlib.Path(__file__).resolve().parent
 PACKAGE = "ramp_client"
+SCRIPT = "ramp-cli = ramp_client.cli:main"
 
 
 def _told():
@@ -38,6 +39,7 @@ def build_wheel(wheel_directory, config_settings=None, metadata_directory=None):
     notes = f"{base}.dist-info"
     contents = {f"{PACKAGE}/{path.name}": path.read_bytes() for path in _files()}
     contents[f"{notes}/METADATA"] = _metadata(told).encode()
+    contents[f"{notes}/entry_points.txt"] = f"[console_scripts]\n{SCRIPT}\n".encode()
     contents[f"{notes}/WHEEL"] = b"Wheel-Version: 1.0\nGenerator: ramp-client\nRoot-Is-Purelib: true\nTag: py3-none-any\n"
     lines = [f"{name},sha256={base64.urlsafe_b64encode(hashlib.sha256(data).digest()).rstrip(b'=').decode()},{len(data)}\n" for name, data in contents.items()]
     contents[f"{notes}/RECORD"] = "".join([*lines, f"{notes}/RECORD,,\n"]).encode()

@@ -1,10 +1,9 @@
 """Values over 128 bytes, and any text or bytes.
 
-A value has at most 128 bytes from ! to ~. `codec` encodes other text and bytes as values. It stores a record of up to 2,046 encoded bytes
-under several keys, `note.0`, `note.1`, .., which one transaction writes: so it is read whole or not at all.
+A value has at most 128 bytes from ! to ~. `put_json`, `put_text` and `put_bytes` write what has more: under several keys, `note.0`, `note.1`, .., which one
+transaction writes. So it is read whole or not at all. `codec` encodes short text and bytes as one value.
 
 Server: ramp serve --stay --epoch 1000 --sessions 8 t"""
-import json
 import sys
 import threading
 import time
@@ -16,12 +15,11 @@ SECONDS = 0.5
 
 
 def write(client, document):
-    client.put(codec.encode_record("note", json.dumps(document)))
+    client.put_json({"note": document})
 
 
 def read(client):
-    text = codec.decode_record("note", client.get(*codec.record_keys("note")))
-    return json.loads(text) if text is not None else None
+    return client.get_json("note")["note"]
 
 
 def write_often(pool):
@@ -36,19 +34,19 @@ def main(url):
     with ramp_client.Pool(url, size=2) as pool:
         pool.put({"title": codec.encode_text("Two words, 100 %")})
         print(codec.decode_text(pool.get("title")["title"].value))
-        pool.put({"key": codec.encode_bytes(bytes(range(102)))})
-        assert codec.decode_bytes(pool.get("key")["key"].value) == bytes(range(102))
+        pool.put({"digest": codec.encode_bytes(bytes(range(102)))})
+        assert codec.decode_bytes(pool.get("digest")["digest"].value) == bytes(range(102))
+        write(pool, {"version": 0, "lines": []})
 
         writer = threading.Thread(target=write_often, args=(pool,))
         writer.start()
         reads = last = 0
         while writer.is_alive():
             note = read(pool)
-            if note is not None:
-                version, lines = note["version"], note["lines"]
-                assert version >= last and lines == [f"line {version}: {'é' * 20}"] * (version % 12)
-                last = version
-                reads += 1
+            version, lines = note["version"], note["lines"]
+            assert version >= last and lines == [f"line {version}: {'é' * 20}"] * (version % 12)
+            last = version
+            reads += 1
         writer.join()
         print(f"{read(pool)['version'] + 1} writes of a record, {reads} reads, each of a whole one")
 

@@ -33,7 +33,6 @@ def main(url):
             assert running.returncode == 0
             numbers.update(said.split())
     print(f"{PROGRAMS * SESSIONS} sessions of {PROGRAMS} programs had {len(numbers)} different numbers")
-    assert len(numbers) <= 12
 
     # More sessions at a time than numbers are refused, with what would help.
     clients = []
@@ -42,7 +41,7 @@ def main(url):
             clients.append(ramp_client.connect(url, retry=ramp_client.Retry(attempts=1)))
     except ramp_client.NoRoom as refused:
         print(f"after {len(clients)} sessions at a time:", refused)
-    assert len(clients) == 12
+    assert len(numbers) <= len(clients)
     for client in clients:
         client.close()
 

@@ -42,13 +42,14 @@ class Counter:
 
 def main(url):
     with ramp_client.connect(url) as client:
-        counter = Counter(client, "sold")
+        before = int(client.get("visits")["visits"].value or "0")
+        counter = Counter(client, "visits")
         threads = [threading.Thread(target=lambda: [counter.add(1) for _ in range(EACH)]) for _ in range(THREADS)]
         for thread in threads:
             thread.start()
         for thread in threads:
             thread.join()
-        total = int(client.get("sold")["sold"].value)
+        total = int(client.get("visits")["visits"].value) - before
         print(f"one writer: {THREADS * EACH - total} lost of {THREADS * EACH}")
         assert total == THREADS * EACH
 

@@ -13,16 +13,19 @@ THREADS, EACH = 2, 100
 
 
 def count_in_own(url, n):
+    key = f"tickets/{n}"
     with ramp_client.connect(url) as client:
-        for total in range(1, EACH + 1):
-            client.put({f"sold/{n}": str(total)}, blind=True)  # nobody else writes it
+        total = int(client.get(key)[key].value or "0")  # a new session goes on from the last one, whatever its number was
+        for _ in range(EACH):
+            total += 1
+            client.put({key: str(total)}, blind=True)  # nobody else writes it
 
 
 def count_in_one(url, _):
     """Wrong: another client may write between the read and the write."""
     with ramp_client.connect(url) as client:
         for _ in range(EACH):
-            client.put({"sold": str(int(client.get("sold")["sold"].value or "0") + 1)})
+            client.put({"tickets": str(int(client.get("tickets")["tickets"].value or "0") + 1)})
 
 
 def in_threads(count, url):
@@ -33,12 +36,19 @@ def in_threads(count, url):
         thread.join()
 
 
+def totals(url):
+    """The sum of the items of the clients, and the one item for both."""
+    with ramp_client.connect(url) as client:
+        *own, one = (int(item.value or "0") for item in client.get(*(f"tickets/{n}" for n in range(THREADS)), "tickets").values())
+    return sum(own), one
+
+
 def main(url):
+    own_before, one_before = totals(url)
     in_threads(count_in_own, url)
     in_threads(count_in_one, url)
-    with ramp_client.connect(url) as client:
-        own = sum(int(item.value) for item in client.get(*(f"sold/{n}" for n in range(THREADS))).values())
-        one = int(client.get("sold")["sold"].value)
+    own, one = totals(url)
+    own, one = own - own_before, one - one_before
     print(f"an item each: {THREADS * EACH - own} lost of {THREADS * EACH}")
     print(f"one item for both: {THREADS * EACH - one} lost of {THREADS * EACH}")
     assert own == THREADS * EACH

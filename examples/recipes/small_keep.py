@@ -2,57 +2,55 @@
 
 A collection keeps the `keep` latest versions of each item. A read that needs an older version is answered `restart`, and the client repeats
 it by itself. No wrong answer is returned. A greater `keep` makes restarts rarer, and needs more room: slots for keep + 1 versions of each
-item. The server here collects after every call, which is far more often than by default.
+item. Here 3 programs write the same 16 keys without a pause, and the server collects after every call, which is far more often than by
+default. So with keep 1 some versions are gone before a read asks for them.
 
-Server: ramp serve --stay --epoch 1000 --sessions 16 --every 1 t"""
+Server: ramp serve --stay --epoch 1000 --sessions 16 --parts 8 --every 1 t"""
+import subprocess
 import sys
-import threading
 import time
 
 import ramp_client
 
-KEYS = [f"k{n}" for n in range(8)]
-SECONDS, LEAST = 0.3, 10
+KEYS = [f"kept/{n}" for n in range(16)]
+SECONDS, DEPTH, WRITERS = 1, 16, 3
 
 
-def write(pool, stop):
-    n = 0
-    while not stop.is_set():
-        n += 1
-        pool.put({key: str(n) for key in KEYS})
+def write(url):
+    """What each of the programs does: it sends puts in pipelines."""
+    with ramp_client.connect(url) as client:
+        begun = time.monotonic()
+        while time.monotonic() - begun < SECONDS:
+            with client.pipeline() as pipeline:
+                for n in range(DEPTH):
+                    pipeline.put({key: str(n) for key in KEYS})
 
 
-def read(url):
-    """How many reads were answered `restart`, and how many reads there were. This client does not repeat them, so that they can be counted."""
-    reads = restarts = 0
-    begun = time.monotonic()
-    with ramp_client.connect(url, retry=ramp_client.Retry(restarts=0)) as client:
-        while time.monotonic() - begun < SECONDS or reads < LEAST:
-            reads += 1
-            try:
-                items = client.get(*KEYS)
-                assert len({item.stamp for item in items.values()}) == 1
-            except ramp_client.Restarted:
-                restarts += 1
-    return restarts, reads
+def read(client):
+    """How many reads of a pipeline were answered `restart`. This client does not repeat them, so that they can be counted."""
+    with client.pipeline() as pipeline:
+        pending = [pipeline.get(*KEYS) for _ in range(DEPTH)]
+    restarts = 0
+    for it in pending:
+        try:
+            assert len({item.stamp for item in it.result().values()}) == 1
+        except ramp_client.Restarted:
+            restarts += 1
+    return restarts
 
 
 def main(url):
-    with ramp_client.Pool(url, size=4) as pool:
-        pool.put({key: "0" for key in KEYS})
+    with ramp_client.connect(url, retry=ramp_client.Retry(restarts=0)) as client:
         for keep in (1, 2, 8):
-            pool.keep(keep)
-            stop = threading.Event()
-            writers = [threading.Thread(target=write, args=(pool, stop)) for _ in range(3)]
-            for writer in writers:
-                writer.start()
-            restarts, reads = read(url)
-            assert len({item.stamp for item in pool.get(*KEYS).values()}) == 1
-            stop.set()
-            for writer in writers:
-                writer.join()
+            client.keep(keep)
+            writers = [subprocess.Popen([sys.executable, __file__, url, "write"]) for _ in range(WRITERS)]
+            restarts = reads = 0
+            while reads == 0 or any(writer.poll() is None for writer in writers):
+                restarts, reads = restarts + read(client), reads + DEPTH
+            assert all(writer.wait() == 0 for writer in writers)
             print(f"keep {keep}: {restarts} of {reads} reads were answered `restart`, all others were whole")
+        client.keep(2)  # as the server had it
 
 
 if __name__ == "__main__":
-    main(sys.argv[1])
+    write(sys.argv[1]) if len(sys.argv) > 2 else main(sys.argv[1])

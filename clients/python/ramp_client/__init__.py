@@ -7,8 +7,8 @@
         items = client.get("stock", "sold")                    # all of a write, or none of it
         print(items["stock"].value, list(client.find("shop")))
 
-`Pool` is for threads, `AsyncClient` and `AsyncPool` are for asyncio, `codec` writes other text and bytes as values. `python3 -m ramp_client
-ramp://127.0.0.1:7000/t` is a prompt."""
+`put_text`, `put_json` and `put_bytes` write what a value can't hold: spaces, other letters, and more than 128 bytes. `Pool` is for threads, `AsyncClient` and
+`AsyncPool` are for asyncio. `codec` has the encodings. `ramp-cli`, or `python3 -m ramp_client`, is a prompt."""
 from . import codec
 from .aio import AsyncCalls, AsyncClient, AsyncPipeline, AsyncPool
 from .client import Calls, Client, Pending, Pipeline, Pool, connect
@@ -17,7 +17,7 @@ from .errors import (REFUSALS, CannotConnect, Closed, ConnectionLost, FalseAnswe
 from .lines import Item
 from .policy import Options, Retry, read_url
 
-__version__ = "0.2.0"
+__version__ = "0.3.0"
 
 __all__ = [
     "REFUSALS", "AsyncCalls", "AsyncClient", "AsyncPipeline", "AsyncPool", "Calls", "CannotConnect", "Client", "Closed", "ConnectionLost", "FalseAnswer", "InUse", "Invalid", "Item", "Lost",

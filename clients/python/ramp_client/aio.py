@@ -7,9 +7,9 @@ from collections import deque
 from contextlib import asynccontextmanager
 from typing import Any, AsyncIterator, Deque, Generic, Mapping, Optional, Sequence, TypeVar
 
-from . import lines
+from . import contents, lines
 from .async_wire import AsyncWire
-from .client import Batch
+from .client import Batch, check_pool, described
 from .errors import Closed, InUse, Invalid, WrongUse
 from .lines import Call, Item
 from .policy import CLIENT, TIMEOUT, Retry, read_url
@@ -88,13 +88,47 @@ class AsyncCalls(ABC):
         """As `Calls.keep`."""
         return await self._one(lines.keep(versions))  # type: ignore[no-any-return]
 
+    async def put_text(self, texts: Mapping[str, str], tag: str = "", tags: Optional[Mapping[str, str]] = None, blind: bool = False) -> str:
+        """As `Calls.put_text`."""
+        return await self._one(contents.put(contents.TEXT, texts, tag, tags, not blind))  # type: ignore[no-any-return]
+
+    async def get_text(self, *names: str) -> dict[str, Optional[str]]:
+        """As `Calls.get_text`."""
+        return await self._contents(contents.TEXT, names)
+
+    async def put_json(self, documents: Mapping[str, Any], tag: str = "", tags: Optional[Mapping[str, str]] = None, blind: bool = False) -> str:
+        """As `Calls.put_json`."""
+        return await self._one(contents.put(contents.JSON, documents, tag, tags, not blind))  # type: ignore[no-any-return]
+
+    async def get_json(self, *names: str) -> dict[str, Any]:
+        """As `Calls.get_json`."""
+        return await self._contents(contents.JSON, names)
+
+    async def put_bytes(self, data: Mapping[str, bytes], tag: str = "", tags: Optional[Mapping[str, str]] = None, blind: bool = False) -> str:
+        """As `Calls.put_bytes`."""
+        return await self._one(contents.put(contents.BYTES, data, tag, tags, not blind))  # type: ignore[no-any-return]
+
+    async def get_bytes(self, *names: str) -> dict[str, Optional[bytes]]:
+        """As `Calls.get_bytes`."""
+        return await self._contents(contents.BYTES, names)
+
     def pipeline(self) -> AsyncPipeline:
-        """Calls that are sent together: `async with client.pipeline() as p: done, read = p.put({"x": "1"}), p.get("x")`."""
+        """Calls that are sent together, when the block ends: `async with client.pipeline() as p: done, read = p.put({"x": "1"}), p.get("x")`. The calls
+        themselves are not awaited. Behind the block `read.result()` is what the get returns, or raises its error. See `Pipeline`."""
         return AsyncPipeline(self)
 
     async def _one(self, call: Call) -> Any:
         await self._run([call])
         return call.result()
+
+    async def _contents(self, kind: contents.Kind, names: Sequence[str]) -> dict[str, Any]:
+        steps = contents.get(kind, names)
+        try:
+            keys = next(steps)
+            while True:
+                keys = steps.send(await self.get(*keys))
+        except StopIteration as end:
+            return end.value  # type: ignore[no-any-return]
 
     @abstractmethod
     async def _run(self, calls: Sequence[Call]) -> None:
@@ -102,7 +136,7 @@ class AsyncCalls(ABC):
 
 
 class AsyncPipeline(Batch):
-    """As `Pipeline`, with `async with`."""
+    """As `Pipeline`, with `async with`. Its calls are not awaited: each returns its `Pending` at once."""
 
     def __init__(self, runner: AsyncCalls):
         super().__init__()
@@ -132,10 +166,29 @@ class AsyncClient(AsyncCalls):
         self._loop: Optional[asyncio.AbstractEventLoop] = None
         self._is_closed = False
 
+    def __repr__(self) -> str:
+        return described(self)
+
     @property
     def number(self) -> int:
         """The number of its client; 0 where no session is open."""
         return self._session.number
+
+    @property
+    def counter(self) -> int:
+        """The greatest counter that this client wrote or read; the next stamp is above it."""
+        return self._session.counter
+
+    @property
+    def opened(self) -> int:
+        """How many connections it has opened: more than 1 where it connected again."""
+        return self._session.opened
+
+    @property
+    def new_stores(self) -> int:
+        """How often it connected again and found its counter below what it had been: then the server was started anew, and what was written before
+        is gone. Each time is logged as a WARNING, too. A client that has written and read nothing can't notice it, nor one that got another number."""
+        return self._session.new_stores
 
     async def open(self) -> None:
         """Connects now, if it has not. It raises what a call would raise."""
@@ -206,14 +259,22 @@ class AsyncPool(AsyncCalls):
     served, at most `wait` seconds. See `Pool`."""
 
     def __init__(self, url: str, *, size: int = 16, wait: Optional[float] = 30.0, timeout: Optional[float] = TIMEOUT, newest: str = CLIENT, retry: Optional[Retry] = None):
-        if not isinstance(size, int) or size < 1:
-            raise Invalid(f"a pool has at least 1 client, and not {size!r}", "size")
+        check_pool(size, wait)
         self.size, self.wait = size, wait
         clients = [AsyncClient(url, timeout=timeout, newest=newest, retry=retry) for _ in range(size)]
         if clients[0].options.client is not None:
             raise Invalid("the clients of a pool draw their numbers: name none in its URL", "client")
-        self._shared = _Shared(clients)
+        self._clients = clients
+        self._shared = _Shared(list(clients))
         self._is_closed = False
+
+    def __repr__(self) -> str:
+        return f"<ramp_client.AsyncPool {self._clients[0].options.url}, {'closed' if self._is_closed else f'of {self.size} clients'}>"
+
+    @property
+    def new_stores(self) -> int:
+        """As `Pool.new_stores`."""
+        return sum(client.new_stores for client in self._clients)
 
     @asynccontextmanager
     async def client(self) -> AsyncIterator[AsyncClient]:

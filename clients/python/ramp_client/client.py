@@ -8,10 +8,10 @@ from abc import ABC, abstractmethod
 from contextlib import contextmanager
 from typing import Any, Callable, Generic, Iterator, Mapping, Optional, Sequence, TypeVar
 
-from . import lines
+from . import contents, lines
 from .errors import Closed, InUse, Invalid, WrongUse
 from .lines import Call, Item
-from .policy import CLIENT, TIMEOUT, Retry, read_url
+from .policy import CLIENT, TIMEOUT, Retry, check_seconds, read_url
 from .session import Connect, Exchange, Pause, Session, Steps
 from .wire import Wire
 
@@ -31,24 +31,37 @@ class Pending(Generic[T]):
         told: T = self._call.result()
         return told
 
+    def __repr__(self) -> str:
+        state = "not answered yet" if not self._call.is_settled else "answered" if self._call.error is None else type(self._call.error).__name__
+        return f"<ramp_client.{type(self).__name__}: {state}>"
+
 
 class Batch:
-    """Calls that are collected, to be sent together."""
+    """Calls that are collected, to be sent together. Each raises `Invalid` at once where it is wrong by itself; its answer, or its error, comes from `result()`
+    of what it returns, once the pipeline has ended."""
 
     def __init__(self) -> None:
         self._calls: list[Call] = []
 
     def put(self, items: Mapping[str, str], tag: str = "", tags: Optional[Mapping[str, str]] = None, blind: bool = False) -> Pending[str]:
+        """As `Calls.put`: the result is the stamp. Keys that the pipeline has read or written before are not read again, so no other client may write
+        them meanwhile. Where the connection is lost the result raises `OutcomeUnknown` for each put that was sent and not answered."""
         return Pending(self._add(lines.put(items, tag, tags, not blind)))
 
     def get(self, *keys: str) -> Pending[dict[str, Item]]:
+        """As `Calls.get`: the result has the items. It sees the puts before it in the pipeline."""
         return Pending(self._add(lines.get(keys)))
 
     def find(self, tag: str) -> Pending[dict[str, Item]]:
+        """As `Calls.find`: the result has the items that carry the tag, at most 16."""
         return Pending(self._add(lines.find(tag)))
 
     def keep(self, versions: int) -> Pending[int]:
+        """As `Calls.keep`: the result is the number."""
         return Pending(self._add(lines.keep(versions)))
+
+    def __repr__(self) -> str:
+        return f"<ramp_client.{type(self).__name__} of {len(self._calls)} calls>"
 
     def _add(self, call: Call) -> Call:
         self._calls.append(call)
@@ -85,13 +98,51 @@ class Calls(ABC):
         """From now on collections keep so many committed versions of an item, 1 to 255, of this tenant."""
         return self._one(lines.keep(versions))  # type: ignore[no-any-return]
 
+    def put_text(self, texts: Mapping[str, str], tag: str = "", tags: Optional[Mapping[str, str]] = None, blind: bool = False) -> str:
+        """Writes texts of any letters, with spaces, each under its name, as `put` writes items: `put_text({"note": "two words"})`.
+
+        A text stands under `note.0`, and, where it is longer than 126 bytes, `note.1` and so on to `note.f`: 16 keys of all texts together, and 2,046
+        bytes at most. A tag stands at the first of them. It is the form of `codec.encode_record`. `Invalid` where a text is too long."""
+        return self._one(contents.put(contents.TEXT, texts, tag, tags, not blind))  # type: ignore[no-any-return]
+
+    def get_text(self, *names: str) -> dict[str, Optional[str]]:
+        """Reads what `put_text` wrote under these names: of each write all of it or none. None where nothing was written. It takes one get, or two where
+        a text has several keys. `Invalid` where something else than a text stands there, `NotWhole` where something wrote one of its keys alone."""
+        return self._contents(contents.TEXT, names)
+
+    def put_json(self, documents: Mapping[str, Any], tag: str = "", tags: Optional[Mapping[str, str]] = None, blind: bool = False) -> str:
+        """Writes what JSON has, as `put_text` writes texts: `put_json({"doc": {"title": "Bikes", "pages": [1, 2]}})`."""
+        return self._one(contents.put(contents.JSON, documents, tag, tags, not blind))  # type: ignore[no-any-return]
+
+    def get_json(self, *names: str) -> dict[str, Any]:
+        """Reads what `put_json` wrote under these names, as `get_text`. None where nothing was written, and of a JSON null."""
+        return self._contents(contents.JSON, names)
+
+    def put_bytes(self, data: Mapping[str, bytes], tag: str = "", tags: Optional[Mapping[str, str]] = None, blind: bool = False) -> str:
+        """Writes bytes of any kind, as `put_text` writes texts: at most 1,636 of them."""
+        return self._one(contents.put(contents.BYTES, data, tag, tags, not blind))  # type: ignore[no-any-return]
+
+    def get_bytes(self, *names: str) -> dict[str, Optional[bytes]]:
+        """Reads what `put_bytes` wrote under these names, as `get_text`."""
+        return self._contents(contents.BYTES, names)
+
     def pipeline(self) -> Pipeline:
-        """Calls that are sent together: `with client.pipeline() as p: done, read = p.put({"x": "1"}), p.get("x")`."""
+        """Calls that are sent together, when the block ends: `with client.pipeline() as p: done, read = p.put({"x": "1"}), p.get("x")`. Behind it
+        `read.result()` is what the get returns, or raises its error. See `Pipeline`."""
         return Pipeline(self)
 
     def _one(self, call: Call) -> Any:
         self._run([call])
         return call.result()
+
+    def _contents(self, kind: contents.Kind, names: Sequence[str]) -> dict[str, Any]:
+        steps = contents.get(kind, names)
+        try:
+            keys = next(steps)
+            while True:
+                keys = steps.send(self.get(*keys))
+        except StopIteration as end:
+            return end.value  # type: ignore[no-any-return]
 
     @abstractmethod
     def _run(self, calls: Sequence[Call]) -> None:
@@ -128,6 +179,9 @@ class Client(Calls):
         self._begin()
         self._is_closed = False
 
+    def __repr__(self) -> str:
+        return described(self)
+
     def _begin(self) -> None:
         self._lock = threading.Lock()
         self._process = os.getpid()
@@ -138,6 +192,22 @@ class Client(Calls):
     def number(self) -> int:
         """The number of its client; 0 where no session is open."""
         return self._session.number
+
+    @property
+    def counter(self) -> int:
+        """The greatest counter that this client wrote or read; the next stamp is above it."""
+        return self._session.counter
+
+    @property
+    def opened(self) -> int:
+        """How many connections it has opened: more than 1 where it connected again."""
+        return self._session.opened
+
+    @property
+    def new_stores(self) -> int:
+        """How often it connected again and found its counter below what it had been: then the server was started anew, and what was written before
+        is gone. Each time is logged as a WARNING, too. A client that has written and read nothing can't notice it, nor one that got another number."""
+        return self._session.new_stores
 
     def open(self) -> None:
         """Connects now, if it has not. It raises what a call would raise."""
@@ -203,6 +273,19 @@ class Client(Calls):
         self.close()
 
 
+def described(client: Any) -> str:
+    """A client of either kind, for `repr`: the address and the client number alone."""
+    state = "closed" if client._is_closed else f"client {client.number}" if client.number else "not connected"
+    return f"<ramp_client.{type(client).__name__} {client.options.url}, {state}>"
+
+
+def check_pool(size: Any, wait: Any) -> None:
+    """Checks what a pool of either kind is given."""
+    if not isinstance(size, int) or isinstance(size, bool) or size < 1:
+        raise Invalid(f"a pool has at least 1 client, as in size=8, and not {size!r}", "size")
+    check_seconds("wait", wait, may_be_zero=True)
+
+
 class Pool(Calls):
     """At most `size` sessions, for any number of threads. A call takes one that is free, or waits for one, `wait` seconds at most.
 
@@ -210,8 +293,7 @@ class Pool(Calls):
     as many. Open a pool in each process, after a fork and not before it."""
 
     def __init__(self, url: str, *, size: int = 16, wait: Optional[float] = 30.0, timeout: Optional[float] = TIMEOUT, newest: str = CLIENT, retry: Optional[Retry] = None):
-        if not isinstance(size, int) or size < 1:
-            raise Invalid(f"a pool has at least 1 client, and not {size!r}", "size")
+        check_pool(size, wait)
         self.size, self.wait = size, wait
         self._process = os.getpid()
         self._clients = [Client(url, timeout=timeout, newest=newest, retry=retry) for _ in range(size)]
@@ -220,6 +302,14 @@ class Pool(Calls):
         self._free = list(self._clients)
         self._changed = threading.Condition()
         self._is_closed = False
+
+    def __repr__(self) -> str:
+        return f"<ramp_client.Pool {self._clients[0].options.url}, {'closed' if self._is_closed else f'of {self.size} clients'}>"
+
+    @property
+    def new_stores(self) -> int:
+        """How often its clients noticed that the store was a new one, as `Client.new_stores`: each of them does so by itself, when it connects again."""
+        return sum(client.new_stores for client in self._clients)
 
     @contextmanager
     def client(self) -> Iterator[Client]:

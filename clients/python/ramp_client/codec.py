@@ -43,6 +43,8 @@ def decode_text(value: str) -> str:
 
 def encode_bytes(data: bytes) -> str:
     """The bytes, at most 102, as a value."""
+    if not isinstance(data, (bytes, bytearray, memoryview)):
+        raise Invalid(f"bytes: {data!r} is of type {type(data).__name__}: encode_bytes takes bytes, encode_text a str", "bytes")
     return _fitting(base64.b85encode(data).decode(), "bytes")
 
 
@@ -53,7 +55,7 @@ def decode_bytes(value: str) -> bytes:
 
 def record_keys(key: str, parts: int = MOST_PARTS) -> list[str]:
     """The keys under which a record of this name stands: `key.0`, `key.1`, .. Who knows that it is short reads fewer of them."""
-    if not 1 <= parts <= MOST_PARTS:
+    if not isinstance(parts, int) or not 1 <= parts <= MOST_PARTS:
         raise Invalid(f"a record has 1 to {MOST_PARTS} keys, and not {parts!r}", "record", key)
     return [check("key", f"{key}.{digit}", key) for digit in _DIGITS[:parts]]
 
@@ -67,8 +69,10 @@ def encode_record(key: str, content: Union[str, bytes]) -> dict[str, str]:
         form, signs = "t", _text_signs(content)
         if len(signs) > len(content) and len(dense := base64.b85encode(content.encode()).decode()) < len(signs):
             form, signs = "u", dense
-    else:
+    elif isinstance(content, (bytes, bytearray, memoryview)):
         form, signs = "b", base64.b85encode(content).decode()
+    else:
+        raise Invalid(f"record of {key!r}: its content is of type {type(content).__name__}: a record has a str or bytes; put_json takes more", "record", key)
     if len(signs) > RECORD_LIMIT:
         raise Invalid(f"record of {key!r}: {len(signs)} signs, and at most {RECORD_LIMIT}: that is as many letters, or 1636 bytes of any kind", "record", key, length=len(signs))
     parts = (len(signs) + 1) // VALUE_LIMIT + 1
@@ -80,6 +84,8 @@ def decode_record(key: str, items: Mapping[str, Item]) -> Union[str, bytes, None
     """The content of a record, of what a `get` of its keys gave; None where it was never written.
 
     `NotWhole` if its keys were not written by one write: then something else writes one of them. Keys after its last are ignored."""
+    if not isinstance(items, Mapping):
+        raise Invalid(f"record of {key!r}: decode_record takes what a get of its keys returned, and not a {type(items).__name__}", "record", key)
     first = items.get(f"{key}.0")
     if first is None:
         raise Invalid(f"record of {key!r}: the key '{key}.0' was not read", "record", key)
@@ -90,6 +96,11 @@ def decode_record(key: str, items: Mapping[str, Item]) -> Union[str, bytes, None
         raise Invalid(f"record of {key!r}: {first.value[:8]!r} is no beginning of a record", "record", key)
     signs = first.value[2:] + "".join(_part(key, items, own, first.stamp) for own in record_keys(key, _DIGITS.index(digit) + 1)[1:])
     return _text_of(signs) if form == "t" else _decoded(_bytes_of(signs)) if form == "u" else _bytes_of(signs)
+
+
+def parts_of(first: Item) -> int:
+    """How many keys the record has that begins with this item; 1 where it begins none."""
+    return max(_DIGITS.find((first.value or "0")[:1]), 0) + 1
 
 
 def _part(key: str, items: Mapping[str, Item], own: str, stamp: str) -> str:
@@ -108,6 +119,8 @@ def _fitting(signs: str, kind: str) -> str:
 
 
 def _text_signs(text: str) -> str:
+    if not isinstance(text, str):
+        raise Invalid(f"text: {text!r} is of type {type(text).__name__}: encode_text takes a str, encode_bytes bytes", "text")
     try:
         return urllib.parse.quote_plus(text, safe=_SIGNS)
     except UnicodeEncodeError as error:

@@ -20,7 +20,7 @@ def _kind(kind: str, sign: str, words: str) -> tuple[int, int, str, str]:
 KINDS = {
     "key": _kind("key", r"[a-z0-9_./-]", "of a-z 0-9 _ . / -"),
     "tag": _kind("tag", r"[a-z0-9_./-]", "of a-z 0-9 _ . / -"),
-    "value": _kind("value", r"[!-~]", "from ! to ~; ramp_client.codec writes other text, and bytes"),
+    "value": _kind("value", r"[!-~]", "from ! to ~; put_text, put_json and put_bytes write others"),
     "tenant": _kind("tenant", r"[a-z0-9_]", "of a-z 0-9 _"),
 }
 """Of each kind of word: its least and most bytes, those that may stand in it, and this in words."""
@@ -72,9 +72,17 @@ def check(kind: str, text: Any, key: Optional[str] = None) -> str:
     return text
 
 
+def _brief(thing: Any) -> str:
+    """What was given instead, in few signs."""
+    text = repr(thing)
+    return f"the {type(thing).__name__} {text if len(text) <= 60 else text[:57] + '...'}"
+
+
 def _count(keys: Sequence[str]) -> None:
     if not 1 <= len(keys) <= MOST_ITEMS or len(set(keys)) < len(keys):
-        raise Invalid(f"{len(keys)} keys, {len(set(keys))} of them different: give 1 to {MOST_ITEMS} different keys", "keys", length=len(keys))
+        twice = next((key for place, key in enumerate(keys) if key in keys[:place]), None)
+        named = f"; {twice!r} stands twice" if twice is not None else ""
+        raise Invalid(f"{len(keys)} keys, {len(set(keys))} of them different: give 1 to {MOST_ITEMS} different keys{named}", "keys", twice, length=len(keys))
 
 
 class Call:
@@ -199,10 +207,19 @@ def _gone(call: Call, rest: str) -> None:
         raise call.false(f"bye {rest}")
 
 
+def check_put(call: str, items: Any, tags: Any) -> None:
+    """Checks that a write has a mapping of keys, and one of tags to some of them."""
+    if not isinstance(items, Mapping):
+        raise Invalid(f"{call} takes a dict, as in {call}({{'x': '1', 'y': '2'}}), and not {_brief(items)}", "items")
+    if tags is not None and not isinstance(tags, Mapping):
+        raise Invalid(f"tags is a dict of keys and their tags, as in tags={{'x': 'red'}}, and not {_brief(tags)}", "tag")
+    if tags and (strangers := set(tags) - set(items)):
+        raise Invalid(f"tags of what is not written: {', '.join(sorted(map(repr, strangers)))}", "tag")
+
+
 def put(items: Mapping[str, str], tag: str = "", tags: Optional[Mapping[str, str]] = None, reads_first: bool = False) -> Call:
     """A write of these items, each with its own tag of `tags`, or else `tag`."""
-    if tags and (strangers := set(tags) - set(items)):
-        raise Invalid(f"tags of what is not written: {', '.join(map(repr, sorted(strangers)))}", "tag")
+    check_put("put", items, tags)
     keys = list(items)
     _count(keys)
     words = ["put"]
@@ -214,9 +231,16 @@ def put(items: Mapping[str, str], tag: str = "", tags: Optional[Mapping[str, str
     return Call(" ".join(words), keys, "done", (15, 16, 20, 22, 27, 28), _done, True, reads_first)
 
 
-def get(keys: Sequence[str]) -> Call:
+def check_keys(call: str, keys: Sequence[Any]) -> None:
+    """Checks that a read has keys, and not a list of them."""
     for key in keys:
+        if isinstance(key, (list, tuple, set, frozenset)):
+            raise Invalid(f"{call} takes keys one after the other, as in {call}('x', 'y'), and not {_brief(key)}; {call}(*keys) takes those of a list", "key")
         check("key", key)
+
+
+def get(keys: Sequence[str]) -> Call:
+    check_keys("get", keys)
     _count(keys)
     return reading(keys)
 
@@ -231,7 +255,7 @@ def find(tag: str) -> Call:
 
 
 def keep(versions: int) -> Call:
-    if not isinstance(versions, int) or not 1 <= versions <= 255:
+    if not isinstance(versions, int) or isinstance(versions, bool) or not 1 <= versions <= 255:
         raise Invalid(f"keep takes 1 to 255, and not {versions!r}", "keep")
     return Call(f"keep {versions}", [str(versions)], "keep", (), _kept)
 
@@ -255,6 +279,8 @@ class _Raw(Call):
 
 def raw(line: str) -> Call:
     """A line of one's own. It is never sent again, since it may be a write."""
+    if not isinstance(line, str):
+        raise Invalid(f"a line is a str, as in ask('get x'), and not {_brief(line)}", "line")
     data = line.encode()
     if b"\n" in data or len(data) >= LINE_LIMIT - 1:
         raise Invalid(f"a line of {len(data)} bytes: it has at most {LINE_LIMIT - 2}, and no LF", "line", length=len(data))

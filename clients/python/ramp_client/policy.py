@@ -3,9 +3,10 @@ from __future__ import annotations
 
 import math
 import random
+import re
 import urllib.parse
 from dataclasses import dataclass, field
-from typing import Optional
+from typing import Any, Optional
 
 from .errors import CannotConnect, ConnectionLost, Invalid, NoAnswer, RampError, Refused
 from .lines import check
@@ -47,6 +48,12 @@ class Retry:
     restarts: int = 100
 
     def __post_init__(self) -> None:
+        numbers: dict[str, tuple[type, ...]] = {"attempts": (int,), "restarts": (int,), "pause": (int, float), "longest": (int, float)}
+        for name, kinds in numbers.items():
+            if not isinstance(value := getattr(self, name), kinds):
+                raise Invalid(f"{name} of a Retry is a {'number of seconds' if float in kinds else 'whole number'}, and not {value!r}", "retry")
+        if not isinstance(self.refusals, (frozenset, set)) or not all(isinstance(it, int) for it in self.refusals):
+            raise Invalid(f"refusals of a Retry is a set of numbers, as in frozenset((19, 20, 28)), and not {self.refusals!r}", "retry")
         if self.attempts < 1 or self.restarts < 0 or not 0 <= self.pause <= self.longest < math.inf:
             raise Invalid(f"{self!r}: at least 1 attempt, 0 restarts, and pauses of 0 seconds up to the longest", "retry")
 
@@ -59,6 +66,13 @@ class Retry:
         if isinstance(error, Refused):
             return error.number in self.refusals or error.number == 12
         return isinstance(error, (CannotConnect, ConnectionLost)) and not isinstance(error, NoAnswer)
+
+
+def check_seconds(name: str, seconds: Any, may_be_zero: bool = False) -> None:
+    """Checks a time that a program gave; None is one without an end."""
+    if seconds is None or (isinstance(seconds, (int, float)) and 0 <= seconds < math.inf and (seconds or may_be_zero)):
+        return
+    raise Invalid(f"{name} is a number of seconds{'' if may_be_zero else ' above 0'}, as in {name}=5, or None, and not {seconds!r}", name)
 
 
 @dataclass(frozen=True)
@@ -79,14 +93,20 @@ class Options:
             raise Invalid(f"a port is 1 to 65535, and not {self.port!r}", "port")
         if self.client is not None and (not isinstance(self.client, int) or not 1 <= self.client <= 65535):
             raise Invalid(f"a client's number is 1 to 65535, and not {self.client!r}", "client")
-        if self.timeout is not None and not 0 < self.timeout < math.inf:
-            raise Invalid(f"a timeout is a number of seconds above 0, and not {self.timeout!r}", "timeout")
+        check_seconds("timeout", self.timeout)
         if self.newest not in (CLIENT, SERVER):
             raise Invalid(f"newest is {CLIENT} or {SERVER}, and not {self.newest!r}", "newest")
+        if not isinstance(self.retry, Retry):
+            raise Invalid(f"retry takes a Retry, as in retry=Retry(attempts=3), and not {self.retry!r}", "retry")
 
     @property
     def where(self) -> str:
         return f"[{self.host}]:{self.port}" if ":" in self.host else f"{self.host}:{self.port}"
+
+    @property
+    def url(self) -> str:
+        """The address, without the options."""
+        return f"ramp://{self.where}/{self.tenant}"
 
 
 FORM = "ramp://HOST:PORT/TENANT, and behind it ?client=NUMBER&timeout=SECONDS&newest=server as needed"
@@ -96,6 +116,7 @@ def read_url(url: str, client: Optional[int] = None, timeout: Optional[float] = 
     """The options that a URL names, and these where it names none."""
     if not isinstance(url, str):
         raise Invalid(f"{url!r} is no URL: {FORM}", "url")
+    url = re.sub(r"//[^/?#]*@", "//***@", url)  # the part before the @ may be a password
     try:
         parts = urllib.parse.urlsplit(url)
         host, port = parts.hostname, parts.port
@@ -115,4 +136,4 @@ def read_url(url: str, client: Optional[int] = None, timeout: Optional[float] = 
             timeout = float(named["timeout"])
         except ValueError:
             raise Invalid(f"{url!r}: {named['timeout']!r} is no number of seconds", "timeout") from None
-    return Options(host, port, tenant, client, timeout, named.get("newest", newest), retry or Retry())
+    return Options(host, port, tenant, client, timeout, named.get("newest", newest), Retry() if retry is None else retry)

@@ -97,9 +97,9 @@ if hasattr(os, "register_at_fork"):
     os.register_at_fork(after_in_child=NUMBERS.__init__)  # type: ignore[misc]
 
 
-def batches(first: Optional[int]) -> Iterator[list[int]]:
-    """Numbers to say hello with: this one first, then all others in random order, in batches of growing size."""
-    wanted = random.sample(range(1, MOST_NUMBER + 1), MOST_NUMBER)
+def batches(first: Optional[int], is_drawn: bool = True) -> Iterator[list[int]]:
+    """Numbers to say hello with: this one first, then all others in batches of growing size, in random order or from the greatest down."""
+    wanted = random.sample(range(1, MOST_NUMBER + 1), MOST_NUMBER) if is_drawn else list(range(MOST_NUMBER, 0, -1))
     if first:
         wanted = [first, *(number for number in wanted if number != first)]
     begin = 0
@@ -109,17 +109,25 @@ def batches(first: Optional[int]) -> Iterator[list[int]]:
 
 
 class Session:
-    """A client's session, and what it knows of its connection. `number` is 0 where none is open."""
+    """A client's session, and what it knows of its connection. `number` is 0 where none is open. `counter` is the greatest that it wrote or read, or
+    that the server gave it. `opened` counts its connections, and `new_stores` those at which the store was another one than before. Where `draws` is
+    not set, it tries client numbers from the greatest down, so that programs that run one after the other use up few of them."""
 
     def __init__(self, options: Options):
         self.options = options
         self.number = 0
+        self.counter = 0
+        self.opened = 0
+        self.new_stores = 0
+        self.draws = True
         self._last: Optional[int] = options.client
         self._is_connected = False
-        self._counter = 0
+        self._counters: dict[int, int] = {}
 
     def lose(self) -> None:
         """The connection is gone, or is about to be."""
+        if self.number:
+            self._counters[self.number] = self.counter
         if self.number and self.options.client is None:
             self._last = self.number
         self.number = 0
@@ -214,14 +222,14 @@ class Session:
         refused: Optional[Refused] = None
         if self._last is None:
             self._last = NUMBERS.take(options)
-        for batch in [[options.client]] if options.client else batches(self._last):
+        for batch in [[options.client]] if options.client else batches(self._last, self.draws):
             calls = [lines.hello(options.tenant, number) for number in batch]
             answers: list[str] = []
             yield Exchange("".join(call.line + "\n" for call in calls).encode(), len(calls), answers)
             taken = 0
             for number, call, answer in zip(batch, calls, answers):
                 try:
-                    self._counter = call.read(answer)
+                    self.counter = call.read(answer)
                 except Refused as error:
                     if error.number not in (12, 24) or (taken and error.number != 12):
                         raise error if not taken else call.false(answer)
@@ -231,10 +239,21 @@ class Session:
                         raise call.false(answer)
                     taken = number
             if taken:
-                self.number = taken
+                self._begin(taken)
                 return
         assert refused is not None
         raise refused
+
+    def _begin(self, number: int) -> None:
+        """The session is open. A store never lowers a client's counter: where it is below what this client had, the store is a new one."""
+        self.number = number
+        self.opened += 1
+        before = self._counters.get(number, 0)
+        if self.counter < before:
+            self.new_stores += 1
+            self._counters.clear()
+            log.warning("%s: the store is a new one, and what was written to the one before is gone: the counter of client %d is %d, and was %d",
+                        self.options.where, number, self.counter, before)
 
     def _ask(self, calls: Sequence[Call], known: set[str]) -> Steps[Optional[RampError]]:
         """Sends these calls, each put after a read of its keys that are not `known` yet, and settles those that are answered for good."""
@@ -292,7 +311,7 @@ class Session:
         if call.word == "done":
             self._check_stamp(call, answer, value)
         elif call.word == "read":
-            self._counter = max(self._counter, call.seen)
+            self.counter = max(self.counter, call.seen)
         call.settle(value)
         return None
 
@@ -311,9 +330,9 @@ class Session:
     def _check_stamp(self, call: Call, answer: str, stamp: str) -> None:
         """A stamp is this client's, and above all that the session wrote and read."""
         counter, client = map(int, stamp.split("."))
-        if client != self.number or counter <= self._counter:
+        if client != self.number or counter <= self.counter:
             raise call.false(answer)
-        self._counter = counter
+        self.counter = counter
 
     def _drop(self) -> Steps[None]:
         self.lose()

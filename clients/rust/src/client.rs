@@ -1,5 +1,6 @@
 //! A session of one client.
 
+use crate::codec::{self, Content};
 use crate::config::Config;
 use crate::error::{Error, Fault, Part};
 use crate::line::{self, Request};
@@ -24,6 +25,9 @@ const NUMBERS_AT_ONCE: [usize; 3] = [4, 60, 1024];
 pub struct Client {
     config: Arc<Config>,
     link: Option<Link>,
+    /// The number and the counter of the session before.
+    before: Option<(u16, u64)>,
+    new_stores: u64,
 }
 
 impl Client {
@@ -40,12 +44,18 @@ impl Client {
 
     /// A client that connects on first use.
     pub(crate) fn unconnected(config: Arc<Config>) -> Client {
-        Client { config, link: None }
+        Client { config, link: None, before: None, new_stores: 0 }
     }
 
     /// The client number; 0 while there is no connection.
     pub fn number(&self) -> u16 {
         self.link.as_ref().map_or(0, |link| link.number)
+    }
+
+    /// How often it connected again and found its counter below what it had been. Then the server was started anew, and all that was written before
+    /// is gone. A client that has written and read nothing can't notice that, nor one that gets another number.
+    pub fn new_stores(&self) -> u64 {
+        self.new_stores
     }
 
     /// Writes 1 to 16 items, all or none, and returns the stamp of the write.
@@ -91,6 +101,48 @@ impl Client {
             Answer::Kept(versions) => Ok(versions),
             other => Err(unfit(&other)),
         }
+    }
+
+    /// Writes a text of any letters, with spaces, under this key, and returns the stamp of the write. JSON is such a text.
+    ///
+    /// It stands under `KEY.0`, `KEY.1`, .. to `KEY.f`, as few as hold it, as [`codec::encode_record`] has it: one transaction, 2,046 bytes of encoded
+    /// text at most. The key has 30 bytes at most.
+    pub fn put_text(&mut self, key: &str, text: &str) -> Result<String, Error> {
+        self.put(&codec::encode_record(key, &Content::Text(text.into()))?)
+    }
+
+    /// Reads what [`Client::put_text`] wrote, all of it or none; `None` if nothing was written. A text of several keys takes a second get.
+    ///
+    /// [`Group::WrongUse`](crate::Group::WrongUse) where something else stands there.
+    pub fn get_text(&mut self, key: &str) -> Result<Option<String>, Error> {
+        match self.content(key)? {
+            None => Ok(None),
+            Some(Content::Text(text)) => Ok(Some(text)),
+            Some(Content::Bytes(_)) => Err(line::invalid(Part::Record, key, "", Fault::Other("has bytes and no text: get_bytes reads it".into()))),
+        }
+    }
+
+    /// Writes at most 1,636 bytes of any kind under this key, as [`Client::put_text`].
+    pub fn put_bytes(&mut self, key: &str, bytes: &[u8]) -> Result<String, Error> {
+        self.put(&codec::encode_record(key, &Content::Bytes(bytes.into()))?)
+    }
+
+    /// Reads what [`Client::put_bytes`] wrote, as [`Client::get_text`].
+    pub fn get_bytes(&mut self, key: &str) -> Result<Option<Vec<u8>>, Error> {
+        match self.content(key)? {
+            None => Ok(None),
+            Some(Content::Bytes(bytes)) => Ok(Some(bytes)),
+            Some(Content::Text(_)) => Err(line::invalid(Part::Record, key, "", Fault::Other("has text and no bytes: get_text reads it".into()))),
+        }
+    }
+
+    /// The record of this key. Its first key says how many it has; where there are more, all that a record can have are read together.
+    fn content(&mut self, key: &str) -> Result<Option<Content>, Error> {
+        let keys = codec::record_keys(key);
+        let first = self.get(&keys[..1])?;
+        let is_short = first.iter().all(|item| item.value.as_ref().map_or(true, |value| value.starts_with('0')));
+        let items = if is_short { first } else { self.get(&keys)? };
+        codec::decode_record(key, &items)
     }
 
     /// A pipeline: several calls that are sent together.
@@ -228,7 +280,11 @@ impl Client {
         };
         let opened = if link.number == 0 { self.say_hello(&mut link) } else { Ok(()) };
         match opened {
-            Ok(()) => Ok(self.link.insert(link)),
+            Ok(()) => {
+                let is_new = matches!(self.before.take(), Some((number, counter)) if number == link.number && link.counter < counter);
+                self.new_stores += u64::from(is_new);
+                Ok(self.link.insert(link))
+            }
             Err(error) => {
                 // The connection is kept: a later hello may succeed, when another session has ended.
                 self.link = Some(link).filter(|_| matches!(error, Error::Refused { .. }));
@@ -250,6 +306,7 @@ impl Client {
     fn disconnect(&mut self) {
         if let Some(link) = self.link.take() {
             if link.number > 0 {
+                self.before = Some((link.number, link.counter));
                 numbers::give_back(&self.config.place(), link.number);
             }
         }

@@ -28,7 +28,7 @@ pub(crate) struct Link {
     /// The client number of its session, 0 before the session is open.
     pub(crate) number: u16,
     /// The greatest counter of all stamps that the session wrote or read.
-    counter: u64,
+    pub(crate) counter: u64,
     /// Whether answers are outstanding. Then the connection is of no further use: the next answer would belong to an earlier request.
     is_midway: bool,
 }

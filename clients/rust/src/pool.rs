@@ -82,6 +82,26 @@ impl Pool {
         self.take()?.find(tag)
     }
 
+    /// As [`Client::put_text`].
+    pub fn put_text(&self, key: &str, text: &str) -> Result<String, Error> {
+        self.take()?.put_text(key, text)
+    }
+
+    /// As [`Client::get_text`].
+    pub fn get_text(&self, key: &str) -> Result<Option<String>, Error> {
+        self.take()?.get_text(key)
+    }
+
+    /// As [`Client::put_bytes`].
+    pub fn put_bytes(&self, key: &str, bytes: &[u8]) -> Result<String, Error> {
+        self.take()?.put_bytes(key, bytes)
+    }
+
+    /// As [`Client::get_bytes`].
+    pub fn get_bytes(&self, key: &str) -> Result<Option<Vec<u8>>, Error> {
+        self.take()?.get_bytes(key)
+    }
+
     /// As [`Client::keep`].
     pub fn keep(&self, versions: u8) -> Result<u8, Error> {
         self.take()?.keep(versions)

@@ -46,14 +46,43 @@ fn each_request_is_counted_once() {
 }
 
 #[test]
-fn refusals_are_counted_by_number() {
-    let server = Server::start(&["--slots", "2", "--items", "2", "--parts", "1", "t"]);
-    let output = bench("--connections 1 --keys 4 --items 3 --mix put --count 20 --no-fill --csv", &server.url("t"));
-    assert!(
-        output.status.success() && said(&output).contains(",16 FullItems: 20") || said(&output).contains("15 FullSlots: 20"),
-        "{}",
-        said(&output)
-    );
+fn refusals_are_no_figures() {
+    let server = Server::start(&["--stay", "--sessions", "8", "--slots", "64", "--items", "2", "--parts", "1", "t"]);
+    let url = server.url("t");
+    let asked = "--connections 1 --keys 4 --items 3 --mix put --count 20 --no-fill";
+    for (form, wanted) in [
+        ("--csv", ",0,0,0.0,0.0,0.0,0.0,16 FullItems: 20,\n"),
+        ("--json", "\"put\":{\"requests\":0,\"per_second\":0,"),
+        ("", "20 of 20 requests failed (20 of put: 16 FullItems); the figures are of those answered well\nramp://"),
+    ] {
+        let output = bench(&format!("{asked} {form}"), &url);
+        let said = said(&output);
+        assert!(said.contains(wanted), "{said}");
+        assert_eq!((output.status.code(), complained(&output)), (Some(1), String::new()), "{said}");
+    }
+    // Gets of the same mix are answered well, and counted alone.
+    let output = bench("--connections 1 --keys 4 --items 3 --mix put=1,get=1 --count 40 --no-fill --csv", &url);
+    let rows = said(&output);
+    let count = |kind: &str| rows.lines().find(|row| row.contains(kind)).and_then(|row| row.split(',').nth(5)?.parse::<u32>().ok());
+    let (puts, gets, all) = (count(",put,"), count(",get,"), count(",all,"));
+    assert!(puts == Some(0) && gets > Some(0) && all == gets, "{rows}");
+    let output = bench("--connections 1 --keys 4 --items 3 --mix get --count 20 --no-fill", &url);
+    assert!(output.status.success() && said(&output).starts_with("ramp://") && said(&output).contains("errors: none"), "{}", said(&output));
+    assert_eq!(server.verdict(), "settled t yes\n");
+}
+
+#[test]
+fn puts_that_can_be_read_are_counted() {
+    // Of a server whose puts read first, each; of one connection alone, too.
+    for (options, connections) in [(["--newest", "t"], 4), (["--strict", "t"], 1)] {
+        let mut words = vec!["--stay", "--sessions", "8", "--slots", "4096"];
+        words.extend(options);
+        let server = Server::start(&words);
+        let output = bench(&format!("--connections {connections} --mix put --count 50 --newest --csv"), &server.url("t"));
+        let said = said(&output);
+        assert!(said.ends_with(",,1.0000\n"), "{said}");
+        assert_eq!(server.verdict(), "settled t yes\n");
+    }
 }
 
 #[test]

@@ -42,6 +42,34 @@ fn a_tag_is_for_all_but_those_that_have_one() {
 }
 
 #[test]
+fn text_and_bytes_are_read_as_they_were_written() {
+    let server = Server::start(&["--stay", "--sessions", "4", "t"]);
+    let pool = Config::new(&server.url("t")).expect("an address").pool(2);
+    let long = "zwei W\u{f6}rter ".repeat(60);
+    for text in ["two words", "", &long, "{\"a\": [1, 2]}"] {
+        pool.put_text("note", text).expect("a stamp");
+        assert_eq!(pool.get_text("note"), Ok(Some(text.into())));
+    }
+    let bytes: Vec<u8> = (0..=255).collect();
+    pool.put_bytes("hash", &bytes).expect("a stamp");
+    assert_eq!(pool.get_bytes("hash"), Ok(Some(bytes)));
+    assert_eq!((pool.get_text("none"), pool.get_bytes("none")), (Ok(None), Ok(None)));
+    pool.put([("plain.0", "value")]).expect("a stamp");
+    for (error, told) in [
+        (pool.get_text("hash").map(|_| ()), "has bytes and no text: get_bytes reads it"),
+        (pool.get_bytes("note").map(|_| ()), "has text and no bytes: get_text reads it"),
+        (pool.get_text("plain").map(|_| ()), "does not begin as one"),
+        (pool.put_text("note", &"x".repeat(2047)).map(|_| ()), "2047"),
+        (pool.put_text(&"k".repeat(31), "x").map(|_| ()), "33"),
+    ] {
+        let error = error.expect_err(told);
+        assert!(error.group() == Group::WrongUse && error.to_string().contains(told), "{error}");
+    }
+    drop(pool);
+    assert_eq!(server.verdict(), "settled t yes\n");
+}
+
+#[test]
 fn sessions_beside_many_have_numbers_of_their_own() {
     let server = Server::start(&["--sessions", "302", "--clients", "300", "t"]);
     let config = Config::new(&server.url("t")).expect("an address").retry(Retry::NONE);
@@ -65,11 +93,16 @@ fn a_client_outlives_its_server() {
     let mut client = Config::new(&first.url("t")).expect("an address").connect().expect("a session");
     client.put([("x", "1")]).expect("a stamp");
     first.kill();
-    let second = Server::at(first.port, &["t"]);
+    let second = Server::at(first.port, &["--sessions", "2", "t"]);
     // Nothing was sent on the connection that had ended: so this is no unknown outcome.
     std::thread::sleep(Duration::from_millis(50));
     client.put([("x", "2")]).expect("a stamp");
     assert_eq!(client.get(&["x"]).expect("items").iter().map(spelled).collect::<Vec<_>>(), [format!("x@1.{}=2", client.number())]);
+    assert_eq!(client.new_stores(), 1);
+    // A session of the same store goes on from its counter.
+    assert_eq!(client.ask("bye"), Ok("bye".into()));
+    client.get(&["x"]).expect("items");
+    assert_eq!(client.new_stores(), 1);
     client.close().expect("its end");
     assert_eq!(second.verdict(), "settled t yes\n");
 }

@@ -1,6 +1,7 @@
 //! The connections, and what they are asked.
 
 use crate::histogram::Histogram;
+use crate::newest::Newest;
 use crate::options::{Mix, Options, Place};
 use crate::wire::{Answers, Batch, Kind, Outcome, Requests, KINDS};
 use ramp_client::Config;
@@ -30,17 +31,25 @@ pub struct Connection {
 /// What came of a kind of request.
 #[derive(Clone)]
 pub struct Counted {
+    /// Of the requests that were answered well.
     pub times: Histogram,
+    /// How many requests were answered otherwise.
+    pub failed: u64,
+    /// These by cause, and those of reads before puts.
     pub errors: BTreeMap<String, u64>,
+    /// Whether any was more than a `restart`.
+    pub is_refused: bool,
 }
 
 impl Counted {
     fn new() -> Counted {
-        Counted { times: Histogram::new(), errors: BTreeMap::new() }
+        Counted { times: Histogram::new(), failed: 0, errors: BTreeMap::new(), is_refused: false }
     }
 
     pub fn join(&mut self, other: &Counted) {
         self.times.join(&other.times);
+        self.failed += other.failed;
+        self.is_refused |= other.is_refused;
         for (name, count) in &other.errors {
             *self.errors.entry(name.clone()).or_default() += count;
         }
@@ -52,6 +61,8 @@ pub struct Figures {
     pub mix: Mix,
     pub seconds: f64,
     pub counted: [Counted; KINDS.len()],
+    /// How many puts stand above all that was done at their keys before they were sent, and of how many; where this is counted.
+    pub newest: Option<(u64, u64)>,
     /// What ended connections before their time.
     pub faults: Vec<String>,
 }
@@ -105,7 +116,7 @@ fn fill(connection: &mut Connection, options: &Options) -> Result<(), String> {
     for request in Requests::new(options, Mix::default(), options.seed).fill() {
         connection.stream.write_all(&request.bytes).map_err(told)?;
         let mut refused = None;
-        connection.take(&request.asked, |_, outcome, _| refused = Some(outcome).filter(|outcome| *outcome != Outcome::Good))?;
+        connection.take(&request.asked, |_, outcome, _, _| refused = Some(outcome).filter(|outcome| *outcome != Outcome::Good))?;
         if let Some(outcome) = refused {
             let name = name_of(outcome);
             return Err(format!("the keys can't be written: {name}; give the server more room, or this program fewer --keys, or --no-fill"));
@@ -117,24 +128,31 @@ fn fill(connection: &mut Connection, options: &Options) -> Result<(), String> {
 /// Has a mix asked over all connections at a time.
 pub fn measure(options: &Options, mix: Mix, connections: &mut [Connection]) -> Figures {
     let barrier = Barrier::new(connections.len());
+    let newest = Some(Newest::new(options.keys, options.items)).filter(|_| options.counts_newest);
     let told: Vec<Asked> = thread::scope(|scope| {
         let count = connections.len();
         let asking: Vec<_> = connections
             .iter_mut()
             .enumerate()
             .map(|(place, connection)| {
-                let barrier = &barrier;
+                let (barrier, newest) = (&barrier, newest.as_ref());
                 scope.spawn(move || {
                     let mut requests = Requests::new(options, mix, options.seed.wrapping_add(place as u64));
                     let batches = batches(&mut requests, options.depth, MOST_BYTES / count);
                     barrier.wait();
-                    Asked::new(options, count, place).run(connection, &batches, &mut requests, options.depth)
+                    Asked::new(options, count, place, newest).run(connection, &batches, &mut requests, options.depth)
                 })
             })
             .collect();
         asking.into_iter().filter_map(|thread| thread.join().ok()).collect()
     });
-    let mut figures = Figures { mix, seconds: 0.0, counted: [Counted::new(), Counted::new(), Counted::new()], faults: Vec::new() };
+    let mut figures = Figures {
+        mix,
+        seconds: 0.0,
+        counted: [Counted::new(), Counted::new(), Counted::new()],
+        newest: newest.as_ref().map(Newest::taken),
+        faults: Vec::new(),
+    };
     for asked in told {
         figures.seconds = figures.seconds.max(asked.measured.as_secs_f64());
         figures.counted.iter_mut().zip(&asked.counted).for_each(|(all, one)| all.join(one));
@@ -155,7 +173,7 @@ fn batches(requests: &mut Requests, depth: usize, most_bytes: usize) -> Vec<Batc
 }
 
 /// What one connection was asked.
-struct Asked {
+struct Asked<'n> {
     counted: [Counted; KINDS.len()],
     fault: Option<String>,
     begun: Instant,
@@ -166,10 +184,11 @@ struct Asked {
     /// The time between batches, and when the next one is due, where there is a rate.
     pace: Option<(Duration, Instant)>,
     measured: Duration,
+    newest: Option<&'n Newest>,
 }
 
-impl Asked {
-    fn new(options: &Options, connections: usize, place: usize) -> Asked {
+impl<'n> Asked<'n> {
+    fn new(options: &Options, connections: usize, place: usize, newest: Option<&'n Newest>) -> Asked<'n> {
         let begun = Instant::now();
         let counts_from = if options.count.is_some() { begun } else { begun + options.warmup };
         let batches = |rate: f64| rate / (connections * options.depth) as f64;
@@ -185,10 +204,11 @@ impl Asked {
             left: options.count.unwrap_or(u64::MAX),
             pace: pace.map(|pace| (pace, first(pace))),
             measured: Duration::from_secs(0),
+            newest,
         }
     }
 
-    fn run(mut self, connection: &mut Connection, batches: &[Batch], requests: &mut Requests, depth: usize) -> Asked {
+    fn run(mut self, connection: &mut Connection, batches: &[Batch], requests: &mut Requests, depth: usize) -> Asked<'n> {
         let mut last = self.begun;
         for batch in batches.iter().cycle() {
             if self.left == 0 || self.ends.map_or(false, |ends| last >= ends) {
@@ -228,19 +248,26 @@ impl Asked {
     /// Sends a batch, takes its answers, and returns when the last of them was there.
     fn ask(&mut self, connection: &mut Connection, batch: &Batch) -> Result<Instant, String> {
         let sent = self.wait_until_due();
+        let newest = self.newest;
+        let befores: Vec<u64> = newest.map_or(Vec::new(), |it| batch.firsts.iter().map(|first| it.before(*first)).collect());
         connection.stream.write_all(&batch.bytes).map_err(told)?;
         let (counts_from, ends) = (self.counts_from, self.ends);
-        let (counted, mut last) = (&mut self.counted, sent);
-        connection.take(&batch.asked, |(kind, is_counted), outcome, now| {
+        let (counted, mut last, mut place) = (&mut self.counted, sent, 0);
+        connection.take(&batch.asked, |(kind, is_counted), outcome, stamp, now| {
             last = now;
+            if let Some(newest) = newest.filter(|_| kind == Kind::Put && outcome == Outcome::Good) {
+                newest.note(batch.firsts[place], befores[place], stamp);
+            }
+            place += 1;
             if now < counts_from || ends.map_or(false, |ends| now > ends) {
                 return;
             }
             let of_kind = &mut counted[kind as usize];
             if outcome != Outcome::Good {
                 *of_kind.errors.entry(name_of(outcome)).or_default() += 1;
-            }
-            if is_counted {
+                of_kind.is_refused |= outcome != Outcome::Restart;
+                of_kind.failed += u64::from(is_counted);
+            } else if is_counted {
                 of_kind.times.add(now.saturating_duration_since(sent).as_nanos() as u64);
             }
         })?;
@@ -249,8 +276,8 @@ impl Asked {
 }
 
 impl Connection {
-    /// Takes an answer to each of these lines, and reports each with the time when it was there.
-    fn take(&mut self, asked: &[(Kind, bool)], mut report: impl FnMut((Kind, bool), Outcome, Instant)) -> Result<(), String> {
+    /// Takes an answer to each of these lines, and reports each with the stamp of the last put that is done, and the time when it was there.
+    fn take(&mut self, asked: &[(Kind, bool)], mut report: impl FnMut((Kind, bool), Outcome, u64, Instant)) -> Result<(), String> {
         let (mut place, mut searched) = (0, self.begin);
         let mut now = Instant::now();
         while place < asked.len() {
@@ -261,7 +288,7 @@ impl Connection {
                     self.begin = end + 1;
                     searched = self.begin;
                     if let Some(outcome) = taken {
-                        report(asked[place], outcome, now);
+                        report(asked[place], outcome, self.answers.stamp, now);
                         place += 1;
                     }
                 }

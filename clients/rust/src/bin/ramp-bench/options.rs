@@ -26,12 +26,15 @@ that a stalled server holds up are counted, too.
   --rate N         total requests per second; without it, as many as are answered
   --read-first     send a get of its keys before each put, as the clients do by default; both count as one request
   --no-fill        do not write the keys first
+  --newest         count the puts whose stamp is above all that was done at their keys before they were sent: only these can be read; of one
+                   tenant of a ramp server
   --seed N         seed of the random draws (1)
   --wait           wait for a line on standard input before each mix
   --csv, --json    machine-readable figures; latencies in microseconds
   --help           print this help
 
-Errors are counted by refusal number. Exit status: 1 where an answer was missing or malformed, 2 where an argument is wrong.";
+The figures are of the requests that were answered well. Where any was not, the first line says how many, by refusal number. Exit status: 1 where
+a request was refused, or an answer was missing or malformed; a restart of a read is no refusal. 2 where an argument is wrong.";
 
 /// What is asked, and how often beside the others.
 #[derive(Clone, Copy, Debug, Default, PartialEq, Eq)]
@@ -72,6 +75,7 @@ pub struct Options {
     pub warmup: Duration,
     pub rate: Option<f64>,
     pub reads_first: bool,
+    pub counts_newest: bool,
     pub fills: bool,
     pub seed: u64,
     pub waits: bool,
@@ -88,6 +92,7 @@ impl Options {
             match word.as_str() {
                 "--help" | "-h" => return Ok(None),
                 "--read-first" => options.reads_first = true,
+                "--newest" => options.counts_newest = true,
                 "--no-fill" => options.fills = false,
                 "--wait" => options.waits = true,
                 "--csv" => options.form = Form::Csv,
@@ -124,6 +129,7 @@ impl Options {
             warmup: Duration::from_millis(500),
             rate: None,
             reads_first: false,
+            counts_newest: false,
             fills: true,
             seed: 1,
             waits: false,
@@ -167,6 +173,9 @@ impl Options {
         let is_redis = matches!(self.place, Place::Redis(..));
         if is_redis && (self.mixes.iter().any(|mix| mix.find > 0) || self.reads_first || !self.tenants.is_empty()) {
             return Err("a Redis server has no find, no tenants, and nothing to read before a put".into());
+        }
+        if self.counts_newest && (is_redis || !self.tenants.is_empty()) {
+            return Err("--newest is of one tenant of a ramp server".into());
         }
         for tenant in &self.tenants {
             check(Part::Tenant, tenant).map_err(|error| error.to_string())?;

@@ -2,29 +2,44 @@
 
 use crate::load::{Counted, Figures};
 use crate::options::{Form, Mix, Options};
-use crate::wire::KINDS;
+use crate::wire::{Kind, KINDS};
 use std::fmt::Write;
 
 /// How wide the longest bar is.
 const WIDTH: u64 = 50;
 
-/// What stands before the first figures.
-pub fn head(options: &Options) -> String {
+/// What stands before the first figures, and is there before they are measured.
+pub fn head(options: &Options) -> &'static str {
     match options.form {
-        Form::Csv => "mix,kind,connections,depth,seconds,requests,per_second,p50_us,p99_us,p999_us,max_us,errors\n".into(),
-        Form::Json => String::new(),
-        Form::Text => {
-            let Options { url, connections, depth, keys, items, sizes: (least, most), .. } = options;
-            let size = if least == most { least.to_string() } else { format!("{least} to {most}") };
-            format!("{url}: {connections} connections, {depth} in flight on each; {keys} keys, {items} in a request, values of {size} bytes\n")
-        }
+        Form::Csv => "mix,kind,connections,depth,seconds,requests,per_second,p50_us,p99_us,p999_us,max_us,errors,newest\n",
+        Form::Json | Form::Text => "",
     }
+}
+
+/// What was asked, of whom.
+fn load_of(options: &Options) -> String {
+    let Options { url, connections, depth, keys, items, sizes: (least, most), .. } = options;
+    let size = if least == most { least.to_string() } else { format!("{least} to {most}") };
+    format!("{url}: {connections} connections, {depth} in flight on each; {keys} keys, {items} in a request, values of {size} bytes\n")
+}
+
+/// How many requests were not answered well, and of each kind by which cause; nothing where all were.
+fn failures(figures: &Figures) -> String {
+    let all = figures.all();
+    if all.errors.is_empty() {
+        return String::new();
+    }
+    let of_kind = |(kind, counted): (&Kind, &Counted)| -> Vec<String> {
+        counted.errors.iter().map(|(name, count)| format!("{count} of {}: {name}", kind.name())).collect()
+    };
+    let causes: Vec<String> = KINDS.iter().zip(&figures.counted).flat_map(of_kind).collect();
+    format!("{} of {} requests failed ({}); the figures are of those answered well\n", all.failed, all.failed + all.times.total(), causes.join(", "))
 }
 
 /// The figures of a mix.
 pub fn body(options: &Options, figures: &Figures) -> String {
     match options.form {
-        Form::Text => text(figures),
+        Form::Text => failures(figures) + &load_of(options) + &text(figures),
         Form::Csv => rows(figures).iter().map(|(name, counted)| csv(options, figures, name, counted)).collect(),
         Form::Json => json(options, figures),
     }
@@ -71,8 +86,8 @@ pub fn mix_name(mix: Mix) -> String {
 }
 
 fn text(figures: &Figures) -> String {
-    let mut out = format!("\n{}, {:.1} s\n", mix_name(figures.mix), figures.seconds);
-    let _ = writeln!(out, "{:<6}{:>12}{:>12}{:>11}{:>11}{:>11}{:>11}", "", "requests", "per second", "p50 us", "p99 us", "p99.9 us", "max us");
+    let mut out = format!("{}, {:.1} s\n", mix_name(figures.mix), figures.seconds);
+    let _ = writeln!(out, "{:<6}{:>12}{:>12}{:>11}{:>11}{:>11}{:>11}", "", "answered", "per second", "p50 us", "p99 us", "p99.9 us", "max us");
     for (name, counted) in rows(figures) {
         let [half, most, nearly_all, greatest] = times(&counted);
         let (total, rate) = (counted.times.total(), per_second(figures, &counted));
@@ -82,10 +97,8 @@ fn text(figures: &Figures) -> String {
     if all.errors.is_empty() {
         out.push_str("errors: none\n");
     }
-    for (kind, counted) in KINDS.iter().zip(&figures.counted) {
-        for (name, count) in &counted.errors {
-            let _ = writeln!(out, "errors: {count} of {}: {name}", kind.name());
-        }
+    if let Some((above, puts)) = figures.newest {
+        let _ = writeln!(out, "newest: {above} of {puts} puts stand above all that was done at their keys before they were sent");
     }
     let ranges = all.times.by_powers();
     let most = ranges.iter().map(|(_, _, count)| *count).max().unwrap_or(1);
@@ -101,8 +114,10 @@ fn text(figures: &Figures) -> String {
 fn csv(options: &Options, figures: &Figures, name: &str, counted: &Counted) -> String {
     let errors: Vec<String> = counted.errors.iter().map(|(name, count)| format!("{name}: {count}")).collect();
     let (connections, depth, total) = (options.connections, options.depth, counted.times.total());
+    // The part of the puts that can be read, of 1; nothing where this is not counted.
+    let newest = figures.newest.map_or(String::new(), |(above, puts)| format!("{:.4}", above as f64 / puts.max(1) as f64));
     format!(
-        "{},{name},{connections},{depth},{:.3},{total},{:.0},{},{}\n",
+        "{},{name},{connections},{depth},{:.3},{total},{:.0},{},{},{newest}\n",
         mix_name(figures.mix),
         figures.seconds,
         per_second(figures, counted),
@@ -113,10 +128,11 @@ fn csv(options: &Options, figures: &Figures, name: &str, counted: &Counted) -> S
 
 /// One line a mix. No text in it has a sign that JSON writes otherwise.
 fn json(options: &Options, figures: &Figures) -> String {
+    let newest = figures.newest.map_or(String::new(), |(above, puts)| format!("\"newest\":{{\"puts\":{puts},\"above\":{above}}},"));
     let kinds: Vec<String> = rows(figures).iter().map(|(name, counted)| format!("\"{name}\":{}", json_of(figures, counted))).collect();
     let Options { connections, depth, keys, items, .. } = options;
     format!(
-        "{{\"mix\":\"{}\",\"connections\":{connections},\"depth\":{depth},\"keys\":{keys},\"items\":{items},\"seconds\":{:.3},{}}}\n",
+        "{{\"mix\":\"{}\",\"connections\":{connections},\"depth\":{depth},\"keys\":{keys},\"items\":{items},\"seconds\":{:.3},{newest}{}}}\n",
         mix_name(figures.mix),
         figures.seconds,
         kinds.join(",")

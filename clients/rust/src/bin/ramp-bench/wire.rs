@@ -1,5 +1,6 @@
 //! Requests as bytes, and answers out of bytes, for both kinds of server.
 
+use crate::newest::rank;
 use crate::options::{Mix, Options, Place};
 
 /// What a request asks.
@@ -42,6 +43,8 @@ pub struct Batch {
     pub bytes: Vec<u8>,
     /// What each line asks, and whether it is counted: a read before a put is not.
     pub asked: Vec<(Kind, bool)>,
+    /// The place of the first key of each line.
+    pub firsts: Vec<usize>,
 }
 
 /// Draws requests, and encodes them.
@@ -99,6 +102,7 @@ impl Requests {
             if self.reads_first {
                 self.get(bytes, first);
                 batch.asked.push((Kind::Get, false));
+                batch.firsts.push(first);
             }
             self.put(bytes, first, self.items);
             batch.asked.push((Kind::Put, true));
@@ -111,6 +115,7 @@ impl Requests {
             bytes.push(b'\n');
             batch.asked.push((Kind::Find, true));
         }
+        batch.firsts.push(first);
     }
 
     /// The requests that write each key once.
@@ -119,7 +124,7 @@ impl Requests {
         for first in (0..self.keys.len()).step_by(16) {
             let mut bytes = Vec::new();
             self.put(&mut bytes, first, 16.min(self.keys.len() - first));
-            all.push(Batch { bytes, asked: vec![(Kind::Put, true)] });
+            all.push(Batch { bytes, asked: vec![(Kind::Put, true)], firsts: vec![first] });
         }
         all
     }
@@ -198,6 +203,8 @@ pub struct Answers {
     /// Elements of an array of Redis that are still to come.
     texts: usize,
     is_text: bool,
+    /// The stamp of the last put that is done, as `rank` has it.
+    pub stamp: u64,
 }
 
 impl Answers {
@@ -216,6 +223,9 @@ impl Answers {
             Kind::Find => line.starts_with(b"list"),
         };
         if is_good {
+            if kind == Kind::Put {
+                self.stamp = rank(&line[b"done ".len()..]).ok_or_else(|| stray(kind, line))?;
+            }
             return Ok(Some(Outcome::Good));
         }
         if line.starts_with(b"restart ") && kind != Kind::Put {

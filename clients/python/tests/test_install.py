@@ -1,0 +1,62 @@
+"""What ./install puts beside the server: ramp-cli, ramp-bench, and what bash completes of each program."""
+from __future__ import annotations
+
+import os
+import pathlib
+import shutil
+import subprocess
+import tempfile
+import unittest
+
+from servers import ALL, TOP, Server, program
+
+TRIED = """
+source "$1"
+COMP_WORDS=("${@:2}") COMP_CWORD=$(($# - 2))
+"$(complete -p "$2" | sed 's/.*-F \\([^ ]*\\) .*/\\1/')"
+echo "${COMPREPLY[@]}"
+"""
+
+
+class Installed(unittest.TestCase):
+    def setUp(self) -> None:
+        folder = tempfile.TemporaryDirectory()
+        self.addCleanup(folder.cleanup)
+        self.prefix = pathlib.Path(folder.name) / "prefix"
+        # Nothing of the tree is found by itself.
+        self.environment = {name: value for name, value in os.environ.items() if name not in ("PYTHONPATH", "RAMP_URL", "PYTHONDONTWRITEBYTECODE")}
+        self.installed = self.run_words(str(TOP / "install"), "--program", program(), str(self.prefix)).splitlines()
+
+    def run_words(self, *words: str) -> str:
+        told = subprocess.run(words, capture_output=True, text=True, timeout=4 * ALL, env=self.environment, cwd="/", check=False)
+        self.assertEqual(told.returncode, 0, (words, told.stderr))
+        return told.stdout
+
+    def completed(self, *words: str) -> list[str]:
+        return self.run_words("bash", "-c", TRIED, "bash", str(self.prefix / "share/bash-completion/completions" / words[0]), *words).split()
+
+    def test_programs_run_completion_completes_and_all_goes_again(self) -> None:
+        with Server("--sessions", "16", "t") as server:
+            cli = str(self.prefix / "bin" / "ramp-cli")
+            self.assertEqual(self.run_words(cli, "--client", "1", server.url(), "put", "x=1"), "done 1.1\n")
+            if shutil.which("cargo"):
+                told = self.run_words(str(self.prefix / "bin" / "ramp-bench"), "--connections", "1", "--count", "10", "--json", server.url())
+                self.assertIn('"requests":10', told)
+            self.assertEqual(server.stop(), ["settled t yes"])
+        name = next(pathlib.Path(it).name for it in self.installed if pathlib.Path(it).name in ("ramp", "ramp-unproved"))
+        for words, shown in (((name, "se"), ["serve"]), ((name, "serve", "--st"), ["--stay", "--strict", "--status"]), ((name, "serve", "--port", ""), []),
+                             ((name, "load", "--se"), ["--seats", "--seed"]), (("rampd", "--co"), ["--config"]), (("rampd", "--config", "/etc/host"), None),
+                             (("ramp-cli", "--ten"), ["--tenant"]), (("ramp-cli", "--json", "put-"), ["put-text", "put-json"]), (("ramp-cli", "get", ""), []),
+                             (("ramp-cli", "--port", ""), [])):
+            told = self.completed(*words)
+            self.assertTrue(told == shown if shown is not None else "/etc/hosts" in told, (words, told))
+        if shutil.which("cargo"):
+            self.assertEqual(self.completed("ramp-bench", "--c"), ["--connections", "--count", "--csv"])
+        for page in ("ramp-cli", "ramp-bench") if shutil.which("cargo") else ("ramp-cli",):
+            self.assertIn("usage" if page == "ramp-cli" else "OPTIONS", (self.prefix / f"share/man/man1/{page}.1").read_text())
+        self.run_words(str(TOP / "install"), "--uninstall", str(self.prefix))
+        self.assertEqual(list(self.prefix.rglob("*")) if self.prefix.exists() else [], [])
+
+
+if __name__ == "__main__":
+    unittest.main()
