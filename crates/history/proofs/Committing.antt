@@ -18,14 +18,14 @@ use Rattle.plain_store.specs.Replies.{log_of, reply_after, reply_to}
 use Rattle.plain_store.specs.Writing.{record_for}
 use Rattle.plain_store.proofs.Cells.{HasVersion, IsDiscarded, accepted_version, commit_commits, live_without}
 use Rattle.plain_store.proofs.Cells.{IsAccepted as IsAcceptedAt}
-use Rattle.plain_store.proofs.Members.{filter_in, in_filter, in_left}
+use Rattle.plain_store.proofs.Members.{filter_in, in_filter}
 use Rattle.history.specs.declared.entry.HistoryEntry.{HistoryEntry}
-use Rattle.history.specs.declared.entry.HistoryEntry.TheVariants.{Opened, Joined, Arrived, Began, Decided, GivenUp, ReadBegan, Served}
+use Rattle.history.specs.declared.entry.HistoryEntry.TheVariants.{Opened, Joined, Arrived, Began, Decided, GivenUp, ReadBegan, Drew, Passed, Served}
 use Rattle.history.specs.declared.entry.Decision.{Decision}
 use Rattle.history.specs.declared.entry.ServedCall.{ServedCall}
 use Rattle.history.specs.declared.entry.Write.{Write}
-use Rattle.history.specs.Entries.{calls_of, calls_served, is_of, own, parts_of, reply_in, room_of, served_to, StandsInHistory}
-use Rattle.history.specs.Fresh.{CommitsKeys, IsCommittedIn, log_in}
+use Rattle.history.specs.Entries.{calls_of, calls_served, is_of, own, parts_of, room_of, served_to, StandsInHistory}
+use Rattle.history.specs.Fresh.{CommitsKeys, log_in}
 use Rattle.history.specs.Legal.{IsAccepted, IsDecided, IsGivenUp, IsKeyHome, IsLegal, KeepsDecided, MayDecide, MayEnd, MayFollow, MayServe}
 use Rattle.history.proofs.Lists.{StandsAfter, order, prefix_has, split_at}
 use Rattle.history.proofs.Counts.{equal_test, test_equal}
@@ -44,6 +44,8 @@ opens (Began write) = false
 opens (Decided decision) = false
 opens (GivenUp decision) = false
 opens (ReadBegan word) = false
+opens (Drew drawn) = false
+opens (Passed tenant) = false
 opens (Served served) = false
 
 legal_before : (log before : List HistoryEntry) (e : HistoryEntry) (after : List HistoryEntry) → IsLegal log → log ≡ before ++ e ∷ after → opens e ≡ false → IsLegal before

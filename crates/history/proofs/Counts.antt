@@ -5,8 +5,8 @@ use Rattle.std.proofs.lemmas.List.{append-nil}
 use Rattle.std.proofs.lemmas.List.Elements.{filter-append}
 use mathlib.Core.List.{IsPrefix}
 use Rattle.history.specs.declared.entry.HistoryEntry.{HistoryEntry}
-use Rattle.history.specs.declared.entry.HistoryEntry.TheVariants.{Opened, Joined, Arrived, Began, Decided, GivenUp, ReadBegan, Served}
-use Rattle.history.specs.Entries.{HasMark, is_of, own, count}
+use Rattle.history.specs.declared.entry.HistoryEntry.TheVariants.{Opened, Joined, Arrived, Began, Decided, GivenUp, ReadBegan, Drew, Passed, Served}
+use Rattle.history.specs.Entries.{HasMark, clock_of, is_of, own, count}
 use Rattle.history.specs.declared.entry.Mark.{Mark}
 use Rattle.history.proofs.Lists.{none_of_none}
 
@@ -28,6 +28,8 @@ of_no_other k p (Opened setting) is apart = absurd (cc is)
 of_no_other k p (Joined member) is apart = no_other 0 k p is apart
 of_no_other k p (Arrived word) is apart = no_other word k p is apart
 of_no_other k p (ReadBegan word) is apart = no_other word k p is apart
+of_no_other k p (Drew drawn) is apart = no_other (clock_of drawn.tenant) k p is apart
+of_no_other k p (Passed tenant) is apart = no_other (clock_of tenant) k p is apart
 of_no_other k p (Began write) is apart = no_other write.word k p is apart
 of_no_other k p (Decided decision) is apart = no_other decision.word k p is apart
 of_no_other k p (GivenUp decision) is apart = no_other decision.word k p is apart

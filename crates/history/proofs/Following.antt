@@ -1,12 +1,12 @@
 -- What may follow what was seen may follow a longer history, and a legal history stays legal with it.
-use Rattle.std.proofs.Common.{◌≡◌, ◌⊎◌, ◌∙◌, ℕ, ◌+◌, ◌<◌, ◌==◌, true, false, Bool, List, [], ◌∷◌, ◌++◌, length, refl, ap, sym, subst, inl, inr, arith, append_assoc}
+use Rattle.std.proofs.Common.{◌≡◌, ◌⊎◌, ◌∙◌, ℕ, true, List, [], ◌∷◌, ◌++◌, refl, ap, sym, subst, inl, inr, arith, append_assoc}
 use Rattle.std.proofs.Math.Logic.{∥∥₁_map, ∥∥₁_map₂, ∥∥₁_elim}
 use Rattle.std.specs.Coded.{Coded-set, coded_ℕ}
 use mathlib.Core.List.{IsPrefix}
 use mathlib.Core.HLevel.{⊥_prop}
 use Rattle.stamps.specs.Key.{home_of}
 use Rattle.stamps.specs.Stamp.{client_of}
-use Rattle.plain_store.specs.Words.{◌∈◌, Item, Key, Record, Stamp}
+use Rattle.plain_store.specs.Words.{◌∈◌, Key, Record, Stamp}
 use Rattle.plain_store.specs.declared.calls.Call.{Call}
 use Rattle.plain_store.specs.declared.calls.Call.TheVariants.{Prepare, Commit, Get, Found, Collect, Discard}
 use Rattle.plain_store.specs.declared.calls.Reply.{Reply}
@@ -14,14 +14,14 @@ use Rattle.plain_store.specs.declared.calls.Reply.TheVariants.{Prepare as ToPrep
 use Rattle.plain_store.specs.declared.calls.PrepareReply.TheVariants.{Prepared}
 use Rattle.plain_store.specs.Writing.{record_for}
 use Rattle.history.specs.declared.entry.HistoryEntry.{HistoryEntry}
-use Rattle.history.specs.declared.entry.HistoryEntry.TheVariants.{Opened, Joined, Arrived, Began, Decided, GivenUp, ReadBegan, Served}
+use Rattle.history.specs.declared.entry.HistoryEntry.TheVariants.{Opened, Joined, Arrived, Began, Decided, GivenUp, ReadBegan, Drew, Passed, Served}
 use Rattle.history.specs.declared.entry.Decision.{Decision}
 use Rattle.history.specs.declared.entry.JoinedClient.{JoinedClient}
 use Rattle.history.specs.declared.entry.ServedCall.{ServedCall}
 use Rattle.history.specs.declared.entry.StoreOpening.{StoreOpening}
 use Rattle.history.specs.declared.entry.Write.{Write}
-use Rattle.history.specs.Entries.{is_of, own, count, parts_of, StandsInHistory}
-use Rattle.history.specs.Legal.{MayJoin, MayBegin, MayEnd, IsOfWrite, IsAccepted, MayDecide, IsDecided, IsGivenUp, IsOfPut, HasParts, IsKeyHome, IsAtHome, MayServe, MayFollow, IsLegal, HasOneWrite, AreOfTheirWrites}
+use Rattle.history.specs.Entries.{clock_of, is_of, own, parts_of, StandsInHistory}
+use Rattle.history.specs.Legal.{MayJoin, MayBegin, MayEnd, IsOfWrite, IsAccepted, MayDraw, MayDecide, IsDecided, IsGivenUp, IsOfPut, HasParts, IsKeyHome, IsAtHome, MayServe, MayFollow, IsLegal, HasOneWrite, AreOfTheirWrites}
 use Rattle.history.specs.Rules.{is_opening}
 use Rattle.plain_store.proofs.Members.{in_left, filter_in}
 use Rattle.history.proofs.Lists.{prefix_has, StandsBehind, StandsAfter, split_last, split_at, order}
@@ -94,6 +94,8 @@ parts_before (Began write ∷ v) rest parts has = absurd has
 parts_before (Decided decision ∷ v) rest parts has = absurd has
 parts_before (GivenUp decision ∷ v) rest parts has = absurd has
 parts_before (ReadBegan word ∷ v) rest parts has = absurd has
+parts_before (Drew drawn ∷ v) rest parts has = absurd has
+parts_before (Passed tenant ∷ v) rest parts has = absurd has
 parts_before (Served served ∷ v) rest parts has = absurd has
 
 pub has_parts_later : (v log : List HistoryEntry) (parts : ℕ) → IsPrefix v log → HasParts v parts → HasParts log parts
@@ -109,6 +111,8 @@ parts_as_opened (Began write ∷ v) parts has = absurd has
 parts_as_opened (Decided decision ∷ v) parts has = absurd has
 parts_as_opened (GivenUp decision ∷ v) parts has = absurd has
 parts_as_opened (ReadBegan word ∷ v) parts has = absurd has
+parts_as_opened (Drew drawn ∷ v) parts has = absurd has
+parts_as_opened (Passed tenant ∷ v) parts has = absurd has
 parts_as_opened (Served served ∷ v) parts has = absurd has
 
 pub key_home_later : (v log : List HistoryEntry) (key : Key) (partition : ℕ) → IsPrefix v log → IsKeyHome v key partition → IsKeyHome log key partition
@@ -148,6 +152,9 @@ end_later : (k : ℕ) (mine log : List HistoryEntry) (decision : Decision) → d
 end_later k mine log decision word same may =
     subst (λ l. MayEnd l decision) (subst (λ (w : ℕ). own w mine ≡ own w log) (sym word) same) may
 
+own_of_word : (k word : ℕ) (mine log : List HistoryEntry) → word ≡ k → own k mine ≡ own k log → own word mine ≡ own word log
+own_of_word k word mine log is same = subst (λ (w : ℕ). own w mine ≡ own w log) (sym is) same
+
 -- where a history has the same entries of the entry's word, and has what was seen, the entry may follow it
 pub may_later : (k : ℕ) (mine seen log : List HistoryEntry) (e : HistoryEntry) → is_of k e ≡ true → own k mine ≡ own k log → IsLegal seen → IsPrefix seen log
     → MayFollow mine seen e → MayFollow log log e
@@ -157,6 +164,9 @@ may_later k mine seen log (Joined member) is same legal pre may =
     subst (λ l. MayJoin l member) (subst (λ (w : ℕ). own w mine ≡ own w log) (sym word) same) may
 may_later k mine seen log (Arrived word) is same legal pre may = tt
 may_later k mine seen log (ReadBegan word) is same legal pre may = tt
+may_later k mine seen log (Drew drawn) is same legal pre may =
+    subst (λ l. MayDraw l drawn) (own_of_word k (clock_of drawn.tenant) mine log (test_equal (clock_of drawn.tenant) k is) same) may
+may_later k mine seen log (Passed tenant) is same legal pre may = tt
 may_later k mine seen log (Began write) is same legal pre may =
     let word : write.word ≡ k = test_equal write.word k is in
     let mine_is : own write.word mine ≡ own write.word log = subst (λ (w : ℕ). own w mine ≡ own w log) (sym word) same in
@@ -205,6 +215,8 @@ opening_legal (Opened setting ∷ (e ∷ log)) is = absurd (cc is)
 opening_legal (Joined member ∷ log) is = absurd (cc is)
 opening_legal (Arrived word ∷ log) is = absurd (cc is)
 opening_legal (ReadBegan word ∷ log) is = absurd (cc is)
+opening_legal (Drew drawn ∷ log) is = absurd (cc is)
+opening_legal (Passed tenant ∷ log) is = absurd (cc is)
 opening_legal (Began write ∷ log) is = absurd (cc is)
 opening_legal (Decided decision ∷ log) is = absurd (cc is)
 opening_legal (GivenUp decision ∷ log) is = absurd (cc is)

@@ -13,13 +13,13 @@ use Rattle.plain_store.specs.declared.calls.ReadReply.{ReadReply}
 use Rattle.plain_store.specs.declared.calls.Reply.{Reply}
 use Rattle.plain_store.specs.declared.calls.Reply.TheVariants.{Get as ToGet}
 use Rattle.plain_store.specs.Log.{is_committed}
-use Rattle.plain_store.specs.Replies.{get_reply, log_of, reply_after, reply_to}
+use Rattle.plain_store.specs.Replies.{log_of, reply_after, reply_to}
 use Rattle.plain_store.proofs.Cells.{committed_stays, first_reply_fresh, stamp_shown}
 use Rattle.plain_store.proofs.Members.{in_right}
 use Rattle.history.specs.declared.entry.HistoryEntry.{HistoryEntry}
 use Rattle.history.specs.declared.entry.HistoryEntry.TheVariants.{Served}
 use Rattle.history.specs.declared.entry.ServedCall.{ServedCall}
-use Rattle.history.specs.Entries.{calls_of, calls_served, parts_of, room_of, served_at, served_to, StandsInHistory}
+use Rattle.history.specs.Entries.{calls_of, calls_served, room_of, served_at, served_to, StandsInHistory}
 use Rattle.history.specs.Fresh.{IsCommittedIn, log_in}
 use Rattle.history.specs.Legal.{IsAtHome, IsKeyHome, IsLegal}
 use Rattle.history.proofs.Following.{key_home_later, parts_as_opened}

@@ -6,3 +6,4 @@ pub mod Shown
 pub mod Servings
 pub mod Fresh
 pub mod Committing
+pub mod Clock

@@ -7,7 +7,7 @@ use mathlib.Core.List.{IsPrefix}
 use Rattle.plain_store.specs.Replies.{reply_to}
 use Rattle.plain_store.specs.declared.calls.Call.{Call}
 use Rattle.history.specs.declared.entry.HistoryEntry.{HistoryEntry}
-use Rattle.history.specs.declared.entry.HistoryEntry.TheVariants.{Opened, Joined, Arrived, Began, Decided, GivenUp, ReadBegan, Served}
+use Rattle.history.specs.declared.entry.HistoryEntry.TheVariants.{Opened, Joined, Arrived, Began, Decided, GivenUp, ReadBegan, Drew, Passed, Served}
 use Rattle.history.specs.declared.entry.ServedCall.{ServedCall}
 use Rattle.history.specs.Entries.{is_of, own, count, limits_of, room_in, room_of, served_to, served_at, calls_served, reply_in, StandsInHistory}
 use Rattle.history.specs.Legal.{IsLegal}
@@ -26,6 +26,8 @@ no_serving tenant partition (Began write) is = refl
 no_serving tenant partition (Decided decision) is = refl
 no_serving tenant partition (GivenUp decision) is = refl
 no_serving tenant partition (ReadBegan word) is = refl
+no_serving tenant partition (Drew drawn) is = refl
+no_serving tenant partition (Passed whose) is = refl
 no_serving tenant partition (Served served) is =
     let other : (served.partition == partition) ≡ false = grind (arith, nat_tests, is) in
     ap (λ (b : Bool). cond b (Some served) None) (and_false (served.tenant == tenant) (served.partition == partition) other)
@@ -110,6 +112,8 @@ opened_count k (Opened setting ∷ (e ∷ log)) is = absurd (cc is)
 opened_count k (Joined member ∷ log) is = absurd (cc is)
 opened_count k (Arrived word ∷ log) is = absurd (cc is)
 opened_count k (ReadBegan word ∷ log) is = absurd (cc is)
+opened_count k (Drew drawn ∷ log) is = absurd (cc is)
+opened_count k (Passed tenant ∷ log) is = absurd (cc is)
 opened_count k (Began write ∷ log) is = absurd (cc is)
 opened_count k (Decided decision ∷ log) is = absurd (cc is)
 opened_count k (GivenUp decision ∷ log) is = absurd (cc is)

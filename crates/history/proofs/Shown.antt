@@ -1,5 +1,5 @@
 -- What a GET is reported, in a legal history.
-use Rattle.std.proofs.Common.{◌≡◌, ◌⊎◌, ◌∙◌, ℕ, ◌==◌, ◌&&◌, Bool, true, false, cond, List, [], ◌∷◌, ◌++◌, map, reverse, filter, find, filter_map, Option, Some, None, refl, ap, sym, subst, inl, inr, nat_lt, eqb-true}
+use Rattle.std.proofs.Common.{◌≡◌, ◌⊎◌, ◌∙◌, ℕ, ◌==◌, ◌&&◌, Bool, true, false, cond, List, [], ◌∷◌, ◌++◌, map, reverse, find, filter_map, Option, Some, None, refl, ap, sym, subst, inl, inr, nat_lt, eqb-true}
 use Rattle.std.specs.List.{cons_option}
 use Rattle.std.proofs.lemmas.Bool.{and_parts}
 use Rattle.std.proofs.lemmas.List.{reverse-append}
@@ -11,16 +11,15 @@ use Rattle.plain_store.specs.declared.calls.Call.TheVariants.{Prepare, Commit, G
 use Rattle.plain_store.specs.declared.calls.PrepareReply.TheVariants.{Prepared}
 use Rattle.plain_store.specs.declared.calls.ReadReply.{ReadReply}
 use Rattle.plain_store.specs.declared.calls.ReadReply.TheVariants.{Version, Initial, Collected, Unknown}
-use Rattle.plain_store.specs.declared.calls.Reply.{Reply}
 use Rattle.plain_store.specs.declared.calls.Reply.TheVariants.{Get as ToGet, Prepare as ToPrepare}
-use Rattle.plain_store.specs.Log.{Exchange, Log, is_version, versions, floor, is_kept, kept, is_committed, latest}
+use Rattle.plain_store.specs.Log.{Exchange, Log, is_version, versions, floor, is_kept, kept}
 use Rattle.plain_store.specs.Replies.{get_reply, found_or, reply_after, reply_to, log_of}
 use Rattle.plain_store.specs.Writing.{record_for}
 use Rattle.plain_store.proofs.Members.{in_left, in_right, in_cases, in_map, in_filter, found_is}
 use Rattle.plain_store.proofs.Cells.{version_accepted, committed_is, first_reply, IsFirstReply}
 use Rattle.plain_store.proofs.Logs.{is_version-parts}
 use Rattle.history.specs.declared.entry.HistoryEntry.{HistoryEntry}
-use Rattle.history.specs.declared.entry.HistoryEntry.TheVariants.{Opened, Joined, Arrived, Began, Decided, GivenUp, ReadBegan, Served}
+use Rattle.history.specs.declared.entry.HistoryEntry.TheVariants.{Opened, Joined, Arrived, Began, Decided, GivenUp, ReadBegan, Drew, Passed, Served}
 use Rattle.history.specs.declared.entry.ServedCall.{ServedCall}
 use Rattle.history.specs.declared.entry.Write.{Write}
 use Rattle.history.specs.Entries.{parts_of, room_of, served_to, served_at, calls_served, StandsInHistory}
@@ -56,6 +55,8 @@ served_to_is tenant partition (Opened setting) served is = cc
 served_to_is tenant partition (Joined member) served is = cc
 served_to_is tenant partition (Arrived word) served is = cc
 served_to_is tenant partition (ReadBegan word) served is = cc
+served_to_is tenant partition (Drew drawn) served is = cc
+served_to_is tenant partition (Passed whose) served is = cc
 served_to_is tenant partition (Began write) served is = cc
 served_to_is tenant partition (Decided decision) served is = cc
 served_to_is tenant partition (GivenUp decision) served is = cc

@@ -1,5 +1,5 @@
 -- Each step keeps the rule between a history and its words.
-use Rattle.std.proofs.Common.{◌≡◌, ◌≢◌, ◌∙◌, ℕ, zero, suc, ◌+◌, ◌<◌, ◌==◌, Bool, true, false, List, [], ◌∷◌, ◌++◌, length, slice_set, refl, ap, sym, subst, arith, inl, inr, None, length-append, append_assoc, MatchBool}
+use Rattle.std.proofs.Common.{◌≡◌, ◌≢◌, ◌∙◌, ℕ, zero, suc, ◌+◌, ◌<◌, ◌≤◌, ◌-◌, ◌==◌, Bool, true, false, List, [], ◌∷◌, ◌++◌, length, slice_set, refl, ap, sym, subst, arith, inl, inr, None, length-append, append_assoc, MatchBool}
 use Rattle.std.specs.Prelude.{replicate}
 use Rattle.std.proofs.lemmas.List.{append-nil, length-set, set-get_or, get_or-set_other, get_or_append_left, get_or-replicate, length-replicate}
 use Rattle.std.proofs.lemmas.Grind.{get_or-set_at}
@@ -8,12 +8,12 @@ use mathlib.Core.List.{IsPrefix}
 use prog.Atomic.{either}
 use Rattle.logbook.specs.Pages.{Cell, cell, keeps, gives, adds, nib, no_nib, may_make, may_write, step, Moves, Goes}
 use Rattle.history.specs.declared.entry.HistoryEntry.{HistoryEntry}
-use Rattle.history.specs.declared.entry.HistoryEntry.TheVariants.{Opened, Joined, Arrived}
+use Rattle.history.specs.declared.entry.HistoryEntry.TheVariants.{Opened, Joined, Arrived, Passed}
 use Rattle.history.specs.declared.entry.JoinedClient.{JoinedClient}
 use Rattle.history.specs.declared.entry.StoreOpening.{StoreOpening}
-use Rattle.history.specs.Entries.{but_last, is_of, own, count}
+use Rattle.history.specs.Entries.{but_last, clock_of, is_of, own, count}
 use Rattle.history.specs.Legal.{MayFollow, MayJoin, IsLegal, first_client}
-use Rattle.history.specs.Rules.{IsHome, IsRuleKept, IsAdded, IsOvertaken, Adds, Looks, Joins, Arrives}
+use Rattle.history.specs.Rules.{IsHome, IsRuleKept, IsAdded, IsOvertaken, Adds, Looks, Raises, Joins, Arrives}
 use Rattle.history.proofs.Lists.{prefix_join, last_in, none_of_none}
 use Rattle.history.proofs.Counts.{test_equal, equal_test, of_no_other, own_append, own_one, count_more, count_still, some_later, own_same}
 use Rattle.history.proofs.Following.{may_later, legal_more, opening_legal}
@@ -143,6 +143,74 @@ adds_moves p v mine seen e old first second legal home apart its counted may cel
       w.0,
       ap (λ c. c.1) w.1,
       goes_adds cells log v mine seen p e old kept pre first second legal home' apart its counted may (ap (λ c. c.0) w.1) ((cell cells p).0 == old) refl,
+    )
+
+-- ---- a clock is raised
+
+set_twice : (cells : List Cell) (p : ℕ) (x y : Cell) → slice_set (slice_set cells p x) p y ≡ slice_set cells p y
+set_twice [] p x y = refl
+set_twice (c ∷ cells) zero x y = refl
+set_twice (c ∷ cells) (suc p) x y = ap (λ (l : List Cell). c ∷ l) (set_twice cells p x y)
+
+kept_passed : (cells : List Cell) (log : List HistoryEntry) (p tenant d : ℕ) → IsRuleKept cells log → IsHome p log → p ≢ 0 → p ≡ clock_of tenant
+    → IsRuleKept (slice_set cells p (count p log + d, true)) (log ++ replicate d (Passed tenant)) × (count p (log ++ replicate d (Passed tenant)) ≡ count p log + d)
+kept_passed cells log p tenant zero kept home apart is =
+    (kept_still cells log p (count p log + 0) kept home (omega arith), ap (count p) (append-nil log) ∙ omega arith)
+kept_passed cells log p tenant (suc d) kept home apart is =
+    let e : HistoryEntry = Passed tenant in
+    let its : is_of p e ≡ true = equal_test (clock_of tenant) p (sym is) in
+    let w = kept.words p home in
+    let n : ℕ = count p log + 1 in
+    let here : count p (log ++ e ∷ []) ≡ n = count_more p log e its in
+    let k = kept_added cells log p e n kept w.0 apart its refl (legal_more log e kept.legal ∣ tt ∣₁) in
+    let home' : IsHome p (log ++ e ∷ []) = home_later p log (log ++ e ∷ []) (e ∷ [], refl) home in
+    let rest = kept_passed (slice_set cells p (n, true)) (log ++ e ∷ []) p tenant d k home' apart is in
+    let m : count p (log ++ e ∷ []) + d ≡ count p log + suc d = omega (arith, here) in
+    let l : (log ++ e ∷ []) ++ replicate d e ≡ log ++ replicate (suc d) e = append_assoc log (e ∷ []) (replicate d e) in
+    let c : slice_set (slice_set cells p (n, true)) p (count p (log ++ e ∷ []) + d, true) ≡ slice_set cells p (count p log + suc d, true) =
+    set_twice cells p (n, true) (count p (log ++ e ∷ []) + d, true) ∙ ap (λ (x : ℕ). slice_set cells p (x, true)) m in
+    let P : List HistoryEntry → Type 0 = λ x. IsRuleKept (slice_set cells p (count p log + suc d, true)) x in
+    let Q : List Cell → Type 0 = λ x. IsRuleKept x ((log ++ e ∷ []) ++ replicate d e) in
+    (subst P l (subst Q c rest.0), ap (count p) (sym l) ∙ rest.1 ∙ m)
+
+goes_raises : (cells : List Cell) (log v : List HistoryEntry) (p tenant old to : ℕ) → IsRuleKept cells log → IsHome p log → p ≢ 0 → p ≡ clock_of tenant → old ≤ to
+    → (cell cells p).0 ≡ count p log → (b : Bool) → ((cell cells p).0 == old) ≡ b
+    → Goes IsRuleKept shown moved p (v, (no_nib, None)) (λ n. either (n == old) to n) (Raises (step p old to (Passed tenant)) (v, (no_nib, None))) cells log
+goes_raises cells log v p tenant old to kept home apart is up at true found =
+    let e : HistoryEntry = Passed tenant in
+    let f : (cell cells p).0 ≡ old = test_equal (cell cells p).0 old found in
+    let d : ℕ = to - old in
+    let here : count p log + d ≡ to = omega (arith, sym at ∙ f, up) in
+    let k = kept_passed cells log p tenant d kept home apart is in
+    let n : to ≡ either ((cell cells p).0 == old) to (cell cells p).0 = rw found refl in (
+      keeps,
+      replicate d e,
+      None,
+      tt,
+      subst (λ (m : ℕ). IsRuleKept (slice_set cells p (m, true)) (log ++ replicate d e)) (here ∙ n) k.0,
+      inl (refl, refl),
+      rw found (k.1 ∙ here, k.0.legal),
+    )
+goes_raises cells log v p tenant old to kept home apart is up at false found =
+    let n : (cell cells p).0 ≡ either ((cell cells p).0 == old) to (cell cells p).0 = rw found refl in
+    let more : count p (log ++ []) ≢ old = λ q. apart_of (cell cells p).0 old found (at ∙ ap (count p) (sym (append-nil log)) ∙ q) in (
+      keeps,
+      [],
+      None,
+      tt,
+      subst (λ (m : ℕ). IsRuleKept (slice_set cells p (m, true)) (log ++ [])) n (kept_still cells log p (cell cells p).0 kept home at),
+      inl (refl, refl),
+      rw found (more, legal_still log kept.legal),
+    )
+
+pub raises_moves : (p : ℕ) (v : List HistoryEntry) (tenant old to : ℕ) → IsHome p v → p ≢ 0 → p ≡ clock_of tenant → old ≤ to
+    → Moves IsRuleKept shown moved p (v, (no_nib, None)) (λ n. either (n == old) to n) (Raises (step p old to (Passed tenant)) (v, (no_nib, None)))
+raises_moves p v tenant old to home apart is up cells log kept pre away =
+    let home' = home_later p v log pre home in
+    let w = kept.words p home' in (
+      w.0,
+      ap (λ c. c.1) w.1,
+      goes_raises cells log v p tenant old to kept home' apart is up (ap (λ c. c.0) w.1) ((cell cells p).0 == old) refl,
     )
 
 -- a look finds how many entries the word has

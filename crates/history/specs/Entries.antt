@@ -2,18 +2,23 @@
 use Rattle.std.specs.Prelude.{◌≡◌, ◌≤◌, ℕ, ◌+◌, ◌==◌, ◌&&◌, Bool, false, cond, List, [], ◌∷◌, ◌++◌, map, reverse, filter, length, slice_get, Option, Some, None}
 use Rattle.std.specs.List.{filter_map}
 use mathlib.Core.List.{IsPrefix}
+use Rattle.stamps.specs.Limits.{max_parts}
 use Rattle.stamps.specs.declared.bounds.Limits.{Limits}
 use Rattle.plain_store.specs.Words.{Room}
 use Rattle.plain_store.specs.declared.calls.Call.{Call}
 use Rattle.plain_store.specs.declared.calls.Reply.{Reply}
 use Rattle.plain_store.specs.Replies.{reply_to}
 use Rattle.history.specs.declared.entry.HistoryEntry.{HistoryEntry}
-use Rattle.history.specs.declared.entry.HistoryEntry.TheVariants.{Opened, Joined, Arrived, Began, Decided, GivenUp, ReadBegan, Served}
+use Rattle.history.specs.declared.entry.HistoryEntry.TheVariants.{Opened, Joined, Arrived, Began, Decided, GivenUp, ReadBegan, Drew, Passed, Served}
 use Rattle.history.specs.declared.entry.Mark.{Mark}
 use Rattle.history.specs.declared.entry.ServedCall.{ServedCall}
 
--- whether the word k counts the entry: word 0 counts the clients, word p + 1 what partition p served, and each client has a
--- word of its own
+-- the clock of a tenant is a word that counts what was drawn of it, and what it went on by besides
+abbrev pub clock_of : ℕ → ℕ
+clock_of tenant = max_parts + 1 + tenant
+
+-- whether the word k counts the entry: word 0 counts the clients, word p + 1 what partition p served, and each tenant has a clock
+-- and each client a word of its own
 abbrev pub is_of : ℕ → HistoryEntry → Bool
 is_of k (Opened setting) = false
 is_of k (Joined member) = 0 == k
@@ -22,6 +27,8 @@ is_of k (Began write) = write.word == k
 is_of k (Decided decision) = decision.word == k
 is_of k (GivenUp decision) = decision.word == k
 is_of k (ReadBegan word) = word == k
+is_of k (Drew drawn) = clock_of drawn.tenant == k
+is_of k (Passed tenant) = clock_of tenant == k
 is_of k (Served served) = (served.partition + 1) == k
 
 -- the entries that the word counts

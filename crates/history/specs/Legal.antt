@@ -1,7 +1,7 @@
 -- Which histories are legal: each entry may follow those before it.
 use Rattle.std.specs.Prelude.{◌≡◌, ◌⊎◌, ℕ, ◌+◌, ◌<◌, List, [], ◌∷◌, ◌++◌, length, Option, None}
 use Rattle.stamps.specs.Key.{home_of}
-use Rattle.stamps.specs.Limits.{max_parts}
+use Rattle.stamps.specs.Limits.{max_parts, max_tenants}
 use Rattle.stamps.specs.Stamp.{client_of}
 use Rattle.plain_store.specs.Words.{◌∈◌, Key, Item, Record, Stamp}
 use Rattle.plain_store.specs.declared.calls.Call.{Call}
@@ -11,17 +11,18 @@ use Rattle.plain_store.specs.declared.calls.PrepareReply.TheVariants.{Prepared}
 use Rattle.plain_store.specs.declared.calls.ReadReply.TheVariants.{Version}
 use Rattle.plain_store.specs.Writing.{record_for}
 use Rattle.history.specs.declared.entry.HistoryEntry.{HistoryEntry}
-use Rattle.history.specs.declared.entry.HistoryEntry.TheVariants.{Opened, Joined, Arrived, Began, Decided, GivenUp, ReadBegan, Served}
+use Rattle.history.specs.declared.entry.HistoryEntry.TheVariants.{Opened, Joined, Arrived, Began, Decided, GivenUp, ReadBegan, Drew, Passed, Served}
 use Rattle.history.specs.declared.entry.Decision.{Decision}
+use Rattle.history.specs.declared.entry.Draw.{Draw}
 use Rattle.history.specs.declared.entry.JoinedClient.{JoinedClient}
 use Rattle.history.specs.declared.entry.ServedCall.{ServedCall}
 use Rattle.history.specs.declared.entry.StoreOpening.{StoreOpening}
 use Rattle.history.specs.declared.entry.Write.{Write}
-use Rattle.history.specs.Entries.{own, parts_of, StandsInHistory}
+use Rattle.history.specs.Entries.{own, clock_of, parts_of, StandsInHistory}
 
--- the words 0 to `max_parts` are the register's and the partitions', and each client that joins has the next word
+-- the words 0 to `max_parts` are the register's and the partitions', then come the clocks of the tenants, and each client that joins has the next word
 abbrev pub first_client : ℕ
-first_client = max_parts + 1
+first_client = max_parts + max_tenants + 1
 
 -- a client joins once, and has a word of its own; `joined` are the clients so far
 pub record MayJoin (joined : List HistoryEntry) (member : JoinedClient) : Type 0 where
@@ -112,6 +113,10 @@ pub record MayServe (before : List HistoryEntry) (partition tenant : ℕ) (call 
   pub put : IsOfPut before tenant call
   pub home : IsAtHome before partition call
 
+-- a counter that is drawn is the ordinal of the draw among the entries of the clock
+abbrev pub MayDraw : List HistoryEntry → Draw → Type 0
+MayDraw own drawn = drawn.counter ≡ length own + 1
+
 -- the entry may follow: `mine` has all entries so far of the entry's own word, and the rest is known from what stands in `before`
 abbrev pub MayFollow : List HistoryEntry → List HistoryEntry → HistoryEntry → Type 0
 MayFollow mine before (Opened setting) = before ≡ []
@@ -121,6 +126,8 @@ MayFollow mine before (Began write) = MayBegin (own write.word mine) before writ
 MayFollow mine before (Decided decision) = MayEnd (own decision.word mine) decision × MayDecide before decision
 MayFollow mine before (GivenUp decision) = MayEnd (own decision.word mine) decision
 MayFollow mine before (ReadBegan word) = Unit {0}
+MayFollow mine before (Drew drawn) = MayDraw (own (clock_of drawn.tenant) mine) drawn
+MayFollow mine before (Passed tenant) = Unit {0}
 MayFollow mine before (Served served) = MayServe before served.partition served.tenant served.call
 
 -- A history begins with its opening, and each of its entries may follow those before it.

@@ -3,3 +3,4 @@ pub mod Legal
 pub mod Rules
 pub mod Asking
 pub mod Fresh
+pub mod Clock

@@ -5,12 +5,17 @@ use Rattle.logbook.specs.Pages.{Cell, Step, View, Book, Named, cell, nib, may_ma
 use Rattle.plain_store.specs.Words.{◌∈◌}
 use Rattle.history.specs.declared.entry.HistoryEntry.{HistoryEntry}
 use Rattle.history.specs.declared.entry.HistoryEntry.TheVariants.{Opened, Arrived}
-use Rattle.history.specs.Entries.{own, count}
+use Rattle.stamps.specs.Limits.{max_tenants}
+use Rattle.history.specs.Entries.{clock_of, own, count}
 use Rattle.history.specs.Legal.{IsLegal, first_client}
 
 -- the words of the register and of the partitions are there from the start, a client's once it has an entry
 abbrev pub IsHome : ℕ → List HistoryEntry → Type 0
 IsHome k log = (k < first_client) ⊎ (0 < count k log)
+
+-- the word is the clock of the tenant
+abbrev pub IsClockOf : ℕ → ℕ → Type 0
+IsClockOf k tenant = (k ≡ clock_of tenant) × (tenant < max_tenants)
 
 -- a word is the number of its entries; there is one for each client that joined, and the history is legal
 pub record IsRuleKept (cells : List Cell) (log : List HistoryEntry) : Type 0 where
@@ -45,6 +50,10 @@ Looks s v found w = (count s.key w.0 ≡ found) × IsLegal w.0
 
 abbrev pub Adds : Step HistoryEntry → View HistoryEntry ℕ → ℕ → View HistoryEntry ℕ → Type 0
 Adds s v found w = MatchBool (found == s.old) (IsAdded s.key s.old s.ask v.0 w.0) (IsOvertaken s.key s.old w.0)
+
+-- the word was raised to the new number; or it has other entries
+abbrev pub Raises : Step HistoryEntry → View HistoryEntry ℕ → ℕ → View HistoryEntry ℕ → Type 0
+Raises s v found w = MatchBool (found == s.old) ((count s.key w.0 ≡ s.new) × IsLegal w.0) (IsOvertaken s.key s.old w.0)
 
 -- a client joined, and the right to make its word is had
 abbrev pub Joins : Step HistoryEntry → View HistoryEntry ℕ → ℕ → View HistoryEntry ℕ → Type 0

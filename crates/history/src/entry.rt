@@ -47,6 +47,13 @@ pub struct Decision {
     pub stamp: Stamp,
 }
 
+/// A counter that was drawn from the clock of a tenant.
+#[derive(Clone, Copy)]
+pub struct Draw {
+    pub tenant: u32,
+    pub counter: u64,
+}
+
 /// A call that a partition served for a tenant: which seat sent it, and which of the seat's calls it was. A collection has seat 0.
 /// Its reply is the definition's, after the calls before it.
 pub struct ServedCall {
@@ -73,6 +80,10 @@ pub enum HistoryEntry {
     GivenUp(Decision),
     /// A read or a search of the client with this word began.
     ReadBegan(u64),
+    /// A put drew its counter from the clock of its tenant.
+    Drew(Draw),
+    /// The clock of this tenant went on by one without a draw: it was raised, or told that a put is done.
+    Passed(u32),
     /// A call was served.
     Served(ServedCall),
 }

@@ -1,27 +1,37 @@
 //! Beginnings of the history that were seen.
-ghost use Rattle.std.specs.Prelude.{◌≡◌, ◌≢◌, ◌+◌, ◌<◌, ◌^◌, [], ◌∷◌, MatchBool, IfSome, IsTrue, None, true};
+ghost use Rattle.std.specs.Prelude.{◌≡◌, ◌≢◌, ◌+◌, ◌<◌, ◌≤◌, ◌^◌, [], ◌∷◌, MatchBool, IfNone, IfSome, IsTrue, None, true, false};
 ghost use mathlib.Core.List.{IsPrefix};
 ghost use Rattle.stamps.specs.Limits.{max_parts};
 ghost use Rattle.plain_store.specs.Words.{◌∈◌};
-ghost use Rattle.history.specs.declared.entry.HistoryEntry.TheVariants.{Joined, Arrived, Decided, GivenUp, ReadBegan};
+ghost use Rattle.history.specs.declared.entry.HistoryEntry.TheVariants.{Joined, Arrived, Decided, GivenUp, ReadBegan, Drew, Passed};
 ghost use Rattle.history.specs.declared.entry.JoinedClient.{JoinedClient as WhoJoined};
 ghost use Rattle.history.specs.Asking.{began_by, served_by};
+ghost use Rattle.history.specs.Clock.{IsDrawnBehind, IsOverrun, IsToldAt};
 ghost use Rattle.history.specs.Entries.{but_last, is_of, own, count};
 ghost use Rattle.history.specs.Legal.{first_client, IsLegal, MayFollow, MayBegin, MayDecide, MayEnd, MayServe};
-ghost use Rattle.history.specs.Rules.{IsHome, IsAdded, IsOvertaken, is_opening};
+ghost use Rattle.history.specs.Rules.{IsClockOf, IsHome, IsAdded, IsOvertaken, is_opening};
 
-use crate::entry::{CallToServe, Decision, HistoryEntry, JoinedClient, WriteToBegin};
-use crate::rule::{Add, Arrive, GiveUp, Join, Law, Look, Naming, Nothing};
+use crate::entry::{CallToServe, Decision, Draw, HistoryEntry, JoinedClient, WriteToBegin};
+use crate::rule::{Add, Arrive, GiveUp, Join, Law, Look, Naming, Nothing, Raise};
 use crate::tallies::Tally;
 use logbook::{Offer, Plain, Seen, Word};
-use stamps::limits::MAX_PARTS;
+use stamps::limits::{MAX_PARTS, MAX_TENANTS};
 use std::marker::{Model, PhantomData};
 
 /// A step's report, which trades nothing.
 type Report = Offer<HistoryEntry, u64, Law, Nothing>;
 
+/// The most entries of a word.
+const MOST: u64 = 1 << 62;
+
+/// How often a draw is tried.
+const MOST_TRIES: u64 = 0x1_0000_0000;
+
+/// How far a draw raises a clock: a client that names a far greater counter does not use up those of its tenant.
+const MOST_JUMP: u64 = 0x1_0000_0000;
+
 /// How many words stand before those of the clients.
-const FIRST_CLIENT: u64 = MAX_PARTS as u64 + 1;
+const FIRST_CLIENT: u64 = MAX_PARTS as u64 + MAX_TENANTS as u64 + 1;
 
 /// A beginning of the history that was seen, which contracts see as its entries. It takes no bytes, and can be copied, sent and
 /// kept: it is evidence of what was entered.
@@ -228,6 +238,120 @@ impl<J: Naming> Front<J> {
         ensures behind { IsTrue result → IsPrefix evidence.now (but_last self.new) }
     {
         self.add::<u64, Add>(tally, entries, evidence, word)
+    }
+
+    /// Draws the next counter of a tenant's clock, behind all that the evidence has seen, and says whether it did. It did not where the
+    /// clock has other entries than were seen here.
+    fn draw(&mut self, clock: &Tally<J>, entries: u64, evidence: &Front<J>, drawn: &Draw) -> bool
+        requires room { entries < 2 ^ 62 }
+        requires clock { IsClockOf clock.now.key drawn.now.tenant }
+        requires counted { count clock.now.key self.old ≡ entries }
+        requires counter { drawn.now.counter ≡ entries + 1 }
+        ensures later { IsPrefix self.old self.new }
+        ensures evidence { IsPrefix evidence.now self.new }
+        ensures added { MatchBool result
+            (IsAdded clock.now.key entries (Drew drawn.now) self.old self.new)
+            (IsOvertaken clock.now.key entries self.new) }
+        ensures drawn { IsTrue result → IsDrawnBehind evidence.now self.new drawn.now }
+    {
+        self.add::<Draw, Add>(clock, entries, evidence, drawn)
+    }
+
+    /// Draws a counter above the floor, behind all that the evidence has seen, whoever else draws meanwhile. Where the clock is below the
+    /// floor, it is raised first, by 2^32 at most. None where the floor is further above it, where others drew each time, and where the
+    /// clock has 2^62 entries.
+    pub fn draw_next(
+        &mut self,
+        clock: &Tally<J>,
+        evidence: &Front<J>,
+        tenant: u32,
+        floor: u64,
+    ) -> Option<u64>
+        requires clock { IsClockOf clock.now.key tenant }
+        ensures later { IsPrefix self.old self.new }
+        ensures drawn { IfSome result
+            (λ counter.
+            IsDrawnBehind evidence.now self.new (record { tenant = tenant; counter = counter })) }
+        ensures floor { IfSome result (λ counter. floor < counter) }
+    {
+        for _ in 0..MOST_TRIES {
+            let mut entries = self.look(clock);
+            if entries < floor {
+                if floor - entries > MOST_JUMP {
+                    return None;
+                }
+                if !self.raise(clock, entries, floor, &tenant) {
+                    continue;
+                }
+                entries = floor;
+            }
+            if entries >= MOST {
+                return None;
+            }
+            let drawn = Draw {
+                tenant,
+                counter: entries + 1,
+            };
+            if self.draw(clock, entries, evidence, &drawn) {
+                return Some(drawn.counter);
+            }
+        }
+        None
+    }
+
+    /// Raises a tenant's clock to a greater number, and says whether it did. It did not where the clock has other entries than were
+    /// seen here.
+    fn raise(&mut self, clock: &Tally<J>, entries: u64, to: u64, tenant: &u32) -> bool
+        requires clock { IsClockOf clock.now.key tenant.now }
+        requires counted { count clock.now.key self.old ≡ entries }
+        requires more { entries ≤ to }
+        ensures later { IsPrefix self.old self.new }
+        ensures raised { MatchBool result
+            (count clock.now.key self.new ≡ to)
+            (IsOvertaken clock.now.key entries self.new) }
+    {
+        let mut offer: Report = self.seen.plain::<Nothing, u32, Raise>(tenant);
+        let mut pen = self.seen.no_pen();
+        let found = clock
+            .word
+            .compare_exchange::<Raise, Nothing>(entries, to, &mut self.seen, &mut offer, &mut pen);
+        found == entries
+    }
+
+    /// Lets a tenant's clock go on by one, behind all that the evidence has seen, whoever else does meanwhile, and answers how many
+    /// entries it has then: who looks at the clock and finds as many has seen what the evidence has. None where others were faster
+    /// each time, or the clock has 2^62 entries.
+    pub fn tell(&mut self, clock: &Tally<J>, evidence: &Front<J>, tenant: u32) -> Option<u64>
+        requires clock { IsClockOf clock.now.key tenant }
+        ensures later { IsPrefix self.old self.new }
+        ensures told { IfSome result (IsToldAt evidence.now self.new tenant) }
+        ensures overrun { IfNone result (IsOverrun clock.now.key self.old self.new) }
+    {
+        for _tried in 0..MOST_TRIES {
+            let entries = self.look(clock);
+            if entries >= MOST {
+                return None;
+            }
+            if self.pass(clock, entries, evidence, &tenant) {
+                return Some(entries + 1);
+            }
+        }
+        None
+    }
+
+    /// Lets a tenant's clock go on by one, behind all that the evidence has seen, and says whether it did. It did not where the clock
+    /// has other entries than were seen here.
+    fn pass(&mut self, clock: &Tally<J>, entries: u64, evidence: &Front<J>, tenant: &u32) -> bool
+        requires room { entries < 2 ^ 62 }
+        requires clock { IsClockOf clock.now.key tenant.now }
+        requires counted { count clock.now.key self.old ≡ entries }
+        ensures later { IsPrefix self.old self.new }
+        ensures told { IsTrue result
+            → IsToldAt evidence.now self.new tenant.now (entries + 1) }
+        ensures overtaken { result ≡ false
+            → count clock.now.key self.old < count clock.now.key self.new }
+    {
+        self.add::<u32, Raise>(clock, entries, evidence, tenant)
     }
 
     /// Enters that a client comes for the first time, as the so many-th (from 0) of all clients, and answers its word. None where

@@ -1,6 +1,7 @@
 //! What holds of every legal history. Each law is the contract of a function that does nothing.
 ghost use Rattle.std.specs.Prelude.{List};
 ghost use Rattle.history.specs.declared.entry.HistoryEntry.{HistoryEntry};
+ghost use Rattle.history.specs.Clock.{DrawsRise, SeesTold};
 ghost use Rattle.history.specs.Fresh.{CommitsKeys};
 ghost use Rattle.history.specs.Legal.{IsLegal, HasOneWrite, AreOfTheirWrites, AreAtHome, KeepsDecided, ShowsWrites, ShowsDecided};
 
@@ -37,4 +38,14 @@ pub fn decided_puts_are_not_discarded()
 /// In a legal history a COMMIT of a put that was served at the home of a key commits what the put wrote there.
 pub fn commits_are_of_each_key()
     ensures { (log : List HistoryEntry) → IsLegal log → CommitsKeys log }
+{}
+
+/// In a legal history each draw is above all that was drawn of its clock before.
+pub fn draws_rise()
+    ensures { (log : List HistoryEntry) → IsLegal log → DrawsRise log }
+{}
+
+/// Who looked at a clock, and found as many entries as it had after a report, has seen what the reporter had seen.
+pub fn clocks_are_seen()
+    ensures { (log : List HistoryEntry) → SeesTold log }
 {}

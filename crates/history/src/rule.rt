@@ -1,5 +1,7 @@
 //! The rule of a history, and the steps that are taken under it.
-use crate::entry::{CallToServe, Decision, HistoryEntry, JoinedClient, StoreToOpen, WriteToBegin};
+use crate::entry::{
+    CallToServe, Decision, Draw, HistoryEntry, JoinedClient, StoreToOpen, WriteToBegin,
+};
 use logbook::{Gain, Opening, Plain, Play, Rule};
 use std::marker::Brand;
 
@@ -49,6 +51,24 @@ impl Play<HistoryEntry, u64> for Add {
     ghost use Rattle.history.specs.Rules.{Adds};
 
     ghost then = { Adds };
+}
+
+/// A step that raises a clock.
+pub struct Raise;
+
+impl Play<HistoryEntry, u64> for Raise {
+    ghost use Rattle.history.specs.Rules.{Raises};
+
+    ghost then = { Raises };
+}
+
+impl Plain<u32, HistoryEntry, u64> for Raise {
+    ghost use Rattle.std.specs.Prelude.{None};
+    ghost use Rattle.history.specs.declared.entry.HistoryEntry.TheVariants.{Passed};
+
+    ghost ask = { λ tenant. Passed tenant };
+
+    ghost state = { λ tenant. None };
 }
 
 /// That a put was refused, as an entry that is added.
@@ -123,6 +143,15 @@ impl Plain<u64, HistoryEntry, u64> for Add {
     ghost ask = { λ word. ReadBegan word };
 
     ghost state = { λ word. None };
+}
+
+impl Plain<Draw, HistoryEntry, u64> for Add {
+    ghost use Rattle.std.specs.Prelude.{None};
+    ghost use Rattle.history.specs.declared.entry.HistoryEntry.TheVariants.{Drew};
+
+    ghost ask = { λ drawn. Drew drawn };
+
+    ghost state = { λ drawn. None };
 }
 
 impl Plain<JoinedClient, HistoryEntry, u64> for Join {

@@ -24,7 +24,7 @@ use Rattle.partition.specs.Journals.{event_exchange, log_after, room_for}
 use Rattle.history.specs.declared.entry.CallToServe.{CallToServe}
 use Rattle.history.specs.declared.entry.HistoryEntry.{HistoryEntry}
 use Rattle.history.specs.Asking.{served_by}
-use Rattle.history.specs.declared.entry.HistoryEntry.TheVariants.{Opened, Joined, Arrived, Began, Decided, GivenUp, ReadBegan, Served}
+use Rattle.history.specs.declared.entry.HistoryEntry.TheVariants.{Opened, Joined, Arrived, Began, Decided, GivenUp, ReadBegan, Drew, Passed, Served}
 use Rattle.plain_store.specs.declared.refusal.Refusal.{Refusal}
 use Rattle.plain_store.specs.declared.refusal.Refusal.TheVariants.{Late, OutOfMemory, NoTenant}
 use Rattle.history.specs.declared.entry.ServedCall.{ServedCall}
@@ -310,6 +310,8 @@ opened_traced (Opened setting ∷ (e ∷ log)) partition opens tenant account is
 opened_traced (Joined member ∷ log) partition opens tenant account is = absurd (cc opens)
 opened_traced (Arrived word ∷ log) partition opens tenant account is = absurd (cc opens)
 opened_traced (ReadBegan word ∷ log) partition opens tenant account is = absurd (cc opens)
+opened_traced (Drew drawn ∷ log) partition opens tenant account is = absurd (cc opens)
+opened_traced (Passed whose ∷ log) partition opens tenant account is = absurd (cc opens)
 opened_traced (Began write ∷ log) partition opens tenant account is = absurd (cc opens)
 opened_traced (Decided decision ∷ log) partition opens tenant account is = absurd (cc opens)
 opened_traced (GivenUp decision ∷ log) partition opens tenant account is = absurd (cc opens)
