@@ -1,5 +1,5 @@
 -- What is answered as done was committed: for the laws of puts.
-use Rattle.std.proofs.Common.{◌≡◌, ◌∙◌, ◌≤◌, ℕ, ◌==◌, ◌&&◌, List, [], ◌∷◌, ◌++◌, Option, Some, None, true, eqb-true, inl, inr, refl, ap, sym, subst, map}
+use Rattle.std.proofs.Common.{◌≡◌, ◌∙◌, ℕ, ◌==◌, List, [], ◌∷◌, ◌++◌, Option, Some, None, true, eqb-true, inl, refl, ap, sym, subst, map}
 use Rattle.std.specs.List.{list_any}
 use Rattle.std.proofs.Math.Logic.{∥∥₁_elim, ∥∥₁_map, ∥∥₁_map₂, ∥∥₁_prop}
 use Rattle.std.proofs.Math.Bridge.{le_prop}
@@ -14,7 +14,7 @@ use Rattle.plain_store.specs.declared.message.Message.{Message}
 use Rattle.plain_store.specs.declared.reading.Reading.{Reading}
 use Rattle.plain_store.specs.History.{Intent as Asked, Writes}
 use Rattle.plain_store.specs.Words.{◌∈◌, Item, Key, Record, Setup, Stamp, home}
-use Rattle.plain_store.specs.Writing.{keys_written, partitions_written, record_for, says_committed, says_prepared}
+use Rattle.plain_store.specs.Writing.{keys_written, partitions_written, says_committed, says_prepared}
 use Rattle.plain_store.proofs.Members.{all_at, any_witness, in_left, in_map, in_right, map_in}
 use Rattle.plain_store.proofs.Seen.{ascending_in}
 use Rattle.entry_list.specs.declared.kinds.Entry.{Entry}
@@ -31,7 +31,7 @@ use Rattle.history.proofs.Shown.{accepted_written}
 use Rattle.shard.specs.Journals.{served_call}
 use Rattle.tenant_sessions.specs.Showing.{IsCallFor}
 use Rattle.hub.specs.Fresh.{AreCommittedIn, IsNotMissed, IsReadFresh}
-use Rattle.hub.specs.Replies.{AreAmong, IsOf, IsReplyIn, IsWriteOf}
+use Rattle.hub.specs.Replies.{IsOf, IsReplyIn, IsWriteOf}
 use Rattle.hub.specs.Sights.{OperationSight}
 use Rattle.hub.proofs.Evidence.{reply_of, says, SaysPrepared, taken_as_prepare}
 

@@ -32,7 +32,7 @@ use Rattle.get_all.specs.Reading.{is_wanted as is_wanted_read}
 use Rattle.entry_list.specs.declared.kinds.Entry.{Entry}
 use Rattle.entry_list.specs.declared.kinds.Entry.TheVariants as kinds
 use Rattle.history.specs.declared.entry.HistoryEntry.{HistoryEntry}
-use Rattle.history.specs.declared.entry.HistoryEntry.TheVariants.{Opened, Joined, Arrived, Began, Decided, GivenUp, ReadBegan, Served}
+use Rattle.history.specs.declared.entry.HistoryEntry.TheVariants.{Opened, Joined, Arrived, Began, Decided, GivenUp, ReadBegan, Drew, Passed, Served}
 use Rattle.history.specs.Fresh.{IsCommittedIn}
 use Rattle.history.specs.Legal.{HasParts, IsLegal}
 use Rattle.history.proofs.Fresh.{committed_in_later, first_get_fresh}
@@ -173,6 +173,8 @@ legal_before (Began write ∷ rest) log parts has pre legal = absurd has
 legal_before (Decided decision ∷ rest) log parts has pre legal = absurd has
 legal_before (GivenUp decision ∷ rest) log parts has pre legal = absurd has
 legal_before (ReadBegan word ∷ rest) log parts has pre legal = absurd has
+legal_before (Drew drawn ∷ rest) log parts has pre legal = absurd has
+legal_before (Passed tenant ∷ rest) log parts has pre legal = absurd has
 legal_before (Served served ∷ rest) log parts has pre legal = absurd has
 
 module _ (sight : OperationSight) (legal : IsLegal sight.seen) (before : List HistoryEntry) (since : HasWith sight.mark sight.seen before)

@@ -1,4 +1,5 @@
 mod Atomic
+pub mod Clocked
 pub mod Counted
 pub mod Entries
 pub mod Given

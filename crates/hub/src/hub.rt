@@ -2,11 +2,13 @@
 ghost use mathlib.Core.List.{IsPrefix};
 ghost use Rattle.stamps.specs.Bounds.{IsParts};
 ghost use Rattle.hub.specs.Hubs.{config_view, AllTraced, IsLeftBy};
+ghost use Rattle.history.specs.Rules.{IsClockOf};
 ghost use Rattle.hub.specs.Registered.{IsDeparture, is_unopened};
 ghost use Rattle.shard.specs.Queues.{unsent};
 ghost use Rattle.shard.specs.UsedAt.{AreUsagesAt, WasElsewhere};
 ghost use Rattle.std.specs.Prelude.{◌≡◌, ◌≤◌, ◌<◌, ◌+◌, ◌↔◌, ◌⊎◌, true, false, [], length, map, slice_get, vec_len, vec_capacity, Ok, IfOk, IfErr, IfSome, OnOk, IsErrOf, IsTrue};
 
+use crate::clocks::Clocks;
 use crate::closing::{look_at_calls, seen_with, take_out};
 use crate::dispatcher::Dispatcher;
 use crate::new_store::NewStore;
@@ -15,7 +17,7 @@ use crate::seal::Sealed;
 use crate::seat::{Ends, Seat};
 use crate::start::{HubFault, PartitionLists, Worker, collector_of, join_all, share, start_all};
 use closed_store::{Closed, Config, Transcript};
-use history::{Front, Naming};
+use history::{Front, Naming, Tally};
 use partition::{Counts, Journal};
 use plain_store::{Reading, Readings, Refusal};
 use shard::{Collector, Gate, JobSender, SeatName, Shard, Sink, TenantUsage};
@@ -53,6 +55,7 @@ pub struct Hub<G: Naming> {
     counts: Vec<Counts>,
     /// Its opening: what each seat has seen of the history at first.
     seen: Front<G>,
+    clocks: Clocks<G>,
 }
 
 impl<G: Naming> Model for Hub<G> {
@@ -91,6 +94,7 @@ impl<G: Gate + Naming + Send + Sync + Drop + 'static> Hub<G> {
         let gate = share(alloc, gate)?;
         let sink = share(alloc, sink)?;
         let mut lists = PartitionLists::of(alloc, parts)?;
+        let mut clocks = Clocks::with_room(alloc, config.limits.len())?;
         let started = start_all(
             rt, alloc, &config, &gate, &sink, &collector, &mut words, &seen, &mut lists,
         );
@@ -107,6 +111,7 @@ impl<G: Gate + Naming + Send + Sync + Drop + 'static> Hub<G> {
             let _ = join_all(rt, threads);
             return Err(fault);
         }
+        clocks.fill(words, config.limits.len());
         Ok(Hub {
             config,
             alloc,
@@ -120,6 +125,7 @@ impl<G: Gate + Naming + Send + Sync + Drop + 'static> Hub<G> {
             journals,
             counts,
             seen,
+            clocks,
         })
     }
 
@@ -158,6 +164,7 @@ impl<G: Gate + Naming + Send + Sync + Drop + 'static> Hub<G> {
             mut journals,
             mut counts,
             seen,
+            clocks: _,
         } = self;
         let mut seen = seen_with(seen, seats);
         drop(queues);
@@ -186,6 +193,13 @@ impl<G: Naming> Hub<G> {
         ensures { result ≡ self.now.epoch }
     {
         self.config.epoch
+    }
+
+    /// The clock of a tenant. None past the last one.
+    pub(crate) fn clock(&self, tenant: u32) -> Option<&Tally<G>>
+        ensures { IfSome result (λ clock. IsClockOf clock.now.key tenant) }
+    {
+        self.clocks.of(tenant)
     }
 
     /// How many partitions it has, 1 to `MAX_PARTS`.

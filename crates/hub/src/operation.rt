@@ -12,14 +12,16 @@ ghost use Rattle.plain_store.specs.declared.answer.Rows.{Rows as Told};
 ghost use Rattle.tenant_sessions.specs.Moves.{moved, is_last, answer_of};
 ghost use Rattle.traced_client.specs.Clients.{IsSameClient};
 ghost use Rattle.hub.specs.Seats.{at_seat, is_final};
+ghost use Rattle.history.specs.Rules.{IsClockOf};
+ghost use Rattle.history.specs.Clock.{IsDrawnBehind};
 
 use crate::dispatcher::{Dispatcher, MOST_CALLS};
 use crate::seat_request::SeatRequest;
 use closed_store::{Entry, EntryList};
-use history::{Front, Mark, Naming};
+use history::{Front, Mark, Naming, Tally};
 use plain_store::{Answer, Call, Message, Readings, Refusal, Reply, Rows};
 use shard::{Fault, Gate, SeatName, SeatReply};
-use stamps::Stamp;
+use stamps::{Counter, Stamp};
 use std::alloc::{AllocError, Global};
 use std::sync::Wait;
 use tenant_sessions::{ClientSession, MoveKind};
@@ -85,6 +87,13 @@ fn sends_commits(taken: &MoveKind) -> bool
     matches!(taken, MoveKind::Decided(_))
 }
 
+/// One below the counter that was drawn, if one was. None past the greatest counter.
+fn counter_below(drawn: Option<u64>) -> Option<Counter>
+    ensures { IfSome result (λ base. drawn ≡ Some (base + 1)) }
+{
+    Counter::new(drawn?.checked_sub(1)?)
+}
+
 /// Writes a refusal into `answer`. Kept out of line, so that no caller reserves stack space for a second `Answer`, of some 3,200
 /// bytes.
 #[cold]
@@ -117,9 +126,9 @@ fn tell_end(taken: &MoveKind, readings: &Readings, answer: &mut Answer)
     }
 }
 
-/// Enters what has begun: a put of the session's client under this stamp, or a read or a search, and answers its mark. What has the mark
-/// of a read or a search has all that stands before its entry. A put has that of no entries. None where the word is not here, or has other
-/// entries than were seen: nothing was entered then.
+/// Enters what has begun in the history: a put of the session's client under this stamp, or a read or a search. It returns the entry's
+/// position, the mark: what has that of a read or a search has all that stands before its entry. For a put it is 0. None is returned, and
+/// nothing entered, if this seat does not hold the client's word, or that has other entries than the seat has seen.
 fn enter_begun<G: Naming>(
     client: &mut Option<TracedClient<G>>,
     seen: &mut Front<G>,
@@ -413,6 +422,32 @@ impl<'a, G: Gate + Naming> RunningOperation<'a, G> {
             × (self.new.mark ≡ self.old.mark) }
     {
         self.seen.learn(other);
+    }
+
+    /// Draws from a clock above the session's counter, and raises that to one below what was drawn. Says whether it did; nothing has
+    /// changed where it did not.
+    pub(crate) fn draw(&mut self, clock: &Tally<G>) -> bool
+        requires clock { IsClockOf clock.now.key self.old.name.tenant }
+        ensures drawn { IsTrue result → IsDrawnBehind self.old.seen self.new.seen
+            (record { tenant = self.old.name.tenant; counter = self.new.session.counter + 1 }) }
+        ensures later { IsPrefix self.old.seen self.new.seen }
+        ensures counter { self.old.session.counter ≤ self.new.session.counter }
+        ensures rest { (self.new.name ≡ self.old.name)
+            × (self.new.dispatcher ≡ self.old.dispatcher)
+            × (self.new.first ≡ self.old.first) × (self.new.entries ≡ self.old.entries)
+            × (self.new.mark ≡ self.old.mark) }
+        ensures unchanged { result ≡ false → self.new ≡ self.old }
+    {
+        let floor = self.session.counter().get();
+        let mut front = self.seen.again();
+        let drawn = front.draw_next(clock, &self.seen, self.name.tenant, floor);
+        let Some(base) = counter_below(drawn) else {
+            return false;
+        };
+        self.learn(&front);
+        let _ = self.session.stop();
+        let _ = self.session.reopen(base);
+        true
     }
 
     /// Hands out the entries so far.

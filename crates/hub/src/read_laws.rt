@@ -1,5 +1,5 @@
 //! What holds of each read and of each put of a seat. Each law is the contract of a function that does nothing.
-ghost use Rattle.std.specs.Prelude.{ℕ, List};
+ghost use Rattle.std.specs.Prelude.{◌≡◌, ◌<◌, ℕ, List};
 ghost use mathlib.Core.List.{IsPrefix};
 ghost use Rattle.entry_list.specs.declared.kinds.Entry.{Entry};
 ghost use Rattle.plain_store.specs.declared.reading.Reading.{Reading};
@@ -8,6 +8,8 @@ ghost use Rattle.history.specs.Legal.{HasParts, IsLegal};
 ghost use Rattle.history.specs.declared.entry.HistoryEntry.{HistoryEntry};
 ghost use Rattle.traced_client.specs.Clients.{HasWith};
 ghost use Rattle.hub.specs.Atomic.{IsReadAtomic};
+ghost use Rattle.shard.specs.declared.seat_name.SeatName.{SeatName};
+ghost use Rattle.hub.specs.Clocks.{IsStampedBehind};
 ghost use Rattle.hub.specs.Fresh.{AreCommittedIn, IsNotMissed, IsReadFresh};
 ghost use Rattle.hub.specs.Replies.{IsListOf, IsReadOf, IsWriteOf};
 ghost use Rattle.hub.specs.Sights.{OperationSight};
@@ -53,6 +55,16 @@ pub fn seat_puts_are_committed()
         → IsLegal sight.seen → HasParts sight.seen setup.partitions
         → IsWriteOf sight setup own items start entries
         → AreCommittedIn sight.seen sight.tenant items own }
+{}
+
+/// The stamp of a put by the clock is above that of each such put of the tenant whose end its seat had seen as it began, whatever keys
+/// both write. Here `between` is what the one's seat had seen at its end, and `seen` what the other's had seen as it began.
+pub fn puts_by_clock_rise()
+    ensures { (first between seen now : List HistoryEntry) (name other : SeatName)
+        (own later : Stamp)
+        → name.client < 65536 → name.tenant ≡ other.tenant
+        → IsStampedBehind first between name own → IsPrefix between seen
+        → IsStampedBehind seen now other later → own < later }
 {}
 
 /// A read that began when its seat had seen the end of such a put does not miss it. Here `seen` is what the put's seat had seen at its

@@ -52,7 +52,7 @@ pub(crate) struct Ends<'a, G: Naming> {
 #[derive(Drop)]
 pub struct Seat<'a, G: Naming> {
     pub(crate) hub: &'a Hub<G>,
-    operation: RunningOperation<'a, G>,
+    pub(crate) operation: RunningOperation<'a, G>,
     ticket: u64,
     stopped: bool,
     ghost answered: { stopped ≡ false → awaited operation.dispatcher ≡ 0 },

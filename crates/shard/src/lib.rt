@@ -1,4 +1,15 @@
 //! What stands at each partition: its book behind a lock, the jobs that wait there, and the worker that serves and cuts.
+//!
+//! Choices:
+//! - Where a call goes is a fact of its type (`SeatCall`): whoever serves it shows that its partition is the home
+//!   of its key.
+//! - The gate's type carries the name of the store's history (`Named`), so no signature has a parameter more.
+//! - What collections keep has a lock of its own, so `close` returns the config with which the hub began.
+//! - A gate's arrival number is drawn before the lock is requested, so two may reach `inside` in the other order.
+//! - Whether a gate counts calls is a constant with a value, which no contract can name. Without a value, a gate of
+//!   `pass` and `inside` alone would not compile; a function with a default body cannot be proved equal to a
+//!   definition of the trait. A stored test stands for it.
+//! - An epoch has an event: without one any stretch would fit it, and so would an epoch of another store.
 #![tactic(auto)]
 
 mod collections;

@@ -14,7 +14,7 @@ use plain_store::Call;
 /// The seat of the collector.
 const COLLECTOR: u64 = 0;
 
-/// How far a round has come. `take_turn` alone takes it further, by one tenant each.
+/// How far a round has come. `collect_next` alone takes it further, by one tenant each.
 #[derive(Drop)]
 pub struct Round {
     /// Whose turn it is next.

@@ -126,7 +126,7 @@ impl CallState {
 }
 
 impl FollowUp {
-    /// Nothing.
+    /// Nothing is due.
     pub fn nothing() -> FollowUp
         ensures { (result.collects ≡ false) × (result.cuts ≡ false) }
     {
@@ -173,7 +173,7 @@ impl<J: Naming> Shard<J> {
         self.state.try_lock()
     }
 
-    /// Waits for the lock.
+    /// Locks the state, and blocks as long as another thread has it.
     pub fn lock<R: Wait>(&self, rt: &R) -> MutexGuard<'_, ShardState<J>>
         ensures { HasItsJournals (mutex_guard_value result) }
     {

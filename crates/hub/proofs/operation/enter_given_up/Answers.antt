@@ -1,4 +1,4 @@
-use Rattle.std.proofs.Common.{◌≡◌, ◌∙◌, List, ap, sym, subst, refl}
+use Rattle.std.proofs.Common.{◌≡◌, List, sym, subst, refl}
 use Rattle.plain_store.specs.Words.{◌∈◌}
 use Rattle.history.specs.declared.entry.HistoryEntry.{HistoryEntry}
 use Rattle.history.specs.declared.entry.HistoryEntry.TheVariants.{GivenUp}

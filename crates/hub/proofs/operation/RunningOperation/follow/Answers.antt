@@ -1,4 +1,4 @@
-use Rattle.std.proofs.Common.{◌≡◌, ◌≤◌, ◌+◌, ◌∙◌, [], ap, refl, sym, subst, arith}
+use Rattle.std.proofs.Common.{◌≡◌, ◌≤◌, ◌+◌, ◌∙◌, ap, refl, sym, subst, arith}
 use mathlib.Core.List.{IsPrefix}
 use Rattle.history.proofs.Lists.{prefix_join, prefix_of_itself}
 use Rattle.tenant_sessions.specs.CallsLeft.{calls_left, calls_sent, calls_waiting}

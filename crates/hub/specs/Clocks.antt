@@ -1,0 +1,43 @@
+-- What a put does whose stamp the clock of its tenant gives.
+use Rattle.std.specs.Prelude.{◌≡◌, ◌↔◌, ◌<◌, ◌≤◌, ℕ, true, false, List}
+use mathlib.Core.List.{IsPrefix}
+use Rattle.stamps.specs.Stamp.{stamp}
+use Rattle.stamps.specs.declared.record.Item.{Item}
+use Rattle.plain_store.specs.declared.answer.Answer.{Answer}
+use Rattle.plain_store.specs.declared.answer.Answer.TheVariants.{Refused}
+use Rattle.plain_store.specs.declared.refusal.Refusal.TheVariants.{RowsUsed, Stopped}
+use Rattle.plain_store.specs.Words.{Stamp}
+use Rattle.history.specs.declared.entry.HistoryEntry.{HistoryEntry}
+use Rattle.history.specs.Clock.{IsDrawnBehind}
+use Rattle.shard.specs.declared.seat_name.SeatName.{SeatName}
+use Rattle.hub.specs.Fresh.{AreCommittedIn}
+use Rattle.hub.specs.Limits.{last_call, max_calls}
+use Rattle.hub.specs.Operations.{IsLater}
+use Rattle.hub.specs.ReadsFirst.{IsWrittenBy}
+use Rattle.hub.specs.Replies.{IfDone}
+use Rattle.hub.specs.Seats.{SeatView}
+
+-- The seat has seen more of the history, and its counter may have been raised. The rest of it is as it was.
+pub record HasLooked (old new : SeatView) : Type 0 where
+  pub seen : IsPrefix old.seen new.seen
+  pub counter : old.counter ≤ new.counter
+  pub rest : new ≡ record old { counter = new.counter; seen = new.seen }
+
+-- The stamp is the client's under a counter that was drawn from the tenant's clock, behind all that was seen before.
+pub record IsStampedBehind (old seen : List HistoryEntry) (name : SeatName) (own : Stamp) : Type 0 where
+  pub counter : ℕ
+  pub stamped : own ≡ stamp counter name.client
+  pub drawn : IsDrawnBehind old seen (record { tenant = name.tenant; counter = counter })
+
+-- What a put does whose stamp its tenant's clock gives. The seat looked at the clock, and wrote the items then, or was refused. That it is
+-- done says that its stamp was drawn behind all that the seat had seen, above whatever was drawn before. It is refused because the
+-- seat was stopped just where it was, and where its calls were used up.
+pub record PutsByClock (items : List Item) (old : SeatView) (answer : Answer) (new : SeatView) : Type 0 where
+  pub between : SeatView
+  pub looked : HasLooked old between
+  pub written : IsWrittenBy items between answer new
+  pub later : IsLater max_calls old new
+  pub stopped : (answer ≡ Refused Stopped) ↔ (old.stopped ≡ true)
+  pub used_up : (old.stopped ≡ false) × (last_call < old.sent) → answer ≡ Refused RowsUsed
+  pub drawn : IfDone answer (IsStampedBehind old.seen new.seen old.name)
+  pub committed : IfDone answer (AreCommittedIn new.seen new.name.tenant items)
