@@ -78,8 +78,8 @@ CLIENT is 1 to 65535, and K 1 to 255. KEY is 1 to 32 bytes of a-z 0-9 _ . / -, T
 VALUE up to 128 bytes that are no space.
 
 After the last connection, and with --stay once standard input has ended, a line is printed for each tenant:
-  settled TENANT yes                its answers were those of one list of its steps, or
-  settled TENANT no                 no such list was found, and the status is 1
+  settled TENANT yes                some one-at-a-time order of its requests gives the same answers, or
+  settled TENANT no                 no such order was found, and the status is 1
 With --epoch it is instead:
   checked TENANT yes                each reply was the one after the calls before it, at each partition, or
   checked TENANT no                 one was not, and the status is 1
@@ -100,8 +100,8 @@ const LOAD_ABOUT: &str =
 
 const LOAD_LINES: &str = "Lines that are printed, first the one for each tenant, and then the other:
   load TENANT puts N gets N finds N   how many operations its seats began
-  settled TENANT yes                  its answers were those of one list of its steps, or
-  settled TENANT no                   no such list was found, and the status is 1
+  settled TENANT yes                  some one-at-a-time order of its requests gives the same answers, or
+  settled TENANT no                   no such order was found, and the status is 1
 
 With --epoch all epochs are joined before they are settled; where they do not join, each line says no.
 
@@ -278,7 +278,9 @@ fn newest<'a>(alloc: Global) -> Arg<'a>
     Arg::new(alloc, NEWEST)
         .long(NEWEST)
         .action(ArgAction::SetTrue)
-        .help("Have each put read its keys first, so that it is newer than what was done there")
+        .help(
+            "Have each put be newer than what was done: by a clock where journals are cut, else by reading its keys first",
+        )
 }
 
 // Whether it records nothing.

@@ -1,4 +1,8 @@
 //! What the words of the program ask for, as clap reads them.
+//!
+//! Choices:
+//! - Help is an answer, its text open.
+//! - A help text repeats its range: `clap` takes texts that are known as the program is compiled.
 #![tactic(auto)]
 
 mod command;

@@ -99,13 +99,13 @@ pub(crate) const NEWEST: &str = "newest";
 /// The option of a server that records nothing.
 pub(crate) const UNRECORDED: &str = "unrecorded";
 
-/// How many calls may wait at a partition.
+/// How many calls may wait at a partition for the cut of a full journal. Without epochs no journal is full.
 pub(crate) const QUEUE: NumberOption = NumberOption {
     name: "queue",
     default: "64",
     least: 1,
     most: 1024,
-    help: "How many calls may wait at a partition, 1 to 1024",
+    help: "How many calls may wait at a partition for the cut of a full journal, 1 to 1024; without epochs none does",
 };
 
 /// After how many calls a partition is collected.

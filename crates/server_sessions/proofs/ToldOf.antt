@@ -19,6 +19,8 @@ use Rattle.entry_list.specs.declared.kinds.Entry.{Entry}
 use Rattle.entry_list.specs.declared.kinds.Entry.TheVariants.{Began}
 use Rattle.plain_store.specs.Writing.{keys_written}
 use Rattle.hub.specs.Limits.{max_calls}
+use Rattle.hub.specs.Operations.{IsLater}
+use Rattle.hub.specs.Clocks.{PutsByClock}
 use Rattle.hub.specs.ReadsFirst.{IsReadAndWritten, IsWrittenBy}
 use Rattle.hub.specs.Seats.{SeatView, Follows, IsEntered, IsLeftBy, IsNamed, IsStopped, answer_in, is_of_worker, is_unrecorded, sight}
 use Rattle.shard.specs.declared.seat_name.SeatName.{SeatName}
@@ -29,7 +31,7 @@ use Rattle.line_protocol.specs.declared.request.Request.TheVariants.{Hello, Put,
 use Rattle.line_runs.specs.RunAnswers.{Gathers}
 use Rattle.server_sessions.specs.Answered.{IsOfSeat}
 use Rattle.server_sessions.specs.Histories.{IsGivenIn}
-use Rattle.server_sessions.specs.SeatAnswers.{AreGiven, IsAnswered, IsAnsweredAndDrained, IsDrained, IsFresh, IsPut, IsServedWith, IsToldBySeat, IsToldNext, Nothing, OneMore, ReportsFind, ReportsGet, Returned, refusals_text}
+use Rattle.server_sessions.specs.SeatAnswers.{AreGiven, HasCommitted, IsAnswered, IsAnsweredAndDrained, IsDrained, IsFresh, IsPut, IsServedWith, IsToldBySeat, IsToldNext, Nothing, OneMore, ReportsFind, ReportsGet, Returned, refusals_text}
 use Rattle.server_sessions.specs.Telling.{Telling, Entered, Refuses, KeepsSo, answer_told, answer_untold, answers_entered, tellings_text, IsLeftOf, IsReplaced, HasHeard, WasHeard, WasTold, Tells, HasTold, SessionLeft, IsLastLine, IsWritten, IsBegun, BreaksTelling, HasName, IsSeated, seat_tenant}
 use Rattle.server_sessions.proofs.SeatsGiven.{drained_name, given_at_end, given_drained, given_fresh, given_later}
 use Rattle.line_runs.proofs.Fronts.{begins_behind_gathered}
@@ -312,12 +314,34 @@ told_both epoch items old between new answer both name drained = go both.written
         let served : IsLeftBy get answer old between = subst (λ (a : Answer). IsLeftBy get a old between) (sym same) (subst (λ (v : SeatView). IsLeftBy get both.told old v) (sym stays) left) in
         told_served true epoch old between new get answer (inr served) name drained
 
+-- what a put is answered whose stamp the clock gave: what was heard of the seat was heard of it when it had looked at the clock
+told_clocked : (epoch : ℕ) (items : List Item) (old between new : SeatView) (answer : Answer) → PutsByClock items old answer between → between.name.counter ≡ old.name.counter
+    → IsDrained epoch between new → Hears true epoch old new (answer_line answer)
+told_clocked epoch items old between new answer put name drained told h =
+    let drawn = put.between in
+    let act = PutAct drawn.name.client items in
+    let same : drawn.name.counter ≡ old.name.counter = ap (λ (s : SeatView). s.name.counter) put.looked.rest in
+    told_served true epoch drawn between new act answer (served_by act drawn between answer put.written.entered) (name ∙ sym same) drained told
+    (subst (λ (s : SeatView). WasHeard true epoch s told) (sym put.looked.rest) h)
+
+-- so of one that is to be newest
+pub clocked : (epoch : ℕ) (items : List Item) (old new : SeatView) (answer : Answer) → (epoch ≡ 0 → ⊥) → PutsByClock items old answer new → IsPut true epoch items old answer new
+clocked zero items old new answer cut put = absurd (cut refl)
+clocked (suc epoch) items old new answer cut put = put
+
+-- and of one that reads first
+pub newest_zero : (epoch : ℕ) (items : List Item) (old new : SeatView) (answer : Answer) → epoch ≡ 0 → IsReadAndWritten items old answer new × IsLater (2 * max_calls) old new × HasCommitted items answer new
+    → IsPut true epoch items old answer new
+newest_zero zero items old new answer is put = put
+newest_zero (suc epoch) items old new answer is put = absurd (cc is)
+
 -- what any put is answered
-told_put : (newest : Bool) (epoch : ℕ) (items : List Item) (old between new : SeatView) (answer : Answer) → IsPut newest items old answer between → between.name.counter ≡ old.name.counter
+told_put : (newest : Bool) (epoch : ℕ) (items : List Item) (old between new : SeatView) (answer : Answer) → IsPut newest epoch items old answer between → between.name.counter ≡ old.name.counter
     → IsDrained epoch between new → Hears newest epoch old new (answer_line answer)
 told_put false epoch items old between new answer h name drained =
     told_served false epoch old between new (PutAct old.name.client items) answer (served_by (PutAct old.name.client items) old between answer h.operated.entered) name drained
-told_put true epoch items old between new answer h name drained = told_both epoch items old between new answer h.0 name drained
+told_put true zero items old between new answer h name drained = told_both zero items old between new answer h.0 name drained
+told_put true (suc epoch) items old between new answer h name drained = told_clocked (suc epoch) items old between new answer h name drained
 
 -- what `keep` is answered
 told_keep : (newest : Bool) (epoch keep : ℕ) (old between new : SeatView) (answer : Answer) (there : Bool) → answer ≡ cond there (KeepsMany keep) (Refused NoTenant) → between ≡ old
@@ -328,7 +352,7 @@ told_keep newest epoch keep old between new answer false is same drained =
     subst (λ (a : Answer). Hears newest epoch old new (answer_line a)) (sym is) (told_aside newest epoch old between new (Refuses None NoTenant) refl refl same drained)
 
 -- what any request is answered
-told_answered : (newest : Bool) (epoch tenants : ℕ) (request : Request) (old between new : SeatView) (answer : Answer) → IsAnswered newest tenants request old answer between
+told_answered : (newest : Bool) (epoch tenants : ℕ) (request : Request) (old between new : SeatView) (answer : Answer) → IsAnswered newest epoch tenants request old answer between
     → between.name.counter ≡ old.name.counter → IsDrained epoch between new → Hears newest epoch old new (answer_line answer)
 told_answered newest epoch tenants (Hello name client base) old between new answer h counter drained =
     subst (λ (a : Answer). Hears newest epoch old new (answer_line a)) (sym h.0) (told_aside newest epoch old between new (Refuses None Busy) refl refl h.1 drained)
@@ -372,21 +396,22 @@ told_drained newest epoch old new drained told h =
 abbrev Says : Bool → ℕ → SeatView → SeatView → List ℕ → Type 0
 Says newest epoch old new text = (told : List ℕ) → IsToldBySeat newest epoch old told → IsToldBySeat newest epoch new (told ++ text)
 
-given_put : (newest : Bool) (items : List Item) (old new : SeatView) (answer : Answer) → IsPut newest items old answer new → AreGiven old → AreGiven new
-given_put false items old new answer put given = given_later max_calls old new put.operated.later given
-given_put true items old new answer put given = given_later (2 * max_calls) old new put.1 given
+given_put : (newest : Bool) (epoch : ℕ) (items : List Item) (old new : SeatView) (answer : Answer) → IsPut newest epoch items old answer new → AreGiven old → AreGiven new
+given_put false epoch items old new answer put given = given_later max_calls old new put.operated.later given
+given_put true zero items old new answer put given = given_later (2 * max_calls) old new put.1 given
+given_put true (suc epoch) items old new answer put given = given_later max_calls old new put.later given
 
-given_answered : (newest : Bool) (tenants : ℕ) (request : Request) (old new : SeatView) (answer : Answer) → IsAnswered newest tenants request old answer new → AreGiven old → AreGiven new
-given_answered newest tenants (Hello name client base) old new answer h given = subst AreGiven (sym h.1) given
-given_answered newest tenants (Put items) old new answer h given = given_put newest items old new answer h given
-given_answered newest tenants (Get keys) old new answer h given = given_later max_calls old new h.operated.later given
-given_answered newest tenants (Find tag) old new answer h given = given_later max_calls old new h.operated.later given
-given_answered newest tenants (Keep keep) old new answer h given = subst AreGiven (sym h.1) given
-given_answered newest tenants Bye old new answer h given = absurd h
+given_answered : (newest : Bool) (epoch tenants : ℕ) (request : Request) (old new : SeatView) (answer : Answer) → IsAnswered newest epoch tenants request old answer new → AreGiven old → AreGiven new
+given_answered newest epoch tenants (Hello name client base) old new answer h given = subst AreGiven (sym h.1) given
+given_answered newest epoch tenants (Put items) old new answer h given = given_put newest epoch items old new answer h given
+given_answered newest epoch tenants (Get keys) old new answer h given = given_later max_calls old new h.operated.later given
+given_answered newest epoch tenants (Find tag) old new answer h given = given_later max_calls old new h.operated.later given
+given_answered newest epoch tenants (Keep keep) old new answer h given = subst AreGiven (sym h.1) given
+given_answered newest epoch tenants Bye old new answer h given = absurd h
 
 given_next : (newest : Bool) (epoch : ℕ) (old new : SeatView) (answer : Answer) → IsToldNext newest epoch old answer new → AreGiven old → AreGiven new
 given_next newest epoch old new answer (inl (tenants, request, (between, answered, named, drained))) given =
-    given_drained epoch between new drained (given_answered newest tenants request old between answer answered given)
+    given_drained epoch between new drained (given_answered newest epoch tenants request old between answer answered given)
 given_next newest epoch old new answer (inr (cause, is, same)) given = subst AreGiven (sym same) given
 
 named_next : (newest : Bool) (epoch : ℕ) (old new : SeatView) (answer : Answer) → IsToldNext newest epoch old answer new → new.name ≡ old.name
@@ -448,20 +473,20 @@ left_by newest epoch old seat new is drained =
 
 -- ---- the same of the request that asked for it
 
-pub asked_put : (newest : Bool) (tenants : ℕ) (request : Request) (items given : List Item) (old new : SeatView) (answer : Answer) → request ≡ Put items → given ≡ items
-    → IsPut newest given old answer new → IsAnswered newest tenants request old answer new
-asked_put newest tenants request items given old new answer is same served =
-    subst (λ (r : Request). IsAnswered newest tenants r old answer new) (sym is) (subst (λ (xs : List Item). IsPut newest xs old answer new) same served)
+pub asked_put : (newest : Bool) (epoch tenants : ℕ) (request : Request) (items given : List Item) (old new : SeatView) (answer : Answer) → request ≡ Put items → given ≡ items
+    → IsPut newest epoch given old answer new → IsAnswered newest epoch tenants request old answer new
+asked_put newest epoch tenants request items given old new answer is same served =
+    subst (λ (r : Request). IsAnswered newest epoch tenants r old answer new) (sym is) (subst (λ (xs : List Item). IsPut newest epoch xs old answer new) same served)
 
-pub asked_get : (newest : Bool) (tenants : ℕ) (request : Request) (keys given : List (List ℕ)) (old new : SeatView) (answer : Answer) → request ≡ Get keys → given ≡ keys
-    → IsServedWith (GetAct old.name.client given) (ReportsGet given) old answer new → IsAnswered newest tenants request old answer new
-asked_get newest tenants request keys given old new answer is same served =
-    subst (λ (r : Request). IsAnswered newest tenants r old answer new) (sym is)
+pub asked_get : (newest : Bool) (epoch tenants : ℕ) (request : Request) (keys given : List (List ℕ)) (old new : SeatView) (answer : Answer) → request ≡ Get keys → given ≡ keys
+    → IsServedWith (GetAct old.name.client given) (ReportsGet given) old answer new → IsAnswered newest epoch tenants request old answer new
+asked_get newest epoch tenants request keys given old new answer is same served =
+    subst (λ (r : Request). IsAnswered newest epoch tenants r old answer new) (sym is)
     (subst (λ (xs : List (List ℕ)). IsServedWith (GetAct old.name.client xs) (ReportsGet xs) old answer new) same served)
 
-pub asked_find : (newest : Bool) (tenants : ℕ) (request : Request) (tag : List ℕ) (old new : SeatView) (answer : Answer) → request ≡ Find tag
-    → IsServedWith (FindAct old.name.client tag) (ReportsFind tag) old answer new → IsAnswered newest tenants request old answer new
-asked_find newest tenants request tag old new answer is served = subst (λ (r : Request). IsAnswered newest tenants r old answer new) (sym is) served
+pub asked_find : (newest : Bool) (epoch tenants : ℕ) (request : Request) (tag : List ℕ) (old new : SeatView) (answer : Answer) → request ≡ Find tag
+    → IsServedWith (FindAct old.name.client tag) (ReportsFind tag) old answer new → IsAnswered newest epoch tenants request old answer new
+asked_find newest epoch tenants request tag old new answer is served = subst (λ (r : Request). IsAnswered newest epoch tenants r old answer new) (sym is) served
 
 -- what was gathered is written
 pub Gathers-emptied : (a b c : Option (List ℕ)) (x y z text : List ℕ) → Gathers a b x y text → Appends b c y → z ≡ [] → Gathers a c x z text

@@ -9,5 +9,6 @@ pub mod Listened
 pub mod Ports
 pub mod Places
 pub mod Peers
+pub mod LineTiming
 pub mod Passing
 pub mod Promised

@@ -84,7 +84,8 @@ pub(crate) fn put_answer(answer: &Given, out: &mut BytesMut)
     line_runs::put_answer(&answer.answer, out);
 }
 
-/// Answers a request by a seat, and says whether it is answered. Newest: whether a put reads its keys first.
+/// Answers a request by a seat, and says whether it is answered. Newest: whether a put is above what is there, by the clock; where no
+/// journal is cut it reads its keys for that, so that transcripts can be settled.
 pub(crate) fn ask_seat<G: Gate + Naming, H: Wait>(
     rt: &H,
     hub: &Hub<G>,
@@ -94,7 +95,8 @@ pub(crate) fn ask_seat<G: Gate + Naming, H: Wait>(
     answer: &mut Given,
 ) -> bool
     ensures answered { result ≡ true
-        → IsAnswered newest (length hub.now.limits) request.now seat.old answer.new seat.new }
+        → IsAnswered newest hub.now.epoch (length hub.now.limits) request.now seat.old answer.new
+        seat.new }
     ensures bye { result ≡ false → (request.now ≡ Bye) × (seat.new ≡ seat.old) }
     ensures name { seat.new.name ≡ seat.old.name }
 {
@@ -105,11 +107,15 @@ pub(crate) fn ask_seat<G: Gate + Naming, H: Wait>(
         }
         Request::Put(items) => {
             let items = items.as_slice();
-            if newest {
+            if !newest {
+                seat.put_all_into(rt, items, &mut answer.answer);
+                return true;
+            }
+            if hub.epoch() == 0 {
                 seat.put_newest_into(rt, items, &mut answer.answer);
                 return true;
             }
-            seat.put_all_into(rt, items, &mut answer.answer);
+            seat.put_by_clock_into(rt, items, &mut answer.answer);
             true
         }
         Request::Get(keys) => {

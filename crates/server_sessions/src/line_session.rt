@@ -103,8 +103,8 @@ fn transcript_of<G: Naming>(left: Option<SessionLeft<G>>) -> Option<Transcript>
 /// the writer is flushed before a line is answered: one that fails there has nobody who would take the answer, and no more
 /// lines are answered.
 ///
-/// `hello` opens a seat of the hub, and `put`, `get` and `find` are answered by it. Where puts are to be newest, each reads its keys first
-/// (`Seat::put_newest`), which is not told. `keep` sets how many versions a collection of its tenant keeps. Before the seat is there these
+/// `hello` opens a seat of the hub, and `put`, `get` and `find` are answered by it. With `newest` each put first reads its keys
+/// (`Seat::put_newest`); the client is not sent that read. `keep` sets how many versions a collection of its tenant keeps. Before the seat is there these
 /// four are refused 11. A `hello` where the connection has a seat is refused 12, and changes nothing. A line that is none of a session's is
 /// refused 40, and the session goes on; but where it is strict and has no seat, that ends it. `bye` ends it too, and so do a line that is
 /// too long (41), an input that ends within a line (42) and an allocation failure (30), but as the answer to `hello`. However it ends, its

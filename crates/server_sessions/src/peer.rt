@@ -4,11 +4,13 @@ ghost use Rattle.std.specs.Io.{ReadsAtMost, WritesAtMost};
 ghost use Rattle.std.specs.Io.KnownBytes.{Keeps, ReadConsumes, WriteAppends};
 ghost use Rattle.server_sessions.specs.Peers.{flushes_left};
 
+use crate::line_times::LineClock;
 use crate::session_count::SessionCount;
 use std::io::{self, ErrorKind, Read, Write};
 use std::net::{Shutdown, TcpStream};
 use std::sync::atomic::{AtomicBool, Ordering};
 use std::thread;
+use std::time::Clock;
 
 /// How many flushes there are from one look whether the peer is gone to the next, where nothing is written between them.
 const FLUSHES_A_LOOK: u32 = 16;
@@ -25,8 +27,8 @@ const PASSED: u32 = 2048;
 /// The peer of a connection. A read fails once sessions are to end: no line is cut by that, and none is answered so. A flush fails
 /// once the peer is known to be gone, or is waited for no longer. A look is a call of the system, so not each flush takes one: the first one behind
 /// a write does, and then one of 16.
-#[derive(Clone, Copy, Drop)]
-pub(crate) struct Peer<'s> {
+#[derive(Drop)]
+pub(crate) struct Peer<'s, H> {
     pub(crate) stream: &'s TcpStream,
     /// Whether nothing more is read.
     pub(crate) is_last: &'s AtomicBool,
@@ -36,9 +38,11 @@ pub(crate) struct Peer<'s> {
     pub(crate) unlooked: u32,
     /// How many sessions there are, of which this is one.
     pub(crate) count: &'s SessionCount,
+    /// By which the times of its lines are noted.
+    pub(crate) clock: &'s LineClock<'s, H>,
 }
 
-impl Peer<'_> {
+impl<H: Clock> Peer<'_, H> {
     /// Whether this flush takes a look.
     fn is_look(&mut self) -> bool
         ensures look { IsTrue result ↔ (self.old.unlooked ≡ 0) }
@@ -61,10 +65,12 @@ impl Peer<'_> {
         if self.count.are_few()
             && let Some(taken) = look(self.stream, buf)
         {
+            self.clock.came();
             return taken;
         }
         let mut stream = self.stream;
         let taken = stream.read(buf)?;
+        self.clock.came();
         if taken >= MUCH {
             thread::yield_now();
         }
@@ -116,7 +122,7 @@ fn look_often(stream: &TcpStream, buf: &mut [u8]) -> Option<io::Result<usize>>
     None
 }
 
-impl Read for Peer<'_> {
+impl<H: Clock> Read for Peer<'_, H> {
     fn read(&mut self, buf: &mut [u8]) -> io::Result<usize>
         ensures bound { ReadsAtMost result buf.new }
         ensures bytes { ReadConsumes None None result buf.new }
@@ -134,7 +140,7 @@ impl Read for Peer<'_> {
     }
 }
 
-impl Write for Peer<'_> {
+impl<H: Clock> Write for Peer<'_, H> {
     fn write(&mut self, buf: &[u8]) -> io::Result<usize>
         ensures bound { WritesAtMost result buf.now }
         ensures bytes { WriteAppends None None result buf.now }
@@ -143,7 +149,9 @@ impl Write for Peer<'_> {
     {
         self.unlooked = 0;
         let mut stream = self.stream;
-        stream.write(buf)
+        let taken = stream.write(buf)?;
+        self.clock.wrote(&buf[..taken]);
+        Ok(taken)
     }
 
     fn flush(&mut self) -> io::Result<()>

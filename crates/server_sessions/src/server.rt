@@ -10,6 +10,7 @@ ghost use Rattle.server_sessions.specs.Ports.{IsServerOf, answers_of, count_of, 
 use crate::answer_counts::AnswerCounts;
 use crate::kept_transcripts::KeptTranscripts;
 use crate::line_session::SessionLeft;
+use crate::line_times::{LineClock, LineTimes};
 use crate::listener::{Accept, passes};
 use crate::peer::Peer;
 use crate::served::{Connections, Left, Receipt, ServedConnections};
@@ -39,6 +40,7 @@ pub struct Server<L, G: Naming> {
     stays: bool,
     options: SessionOptions,
     answers: AnswerCounts,
+    times: LineTimes,
     served: Mutex<ServedConnections<G>>,
     changed: Condvar,
     /// Whether no more is accepted or read.
@@ -87,6 +89,7 @@ impl<L, G: Naming> Server<L, G> {
         let stays = left.is_none();
         let served = ServedConnections::new(alloc, sessions, left, kept)?;
         let answers = AnswerCounts::new(alloc)?;
+        let times = LineTimes::new(alloc)?;
         Ok(Server {
             alloc,
             listener,
@@ -97,6 +100,7 @@ impl<L, G: Naming> Server<L, G> {
                 newest: false,
             },
             answers,
+            times,
             served: Mutex::new(served),
             changed: Condvar::new(),
             is_ending: AtomicBool::new(false),
@@ -138,6 +142,7 @@ impl<L, G: Naming> Server<L, G> {
             stays: _,
             options: _,
             answers,
+            times: _,
             served,
             changed: _,
             is_ending: _,
@@ -175,11 +180,19 @@ impl<L, G: Naming> Server<L, G> {
         &self.answers
     }
 
-    /// The peer of a connection that it serves.
-    pub(crate) fn peer<'s>(&'s self, stream: &'s TcpStream) -> Peer<'s>
-        ensures stream { result.stream.now ≡ stream.now }
-        ensures looks { result.unlooked ≡ 0 }
-        ensures count { result.count.now ≡ count_of self.now }
+    /// How long the lines of its sessions took.
+    pub fn times(&self) -> &LineTimes {
+        &self.times
+    }
+
+    /// The peer of a connection that it serves, whose lines' times are noted by this clock.
+    pub(crate) fn peer<'s, H>(
+        &'s self,
+        stream: &'s TcpStream,
+        clock: &'s LineClock<'s, H>,
+    ) -> Peer<'s, H>
+        ensures { (result.stream.now ≡ stream.now) × (result.unlooked ≡ 0)
+            × (result.count.now ≡ count_of self.now) × (result.clock.now ≡ clock.now) }
     {
         Peer {
             stream,
@@ -187,6 +200,7 @@ impl<L, G: Naming> Server<L, G> {
             is_cut: &self.is_cut,
             unlooked: 0,
             count: &self.count,
+            clock,
         }
     }
 

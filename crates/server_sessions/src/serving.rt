@@ -6,6 +6,7 @@ ghost use Rattle.server_sessions.specs.Histories.{IsGivenIn};
 ghost use Rattle.server_sessions.specs.Ports.{listener_of, stays_of};
 
 use crate::line_session::{SessionLeft, run_session_as};
+use crate::line_times::LineClock;
 use crate::listener::Accept;
 use crate::served::Receipt;
 use crate::server::Server;
@@ -132,7 +133,7 @@ fn accept_all<J: Naming + Send + Sync, H: Threads + Wait + Clock + Sync, L: Acce
 
 // Answers one connection's lines. Its seat has ended before the stream is closed, so that its client may connect again
 // at once.
-fn serve_connection<J: Naming, H: Wait, L>(
+fn serve_connection<J: Naming, H: Wait + Clock, L>(
     rt: &H,
     alloc: Global,
     hub: &OpenHub<J>,
@@ -146,8 +147,9 @@ fn serve_connection<J: Naming, H: Wait, L>(
     let (place, stream) = entered;
     // A stream that can't be told so only answers later.
     let _ = stream.set_nodelay(true);
-    let mut reader = server.peer(&stream);
-    let mut writer = reader;
+    let clock = LineClock::new(rt, server.times());
+    let mut reader = server.peer(&stream, &clock);
+    let mut writer = server.peer(&stream, &clock);
     let options = server.options();
     let counts = Some(server.answers());
     server.count().begin();

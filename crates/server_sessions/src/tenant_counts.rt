@@ -67,7 +67,7 @@ impl TenantCounts {
         }
     }
 
-    /// Counts one.
+    /// Adds one to a tenant's count of this kind. Any thread may.
     pub(crate) fn count(&self, tenant: u32, what: TenantCount) {
         if let Some(count) = self.counts.get(place_of(tenant, what)) {
             count.fetch_add(1, Ordering::SeqCst);

@@ -81,7 +81,7 @@ pub fn tell_all<J: Judge, W: Write>(
     }
 }
 
-/// The name at a place.
+/// The name of the tenant of this number, from 0.
 pub fn name_at(names: &[Name], place: usize) -> Name
     requires { place < length names.now }
     ensures { slice_get names.now place ≡ Some result }

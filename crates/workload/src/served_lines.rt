@@ -52,7 +52,7 @@ fn write_served<W: Write>(
     Ok(write_text(writer, line.as_slice())?)
 }
 
-/// That line.
+/// The line of a tenant, with its LF.
 fn line_of(alloc: Global, name: Name, counts: ServedCounts) -> Result<Vec<u8>, AllocError>
     ensures { IfOk result (λ line. line.items ≡ served_line name counts) }
 {
