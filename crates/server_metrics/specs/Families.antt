@@ -4,7 +4,7 @@ use Rattle.server_metrics.specs.declared.families.Family.{Family}
 use Rattle.server_metrics.specs.declared.families.Family.TheVariants.{Items, ItemsLimit, Versions, VersionsLimit}
 use Rattle.server_metrics.specs.declared.families.Family.TheVariants.{Marks, MarksLimit, Calls, Cut, Checked}
 use Rattle.server_metrics.specs.declared.families.Family.TheVariants.{Waiting, Wrong, Clients, ClientsLimit, Sessions, Operations}
-use Rattle.server_metrics.specs.declared.families.Family.TheVariants.{Refusals, HellosBusy, Restarts, Collections, Connections}
+use Rattle.server_metrics.specs.declared.families.Family.TheVariants.{Refusals, HellosBusy, Restarts, Times, Collections, Connections}
 use Rattle.server_metrics.specs.declared.families.Family.TheVariants.{ConnectionsLimit, ConnectionsBegun}
 use Rattle.server_metrics.specs.declared.families.Family.TheVariants.{Started, Build}
 
@@ -28,6 +28,7 @@ name_text Operations = codes "ramp_operations_total"
 name_text Refusals = codes "ramp_refusals_total"
 name_text HellosBusy = codes "ramp_hellos_busy_total"
 name_text Restarts = codes "ramp_restarts_total"
+name_text Times = codes "ramp_line_seconds"
 name_text Collections = codes "ramp_collections_total"
 name_text Connections = codes "ramp_connections"
 name_text ConnectionsLimit = codes "ramp_connections_limit"
@@ -55,6 +56,7 @@ help_text Operations = codes "Lines put, get and find of a tenant that were answ
 help_text Refusals = codes "Lines of sessions that were answered by this refusal, but 12."
 help_text HellosBusy = codes "Lines hello that were refused 12, since the client number has a session: clients then draw another."
 help_text Restarts = codes "Lines of sessions that were answered by a restart."
+help_text Times = codes "How long lines took, from the read that brought them to the write of their answers."
 help_text Collections = codes "Collections of a tenant at a partition."
 help_text Connections = codes "Connections that are served now."
 help_text ConnectionsLimit = codes "Connections that are served at a time."
@@ -82,6 +84,7 @@ kind_text Operations = codes " counter\n"
 kind_text Refusals = codes " counter\n"
 kind_text HellosBusy = codes " counter\n"
 kind_text Restarts = codes " counter\n"
+kind_text Times = codes " histogram\n"
 kind_text Collections = codes " counter\n"
 kind_text Connections = codes " gauge\n"
 kind_text ConnectionsLimit = codes " gauge\n"

@@ -2,6 +2,7 @@ pub mod Requests
 pub mod Responses
 pub mod Families
 pub mod Figures
+pub mod TimesText
 pub mod MetricsText
 pub mod Health
 pub mod Pages

@@ -4,11 +4,12 @@ use Rattle.std.specs.List.{flat_map, list_all}
 use Rattle.std.specs.Option.{option_map}
 use Rattle.server_metrics.specs.Families.{row_families}
 use Rattle.server_metrics.specs.Figures.{family_text, figure_text}
+use Rattle.server_metrics.specs.TimesText.{times_text}
 use Rattle.server_metrics.specs.declared.families.Family.{Family}
 use Rattle.server_metrics.specs.declared.families.Family.TheVariants.{Items, ItemsLimit, Versions, VersionsLimit}
 use Rattle.server_metrics.specs.declared.families.Family.TheVariants.{Marks, MarksLimit, Calls, Cut, Checked}
 use Rattle.server_metrics.specs.declared.families.Family.TheVariants.{Waiting, Wrong, Clients, ClientsLimit, Sessions, Operations}
-use Rattle.server_metrics.specs.declared.families.Family.TheVariants.{Refusals, HellosBusy, Restarts, Collections, Connections}
+use Rattle.server_metrics.specs.declared.families.Family.TheVariants.{Refusals, HellosBusy, Restarts, Times, Collections, Connections}
 use Rattle.server_metrics.specs.declared.families.Family.TheVariants.{ConnectionsLimit, ConnectionsBegun}
 use Rattle.server_metrics.specs.declared.families.Family.TheVariants.{Started, Build}
 use Rattle.server_metrics.specs.declared.metrics.ClientRow.{ClientRow}
@@ -36,6 +37,7 @@ number_of Operations row = None
 number_of Refusals row = None
 number_of HellosBusy row = None
 number_of Restarts row = None
+number_of Times row = None
 number_of Collections row = Some row.collections
 number_of Connections row = None
 number_of ConnectionsLimit row = None
@@ -142,7 +144,7 @@ server_text readings =
 abbrev pub metrics_text : ServerReadings → List ℕ
 metrics_text readings =
     table_text readings.rows.items ++ (all_tenants_text readings.clients.items
-    ++ (refusals_text readings.refusals.items ++ server_text readings))
+    ++ (refusals_text readings.refusals.items ++ (times_text Times readings.times ++ server_text readings)))
 
 -- each partition is there, and no row is wrong
 abbrev pub is_well : ServerReadings → Bool

@@ -11,7 +11,7 @@ const OF_PAGE: &str =
 /// How a request is answered.
 #[derive(Clone, Copy, Debug, PartialEq, Eq)]
 pub enum Status {
-    /// 200.
+    /// 200: the page that was asked for; of the health, no limit is used up.
     Well,
     /// 400: it is no request of HTTP/1.0 or 1.1, has no host though it is of 1.1, or has more than 64 header lines.
     BadRequest,

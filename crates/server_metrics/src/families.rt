@@ -24,6 +24,7 @@ pub enum Family {
     Refusals,
     HellosBusy,
     Restarts,
+    Times,
     Connections,
     ConnectionsLimit,
     ConnectionsBegun,
@@ -71,6 +72,7 @@ pub(crate) fn name_text(family: Family) -> &'static str
         Family::Refusals => "ramp_refusals_total",
         Family::HellosBusy => "ramp_hellos_busy_total",
         Family::Restarts => "ramp_restarts_total",
+        Family::Times => "ramp_line_seconds",
         Family::Connections => "ramp_connections",
         Family::ConnectionsLimit => "ramp_connections_limit",
         Family::ConnectionsBegun => "ramp_connections_total",
@@ -108,6 +110,8 @@ pub(crate) fn help_text(family: Family) -> &'static str
         Family::HellosBusy =>
             "Lines hello that were refused 12, since the client number has a session: clients then draw another.",
         Family::Restarts => "Lines of sessions that were answered by a restart.",
+        Family::Times =>
+            "How long lines took, from the read that brought them to the write of their answers.",
         Family::Connections => "Connections that are served now.",
         Family::ConnectionsLimit => "Connections that are served at a time.",
         Family::ConnectionsBegun => "Connections that were begun.",
@@ -116,7 +120,8 @@ pub(crate) fn help_text(family: Family) -> &'static str
     }
 }
 
-/// The end of the line that says whether its numbers may fall: a counter's never do while the server runs.
+/// The end of the line that says whether its numbers may fall: those of a counter and of a histogram never do while
+/// the server runs.
 pub(crate) fn kind_text(family: Family) -> &'static str
     ensures { result.now ≡ kind_text family }
 {
@@ -130,6 +135,7 @@ pub(crate) fn kind_text(family: Family) -> &'static str
         | Family::HellosBusy
         | Family::Restarts
         | Family::ConnectionsBegun => " counter\n",
+        Family::Times => " histogram\n",
         _ => " gauge\n",
     }
 }

@@ -55,8 +55,8 @@ pub(crate) fn put_figure(
     put_number(text, number)
 }
 
-// Appends the labels in their brackets, or nothing where there are none.
-fn put_labels(text: &mut String, labels: &[Label<'_>]) -> Result<(), AllocError>
+/// Appends the labels in their brackets, or nothing where there are none.
+pub(crate) fn put_labels(text: &mut String, labels: &[Label<'_>]) -> Result<(), AllocError>
     ensures { OnOk result (string_bytes text.new
         ≡ string_bytes text.old ++ labels_text (map pair_of labels.now)) }
 {
@@ -101,8 +101,8 @@ fn put_pair(text: &mut String, name: &str, value: &str) -> Result<(), AllocError
     text.push_str("\"")
 }
 
-// Appends a number behind its name and labels, and ends the line.
-fn put_number(text: &mut String, number: u64) -> Result<(), AllocError>
+/// Appends a number behind its name and labels, and ends the line.
+pub(crate) fn put_number(text: &mut String, number: u64) -> Result<(), AllocError>
     ensures { OnOk result (string_bytes text.new ≡ string_bytes text.old ++ number_text number) }
 {
     text.push_str(" ")?;

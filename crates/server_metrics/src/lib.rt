@@ -11,9 +11,11 @@ mod metrics;
 mod overview;
 mod page;
 mod request;
+mod times;
 
 pub use answer::{Status, response};
 pub use exchange::{hear, pass_over, write_page};
 pub use metrics::{ClientRow, RefusalRow, Row, ServerReadings, put_metrics};
 pub use page::{health_page, metrics_page, overview_page, status_page};
 pub use request::{MOST_FIELDS, PageRequest, read_request};
+pub use times::{LineSeconds, TimeRow};

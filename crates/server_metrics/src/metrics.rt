@@ -7,6 +7,7 @@ ghost use Rattle.server_metrics.specs.MetricsText.{all_tenants_text, client_text
 
 use crate::families::{Family, OF_ROWS};
 use crate::figures::{Label, put_family, put_figure};
+use crate::times::{LineSeconds, put_times};
 use itoa::Buffer;
 use std::alloc::AllocError;
 
@@ -68,6 +69,8 @@ pub struct ServerReadings<'a> {
     pub busy: u64,
     /// How many lines were answered by a restart.
     pub restarts: u64,
+    /// How long lines took.
+    pub times: LineSeconds,
     /// The connections that are open, how many are served at a time, and how many were begun in all.
     pub open: u64,
     pub most: u64,
@@ -104,6 +107,7 @@ pub fn put_metrics(text: &mut String, readings: &ServerReadings<'_>) -> Result<(
     put_table(text, &readings.rows)?;
     put_all_tenants(text, &readings.clients)?;
     put_refusals(text, &readings.refusals)?;
+    put_times(text, Family::Times, &readings.times)?;
     put_server(text, readings)
 }
 

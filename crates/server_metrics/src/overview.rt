@@ -130,6 +130,23 @@ function rate(nth, read) {
   return Math.max(0, read(now.families) - read(before.families)) / ((now.time - before.time) / 1000);
 }
 
+// The time that this share of the lines of the last ten seconds took at most. Within a class they are taken to spread evenly.
+function quantile(nth, share) {
+  if (nth < 1) return NaN;
+  const name = "ramp_line_seconds_bucket", before = samples[Math.max(0, nth - 10)].families;
+  const classes = rows(samples[nth].families, name).map(row => ({ edge: Number(row.labels.le), lines: row.value - of(before, name, "le", row.labels.le) }));
+  const wanted = share * (classes.length ? classes[classes.length - 1].lines : 0);
+  if (!(wanted > 0)) return NaN;
+  const place = classes.findIndex(it => it.lines >= wanted), high = classes[place], low = place ? classes[place - 1] : { edge: 0, lines: 0 };
+  return isFinite(high.edge) ? low.edge + (high.edge - low.edge) * (wanted - low.lines) / (high.lines - low.lines) : low.edge;
+}
+
+function time(seconds) {
+  if (!isFinite(seconds)) return "-";
+  if (seconds >= 1) return seconds.toFixed(1) + " s";
+  return seconds >= 1e-3 ? short(seconds * 1e3) + " ms" : Math.round(seconds * 1e6) + " \u00b5s";
+}
+
 const operations = kind => families => of(families, "ramp_operations_total", "kind", kind);
 const calls = families => total(families, "ramp_calls_served_total");
 const refusals = families => total(families, "ramp_refusals_total");
@@ -141,6 +158,9 @@ const CHARTS = [
     ["find", "--three", nth => rate(nth, operations("find"))]] },
   { title: "Calls of partitions per second", format: short, needs: "ramp_calls_served_total", lines: [
     ["calls", "--one", nth => rate(nth, calls)]] },
+  { title: "Time of a line, in the last 10 seconds", format: time, needs: "ramp_line_seconds_bucket", lines: [
+    ["p50", "--one", nth => quantile(nth, 0.5)],
+    ["p99", "--two", nth => quantile(nth, 0.99)]] },
   { title: "Refusals and restarts per second", format: short, needs: "ramp_restarts_total", lines: [
     ["refusals", "--two", nth => rate(nth, refusals)],
     ["restarts", "--three", nth => rate(nth, families => total(families, "ramp_restarts_total"))]] },
@@ -215,6 +235,7 @@ function drawTiles(families) {
     kinds ? tile("operations per second", short(sum(["put", "get", "find"].map(kind => rate(last, operations(kind))))))
       : tile("calls per second", short(rate(last, calls))),
     tile(`sessions, of ${short(one("ramp_connections_limit"))}`, short(one("ramp_connections")), busy ? "bad" : ""),
+    tile("p50 of a line, p99", `${time(quantile(last, 0.5))}, ${time(quantile(last, 0.99))}`),
     tile("refusals since the start", short(refusals(families))),
     tile("restarts since the start", short(one("ramp_restarts_total"))),
   ];

@@ -7,6 +7,8 @@ use Rattle.shard.specs.declared.usages.TenantUsage.{TenantUsage}
 use Rattle.server_metrics.specs.declared.metrics.ClientRow.{ClientRow}
 use Rattle.server_metrics.specs.declared.metrics.RefusalRow.{RefusalRow}
 use Rattle.server_metrics.specs.declared.metrics.Row.{Row}
+use Rattle.server_metrics.specs.declared.times.TimeRow.{TimeRow}
+use Rattle.server_metrics.specs.TimesText.{AreRising}
 use Rattle.server_verdicts.specs.declared.epochs.checked.CheckProgress.{CheckProgress}
 use Rattle.server_status.specs.Reported.{AreChecksFrom, AreClientRows, AreRefusalRows, AreRowsBehind, AreRowsOf, IsCheckOf, IsClientRow, IsRowAt, IsRowOf, known_in}
 use Rattle.history.specs.declared.rule.Naming.{Ghosts}
@@ -95,3 +97,8 @@ checks_more HasTold watched partition first nth [] check are here is =
     (subst (λ (k : ℕ). IsCheckOf HasTold (known_in watched.known partition k) check) at is, tt)
 checks_more HasTold watched partition first nth (c ∷ checks) check are here is =
     (are.0, checks_more HasTold watched partition (first + 1) nth checks check are.1 (omega (arith, here)) is)
+
+-- a class more, with the lines of those before it: for `read_times`
+pub rising_more : (before all now : ℕ) (rows : List TimeRow) (row : TimeRow) → AreRising before rows all → row.lines ≡ now → all ≤ now → AreRising before (rows ++ row ∷ []) now
+rising_more before all now [] row are is more = (omega (arith, are, is, more), is)
+rising_more before all now (r ∷ rows) row are is more = (are.0, rising_more r.lines all now rows row are.1 is more)

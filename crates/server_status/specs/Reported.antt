@@ -7,6 +7,7 @@ use Rattle.std.specs.Option.{option_map}
 use Rattle.stamps.specs.declared.bounds.Limits.{Limits}
 use Rattle.shard.specs.UsedAt.{AreUsagesAt}
 use Rattle.shard.specs.declared.usages.TenantUsage.{TenantUsage}
+use Rattle.server_metrics.specs.TimesText.{AreRising}
 use Rattle.server_metrics.specs.declared.metrics.ClientRow.{ClientRow}
 use Rattle.server_metrics.specs.declared.metrics.ServerReadings.{ServerReadings}
 use Rattle.server_metrics.specs.declared.metrics.RefusalRow.{RefusalRow}
@@ -74,11 +75,12 @@ abbrev pub AreChecksAt : {J C : Type 0} {naming : Ghosts J} → (C → CheckProg
 AreChecksAt HasTold watched partition checks =
     (length checks ≡ min (length watched.names.now) (2 ^ 32 - 1)) × AreChecksFrom HasTold watched partition 0 checks
 
--- Rows were put behind those that were there. Their numbers are those that the cells of the partition had at one moment, and
--- their checks those that its journals told.
+-- Rows were put behind those that were there, one of each tenant of the store. Their numbers are those that the cells of the partition had at
+-- one moment, and their checks those that its journals told.
 abbrev pub AreRowsAt : {J C : Type 0} {naming : Ghosts J} → (C → CheckProgress → Type 0) → Watched J C naming → ℕ → List Row → List Row → Type 0
 AreRowsAt HasTold watched partition old new =
     (usages : List TenantUsage) × (checks : List (Option CheckProgress)) × AreUsagesAt watched.hub.now.parts partition usages
+    × (length usages ≡ length watched.hub.now.limits)
     × AreChecksAt HasTold watched partition checks
     × AreRowsBehind partition watched.names.now watched.hub.now.limits checks usages old new
 
@@ -109,13 +111,14 @@ AreRefusalRows from below (row ∷ rows) = (from ≤ row.number) × (row.number 
 
 -- ---- all that is read
 
--- What was read of this server: where it is whole, a row of each tenant at each partition; and rows of the clients and of
--- the refusals. What a journal has told is said by its trait.
+-- What was read of this server: where it is whole, a row of each tenant at each partition; and rows of the clients, of the refusals, and of the
+-- times that lines took. What a journal has told is said by its trait.
 pub record IsReadOf {J C : Type 0} {naming : Ghosts J} (HasTold : C → CheckProgress → Type 0) (watched : Watched J C naming) (readings : ServerReadings) : Type 0 where
   pub rows : IsTrue readings.is_whole → AreRowsBefore HasTold watched watched.hub.now.parts readings.rows.items
   pub clients : AreClientRows watched.names.now watched.hub.now.limits readings.clients.items
   pub all_clients : length readings.clients.items ≡ min (min (length watched.names.now) (2 ^ 32 - 1)) (length watched.hub.now.limits)
   pub refusals : AreRefusalRows 0 43 readings.refusals.items
+  pub times : AreRising 0 readings.times.rows.items readings.times.lines
   pub most : readings.most ≡ most_of watched.server.now
   pub started : readings.started ≡ watched.started
   pub version : readings.version.now ≡ watched.version.now

@@ -1,11 +1,12 @@
 //! What a scrape reads of a running server.
 ghost use Rattle.std.specs.Prelude.{◌≡◌, ◌≢◌, ◌<◌, ◌-◌, ◌^◌, [], min, IfOk, IsTrue, vec_len, length};
+ghost use Rattle.server_metrics.specs.TimesText.{AreRising};
 ghost use Rattle.server_status.specs.Reported.{AreChecksAt, AreClientRows, AreRefusalRows, AreRowsAt, AreRowsBefore, AreRowsBehind, IsCheckOf, IsReadOf, IsRowAt, IsRowOf, known_in};
 
 use hub::{Gate, Hub, Naming, TenantUsage};
 use line_protocol::Name;
-use server_metrics::{ClientRow, RefusalRow, Row, ServerReadings};
-use server_sessions::{AnswerCounts, Listener, Server, TenantCount};
+use server_metrics::{ClientRow, LineSeconds, RefusalRow, Row, ServerReadings, TimeRow};
+use server_sessions::{AnswerCounts, LineTimes, Listener, Server, TenantCount};
 use server_verdicts::{CheckProgress, Checked, JournalChecks, Standing, progress_at};
 use stamps::Limits;
 use std::alloc::{AllocError, Global};
@@ -48,6 +49,7 @@ impl<'s, G: Gate + Naming, C: JournalChecks> Watched<'s, G, C> {
             refusals: read_refusals(alloc, self.server.answers())?,
             busy: self.server.answers().refusals(BUSY),
             restarts: self.server.answers().restarts(),
+            times: read_times(alloc, self.server.times())?,
             open: connections.open as u64,
             most: connections.most as u64,
             begun: connections.begun,
@@ -77,8 +79,8 @@ impl<'s, G: Gate + Naming, C: JournalChecks> Watched<'s, G, C> {
         Ok(is_whole)
     }
 
-    // Puts a row of each tenant at a partition behind the rows. Says whether the partition is there: the rows are then of one
-    // moment.
+    // Puts a row of each tenant at a partition behind the rows. Says whether the partition is there, with all tenants of the store: the
+    // rows are then of one moment.
     fn read_partition<H: Wait>(
         &self,
         rt: &H,
@@ -90,7 +92,9 @@ impl<'s, G: Gate + Naming, C: JournalChecks> Watched<'s, G, C> {
             → AreRowsAt C.has_told self.now partition rows.old.items rows.new.items) }
     {
         let mut usages = Vec::new(alloc);
-        if !self.hub.status(rt, partition, &mut usages)? {
+        if !self.hub.status(rt, partition, &mut usages)?
+            || usages.len() != self.hub.limits().len()
+        {
             return Ok(false);
         }
         // Behind the epochs that were cut, since a read of the checks waits: meanwhile more are cut, of which none seems to wait.
@@ -224,6 +228,26 @@ fn lines_of(answers: &AnswerCounts, number: u8) -> u64
     answers.refusals(number)
 }
 
+// How long lines took.
+fn read_times(alloc: Global, times: &LineTimes) -> Result<LineSeconds, AllocError>
+    ensures { IfOk result (λ told. AreRising 0 told.rows.items told.lines) }
+{
+    let mut rows = Vec::new(alloc);
+    let mut lines = 0u64;
+    for class in 0..LineTimes::CLASSES {
+        lines = lines.saturating_add(times.lines(class));
+        rows.push(TimeRow {
+            within: LineTimes::edge(class),
+            lines,
+        })?;
+    }
+    Ok(LineSeconds {
+        rows,
+        lines,
+        micros: times.micros(),
+    })
+}
+
 // The row of a tenant at a partition.
 fn row_of<'s>(
     tenant: &'s str,
@@ -232,8 +256,8 @@ fn row_of<'s>(
     limits: &Limits,
     progress: Option<CheckProgress>,
 ) -> Row<'s>
-    ensures used { IsRowOf used.now result }
-    ensures at { IsRowAt partition tenant.now limits.now progress result }
+    ensures { IsRowOf used.now result
+        × IsRowAt partition tenant.now limits.now progress result }
 {
     let usage = &used.usage;
     let cut = usage.epoch.saturating_sub(1);

@@ -18,7 +18,7 @@ use std::sync::Wait;
 use std::sync::atomic::{AtomicBool, Ordering};
 use std::thread;
 use std::thread::Threads;
-use std::time::{Clock, Duration};
+use std::time::{Clock, Duration, Instant};
 
 /// How many connections are answered at a time, each by a thread.
 const MOST_AT_ONCE: u32 = 16;
@@ -67,12 +67,14 @@ pub fn serve_and_report<
         |scope|
             ensures { L.is_closed (port_listener port.entry.now) }
         {
-            let started = scope.spawn(move || port.serve(rt, alloc, watched));
-            if started.is_err() {
-                port.close();
+            let mut answers = false;
+            for _thread in 0..MOST_AT_ONCE {
+                if scope.spawn(move || port.serve(rt, alloc, watched)).is_ok() {
+                    answers = true;
+                }
             }
-            for _more in 1..MOST_AT_ONCE {
-                let _ = scope.spawn(move || port.serve(rt, alloc, watched));
+            if !answers {
+                port.close();
             }
             serve_connections(
                 rt,
@@ -137,19 +139,17 @@ impl<L: Accept> StatusPort<L> {
         watched: &Watched<'_, G, C>,
         stream: &TcpStream,
     ) {
-        let (Some(mut asking), Some(mut taking), Some(mut closing)) = (
-            Visitor::new(rt, stream, TO_ASK),
-            Visitor::new(rt, stream, TO_TAKE),
-            Visitor::new(rt, stream, TO_CLOSE),
-        ) else {
+        let Ok(begun) = Instant::now(rt) else {
             return;
         };
         let is_over = &self.is_closed;
-        if !answer_one(rt, alloc, watched, &mut asking, &mut taking, is_over) {
-            return;
+        let mut asking = Visitor::new(rt, stream, begun, TO_ASK);
+        let mut taking = Visitor::new(rt, stream, begun, TO_TAKE);
+        if answer_one(rt, alloc, watched, &mut asking, &mut taking, is_over) {
+            let _ = stream.shutdown(Shutdown::Write);
+            let mut closing = Visitor::new(rt, stream, begun, TO_CLOSE);
+            pass_over(&mut closing, is_over);
         }
-        let _ = stream.shutdown(Shutdown::Write);
-        pass_over(&mut closing, is_over);
     }
 }
 

@@ -11,7 +11,7 @@ loop-tenant-preserved g c =
     let found = c.in-Some-Some-Some in
     let nth = c.loop-tenant.tenant in
     let row = c.row_of.result in
-    let at = subst (λ (name : List ℕ). IsRowAt c.args.partition name found.limits.now found.progress.now row) c.text_of.ensures c.row_of.ensures.at in
+    let at = subst (λ (name : List ℕ). IsRowAt c.args.partition name found.limits.now found.progress.now row) c.text_of.ensures c.row_of.ensures.1 in
     let names = c.args.self.now.names.now in
     let all = c.limits-limits.result.now in
     let checks = c.args.checks.now in
@@ -21,4 +21,4 @@ loop-tenant-preserved g c =
     let checked = slice_get_read checks (length checks) nth found.progress.now refl found.ensures''.lookup.3.0 (found.ensures''.lookup.3.1 found.progress.now) in
     rows_behind c.args.partition names c.args.self.now.hub.now.limits checks c.args.usages.now nth
     found.name.now found.limits.now found.progress.now _ c.args.rows.now.items c.loop-tenant.rows.items c.push.new.self.items row (omega arith)
-    c.loop-tenant.invariant named limited checked c.row_of.ensures.used at c.in_ok-push.ensures.items
+    c.loop-tenant.invariant named limited checked c.row_of.ensures.0 at c.in_ok-push.ensures.items
