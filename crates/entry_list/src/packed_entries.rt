@@ -68,7 +68,7 @@ impl EntryList {
         Ok(list)
     }
 
-    /// Where its memory comes from.
+    /// The allocator with which it was made.
     pub fn alloc(&self) -> Global {
         self.scratch.alloc()
     }

@@ -1,4 +1,4 @@
--- The clock of a tenant rises, and what it told of is committed, and seen by who looks at it.
+-- The clock of a tenant rises, and what is told at a number is seen by who looked at that number or later.
 use Rattle.std.proofs.Common.{◌≡◌, ◌⊎◌, ◌∙◌, ℕ, zero, suc, ◌+◌, ◌<◌, Bool, true, false, MatchBool, List, [], ◌∷◌, ◌++◌, refl, ap, sym, subst, inl, inr, arith, append_assoc}
 use Rattle.std.proofs.lemmas.List.{append-nil}
 use Rattle.std.proofs.Math.Logic.{∥∥₁_elim}

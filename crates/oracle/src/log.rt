@@ -262,7 +262,7 @@ pub(super) fn items(alloc: Global, log: &[Exchange]) -> Result<Vec<Key>, AllocEr
     lists::distinct(alloc, &keys_of(alloc, &versions(alloc, log)?)?)
 }
 
-/// The keys of versions.
+/// The key of each version, in their order.
 fn keys_of(alloc: Global, versions: &[Record]) -> Result<Vec<Key>, AllocError>
     ensures { IfOk result (λ list. list.items ≡ map (λ (v : Record). v.key) versions.now) }
 {

@@ -277,7 +277,7 @@ pub(super) fn move_of(
     }
 }
 
-/// The calls of a search.
+/// The calls of a search: until all partitions have answered a FOUND to each, then those of its read.
 pub(super) fn search_calls(
     alloc: Global,
     setup: &Setup,

@@ -57,7 +57,7 @@ fn answer_step<'a>(
     Ok((lists::prepend(moment, history)?, answer))
 }
 
-/// The answer at a place.
+/// The answer to the step of this number, from 0.
 fn answer_at(answers: &[Answer], place: usize) -> Answer
     requires { place < length answers.now }
     ensures { result ≡ slice_index_or answers.now place result }

@@ -42,7 +42,7 @@ impl Buffer {
         }
     }
 
-    /// Where its memory comes from.
+    /// The allocator with which it was made.
     pub fn alloc(&self) -> Global {
         *self.bytes.allocator()
     }

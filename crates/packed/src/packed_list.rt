@@ -46,7 +46,7 @@ impl PackedList {
         }
     }
 
-    /// Where its memory comes from.
+    /// The allocator with which it was made.
     pub fn alloc(&self) -> Global {
         self.bytes.alloc()
     }

@@ -4,7 +4,7 @@ use stamps::limits::{MAX_KEY_LEN, MAX_KEYS, MAX_TAG_LEN, MAX_VALUE_LEN};
 /// The most bytes of a number: a byte, or that and eight more.
 pub const MAX_NUMBER_BYTES: usize = 9;
 
-/// The bytes of a stamp.
+/// How many bytes a stamp takes, as one number.
 pub const STAMP_BYTES: usize = 8;
 
 /// The most bytes of a key behind its length.

@@ -66,7 +66,7 @@ impl EventList {
         Ok(list)
     }
 
-    /// Where its memory comes from.
+    /// The allocator with which it was made.
     pub fn alloc(&self) -> Global {
         self.list.alloc()
     }
@@ -244,7 +244,7 @@ pub struct CalledEvent<'a> {
     pub reply: PackedReply<'a>,
 }
 
-/// The parts of an event.
+/// An event that is to be packed, its call and its reply borrowed.
 #[derive(Drop)]
 struct EventParts<'a> {
     seat: u64,

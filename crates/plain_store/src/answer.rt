@@ -6,7 +6,7 @@ use std::fmt;
 /// The first and the last of the rows that a step sent.
 #[derive(Clone, Copy, Debug, PartialEq, Eq)]
 pub struct Rows {
-    /// From 1.
+    /// The number of the first row, from 1.
     pub first: u64,
     /// No less than `first`, unless nothing was sent.
     pub last: u64,

@@ -1,4 +1,4 @@
-//! The cell.
+//! A cell over a block that the caller passes: its calls, and the bases that are cut of it.
 ghost use Rattle.std.specs.Prelude.{◌≡◌, ◌≢◌, ◌+◌, ◌≤◌, ◌^◌, ◌↔◌, [], count_by, IfOk, OnErr, IsSomeAnd, IsTrue};
 ghost use Rattle.std.specs.Prelude.{◌<◌, ◌==◌, ◌&&◌, List, max, not, is_some, nat_le, length};
 ghost use Rattle.std.specs.Ordering.{nat_cmp};
@@ -53,8 +53,8 @@ use version_chain::{Block, Insert, VersionList};
 /// see with it all versions, entries and marks, how many of each there is room for, and the tag of each item.
 ///
 /// The caller's condition is the block: it has the versions of this cell, and no other version of its tenant. A call changes no cell of
-/// another tenant, and leaves the others' shares as they are. Only `open` takes memory. `found` looks its tag up in the index. `prepare`
-/// and `get` look their item up by a binary search, and then walk its chain, or, far down, beside it the list of the versions by stamp.
+/// another tenant, and leaves the others' shares as they are. A client's call takes no memory: `open`, `at`, `base`, `cut`, `holds` and
+/// `begins_at` do, and so does `collect` once a base was cut. `found` looks its tag up in the index. `prepare` and `get` look their item up by a binary search, and then walk its chain, or, far down, beside it the list of the versions by stamp.
 /// `commit` and `discard` look the versions of their stamp up. `collect` goes over the items of which a version was committed since an
 /// earlier one, or over all.
 pub struct Cell {
@@ -136,7 +136,7 @@ impl Cell {
 
     /// An empty cell of a tenant, with room for `slots` versions, for the entries of `items` items and for the marks of
     /// `clients` clients, of each 1 to 65536 in this store, in a block with no version of this tenant. The chains, the list
-    /// of the versions, the entries, the index, the marks and the list of the changed chains are reserved here, so that no later call takes memory; it
+    /// of the versions, the entries, the index, the marks and the list of the changed chains are reserved here, so that no client's call takes memory; it
     /// takes time for each item. The one error is that this allocation failed.
     #[tactic(auto, using(crate::proofs::StandsAfter::empty_stands))]
     pub fn open(
@@ -327,8 +327,8 @@ impl Cell {
     /// Each item then stands under the tag of its latest committed version: one of which a version of this stamp became
     /// the latest has moved.
     ///
-    /// It finds the versions of the stamp by a binary search, and visits them alone. To move an item it also walks down
-    /// the item's chain to the latest committed version, and shifts the index where the tag is another one.
+    /// It finds the versions of the stamp by a binary search, and visits them alone. To move an item it reads the
+    /// slot of its chain's latest committed version, and shifts the index where the tag is another one.
     pub fn commit(&mut self, block: &mut Block, stamp: Stamp) -> u32
         requires { LiesIn block.old self.old }
         ensures served { IsServed block.old self.old block.new self.new
@@ -481,7 +481,8 @@ impl Cell {
     /// items in their order where even that one kept more.
     ///
     /// Where it gave up any version, it goes over the list of the kept versions once. Where bases are cut of the cell, and much changed
-    /// since the last one, it packs that ahead of the next.
+    /// since the last one, it packs that ahead of the next, which takes memory; where
+    /// an allocation failed, the next cut packs all.
     pub fn collect(&mut self, block: &mut Block, keep: Keep) -> u32
         requires { LiesIn block.old self.old }
         ensures { IsServed block.old self.old block.new self.new

@@ -60,7 +60,7 @@ impl Held {
         (&self.parts, &self.places)
     }
 
-    /// An entry.
+    /// The key and the floor of the n-th item, from 0.
     pub(crate) fn entry(&self, nth: usize) -> &KnownItem
         requires { nth < length self.now }
         ensures { result.now ≡ (slice_index_or self.now nth none_held).entry }

@@ -50,7 +50,7 @@ impl BasePart {
         self.entries.len()
     }
 
-    /// An entry.
+    /// The key and the floor of the item at a place, from 0.
     fn entry(&self, at: usize) -> &KnownItem
         requires { at < length self.now }
         ensures { (h : Holding) → slice_get self.now at ≡ Some h → result.now ≡ h.entry }
@@ -165,7 +165,7 @@ impl PartList {
         self.part(nth).len()
     }
 
-    /// A part.
+    /// The part of this number, from 0.
     fn part(&self, nth: usize) -> &BasePart
         requires { nth < length self.now }
         ensures { result.now ≡ slice_index_or self.now nth [] }

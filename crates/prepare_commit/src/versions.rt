@@ -23,7 +23,7 @@ use version_chain::{Block, Chains, Insert, Version, VersionList};
 /// block, how many versions there are, and how many there may be.
 ///
 /// The caller's condition is a chain number in range, and the block in which these chains stand. A call changes no cell
-/// of another tenant. Only `open` takes memory.
+/// of another tenant. Only `open` takes memory, and `pack_to` for its list.
 #[derive(Drop)]
 pub(crate) struct Versions {
     pub(crate) chains: Chains,

@@ -22,7 +22,7 @@ pub fn at_place<T: Copy>(list: &[T], place: u64) -> Option<T>
     list.get((place - 1) as usize).copied()
 }
 
-/// The tenant's journal at a partition.
+/// The tenant's journal at a partition, if the closed hub left one there.
 pub fn journal_at(closed: &Closed, tenant: u32, partition: usize) -> Option<&Journal>
     ensures { option_copied result ≡ journal_of_closed closed.now tenant partition }
 {

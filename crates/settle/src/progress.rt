@@ -41,7 +41,7 @@ pub struct Progress {
     pub sent: Vec<Vec<u64>>,
     /// For each partition the rows of the replies to its events.
     pub replies: Vec<Vec<u64>>,
-    /// The steps.
+    /// The steps that were taken so far, in their order.
     pub steps: Vec<Step>,
 }
 

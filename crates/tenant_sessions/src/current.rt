@@ -73,7 +73,7 @@ impl Current {
         }
     }
 
-    /// Forgets it.
+    /// No transaction runs from now on.
     pub(crate) fn forget(&mut self)
         ensures { self.new ≡ None }
     {

@@ -37,7 +37,7 @@ pub(crate) struct Running {
     writer: Writer,
     /// A read's, and that which a search borrows.
     reader: Reader,
-    /// A search's.
+    /// What a search found so far.
     search: TagSearch,
     waiting: Waiting,
     parts: u32,

@@ -105,7 +105,7 @@ impl<J: Naming> ClientWords<J> {
     }
 }
 
-/// The row of a client of a tenant.
+/// A number for each client of each tenant, under which its word is kept.
 fn row_number(tenant: u32, client: Client) -> u64
     ensures { result ≡ row_of tenant client }
 {

@@ -1,4 +1,4 @@
-// An arena, whose freed cells are threaded through its block.
+// An arena, whose freed cells are linked through the list of the cells' states.
 ghost use Rattle.std.specs.Prelude.{◌≡◌, ◌<◌, ◌≤◌, ◌↔◌, length, replicate, nat_lt, Some, None, IsSome, IsNone, IsTrue, IsOk, IfOk, IfErr, OnErr, slice_set, if◌then◌else◌};
 ghost use Rattle.std.specs.Borrow.{sem};
 ghost use Rattle.version_arena.specs.Arena.{entry, IsLive, live_count, next_beside, with_next};

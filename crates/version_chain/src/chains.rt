@@ -48,7 +48,8 @@ pub enum Insert {
 /// place, and some twice the listed ones up to the next of the chain, whichever is less.
 ///
 /// A call changes its own chain alone: no other chain of the tenant, and no cell of another tenant. Each live slot of the
-/// tenant stands in exactly one chain, once, and a cut frees each slot once. Only `open` takes memory.
+/// tenant stands in exactly one chain, once, and a cut frees each slot once. Only `open` takes memory,
+/// and `pack_to` for its list.
 ///
 /// The caller's condition is a chain number in range, and the block in which these chains stand: it holds no other
 /// version of the tenant.

@@ -15,9 +15,9 @@ use version_arena::Slot;
 /// A kept version: its stamp, and the slot of its cell.
 #[derive(Clone, Copy)]
 pub struct Kept {
-    /// The stamp.
+    /// The stamp of its version, by which the list is ordered.
     pub stamp: Stamp,
-    /// The slot.
+    /// Where its version lies in the block.
     pub slot: Slot,
     /// Whether its version was cut out of its cell.
     pub is_cut: bool,
