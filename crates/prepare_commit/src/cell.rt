@@ -480,9 +480,9 @@ impl Cell {
     /// each. Where the last one kept more versions, it visits those of which one was committed since the last that kept the least; and all
     /// items in their order where even that one kept more.
     ///
-    /// Where it gave up any version, it goes over the list of the kept versions once. Where bases are cut of the cell, and much changed
-    /// since the last one, it packs that ahead of the next, which takes memory; where
-    /// an allocation failed, the next cut packs all.
+    /// Where it gave up any version, it goes over the list of the kept versions once. Where bases are cut of the cell, the next cut is
+    /// near by the number of collections between the last two, and much changed since, it packs that ahead of the next, which takes
+    /// memory; where an allocation failed, the next cut packs all.
     pub fn collect(&mut self, block: &mut Block, keep: Keep) -> u32
         requires { LiesIn block.old self.old }
         ensures { IsServed block.old self.old block.new self.new
@@ -527,6 +527,7 @@ impl Cell {
         ensures lies { LiesIn block.now self.new }
         ensures rest { self.new ≡ begun_with self.old self.new.begun self.new.since }
     {
+        self.last_base.collections = self.last_base.collections.saturating_add(1);
         if self.last_base.is_much_changed() {
             self.pack_changed(block);
         }
@@ -617,6 +618,8 @@ impl Cell {
         let base = self.base_at(block, free)?;
         self.begin(&base.held)?;
         self.last_base.was_cut = true;
+        self.last_base.between_cuts = self.last_base.collections;
+        self.last_base.collections = 0;
         Ok(base)
     }
 

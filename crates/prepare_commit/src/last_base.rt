@@ -14,6 +14,10 @@ pub(crate) struct LastBase {
     pub(crate) since: ChangedChains,
     // Whether a base was cut of the cell, as another will be then.
     pub(crate) was_cut: bool,
+    // How many collections came between the last two cuts, or before the first.
+    pub(crate) between_cuts: u32,
+    // How many came since the last cut.
+    pub(crate) collections: u32,
 }
 
 impl LastBase {
@@ -31,11 +35,19 @@ impl LastBase {
             spots,
             since: ChangedChains::open(alloc, chains)?,
             was_cut: false,
+            between_cuts: 0,
+            collections: 0,
         })
     }
 
-    /// Whether so much changed since that it is packed ahead of the next cut.
+    /// Whether so much changed since that it is packed ahead of the next cut, which is near. What is packed long before a cut changes
+    /// again, and is packed twice.
     pub(crate) fn is_much_changed(&self) -> bool {
-        self.was_cut && self.since.fill_a_part()
+        self.was_cut && self.is_near_cut() && self.since.fill_a_part()
+    }
+
+    // Whether the last quarter of the time from cut to cut has begun, if the next cut comes after as many collections as the last did.
+    fn is_near_cut(&self) -> bool {
+        self.collections >= self.between_cuts - self.between_cuts / 4
     }
 }
