@@ -1,6 +1,7 @@
 /* A malloc before the C library's that fails one allocation, loaded by `LD_PRELOAD`: the one whose number is in REFUSE_MEMORY, counted
-   from 1, or none where that is 0. Where it fails one it makes the file named by REFUSE_MEMORY_MET. Where REFUSE_MEMORY_MAIN is set, only the
-   allocations of the first thread are counted, whose number does not depend on other threads.
+   from 1, or none where that is 0. Where REFUSE_MEMORY_LASTS is set, it fails each one behind that, too. Where it fails one it makes the file
+   named by REFUSE_MEMORY_MET. Where REFUSE_MEMORY_MAIN is set, only the allocations of the first thread are counted, whose number does not
+   depend on other threads.
 
    It reads no header: the kit's compiler, which has none of the C library's, builds it too. What it calls is declared as Linux has it. */
 #define NULL ((void *)0)
@@ -24,6 +25,7 @@ extern void *__libc_memalign(size_t align, size_t size);
 static long refused = -1;
 static long count;
 static int is_of_main;
+static int lasts;
 
 static int is_refused(void)
 {
@@ -31,10 +33,12 @@ static int is_refused(void)
         char *number = getenv("REFUSE_MEMORY");
         refused = number ? atol(number) : 0;
         is_of_main = getenv("REFUSE_MEMORY_MAIN") != NULL;
+        lasts = getenv("REFUSE_MEMORY_LASTS") != NULL;
     }
     if (is_of_main && gettid() != getpid())
         return 0;
-    if (__atomic_add_fetch(&count, 1, __ATOMIC_SEQ_CST) != refused)
+    long number = __atomic_add_fetch(&count, 1, __ATOMIC_SEQ_CST);
+    if (refused == 0 || number < refused || (number > refused && !lasts))
         return 0;
     char *met = getenv("REFUSE_MEMORY_MET");
     int file = met ? open(met, O_WRONLY | O_CREAT, 0600) : -1;

@@ -97,7 +97,8 @@ impl<'a, G: Naming> Dispatcher<'a, G> {
             × (queues.queued ≡ 0) × (queues.sent ≡ 0)) }
         ensures places { IfOk result (λ queues. max_calls ≤ deque_capacity queues.calls) }
     {
-        let (reply_to, replies) = crossbeam_channel::unbounded(alloc)?;
+        // A reply takes no memory: the calls of one operation alone are on their way, and a seat with a fault begins no other.
+        let (reply_to, replies) = crossbeam_channel::bounded(alloc, MOST_CALLS)?;
         let calls = VecDeque::with_capacity(alloc, MOST_CALLS)?;
         Ok(Dispatcher {
             parts,
