@@ -34,13 +34,13 @@ def main(url):
             numbers.update(said.split())
     print(f"{PROGRAMS * SESSIONS} sessions of {PROGRAMS} programs had {len(numbers)} different numbers")
 
-    # More sessions at a time than numbers are refused, with what would help.
+    # More sessions at a time than numbers are refused, with what would help. Where the server's --sessions are fewer, a further one waits for a place.
     clients = []
     try:
         while True:
-            clients.append(ramp_client.connect(url, retry=ramp_client.Retry(attempts=1)))
-    except ramp_client.NoRoom as refused:
-        print(f"after {len(clients)} sessions at a time:", refused)
+            clients.append(ramp_client.connect(url, timeout=2, retry=ramp_client.Retry(attempts=1)))
+    except (ramp_client.NoRoom, ramp_client.NoAnswer) as error:
+        print(f"after {len(clients)} sessions at a time:", error)
     assert len(numbers) <= len(clients)
     for client in clients:
         client.close()

@@ -3,7 +3,7 @@
 A collection keeps the `keep` latest versions of each item. A read that needs an older version is answered `restart`, and the client repeats
 it by itself. No wrong answer is returned. A greater `keep` makes restarts rarer, and needs more room: slots for keep + 1 versions of each
 item. Here 3 programs write the same 16 keys without a pause, and the server collects after every call, which is far more often than by
-default. So with keep 1 some versions are gone before a read asks for them.
+default. So with keep 1 some versions are gone before a read asks for them: it goes on until one is, for 20 s at most.
 
 Server: ramp serve --stay --epoch 1000 --sessions 16 --parts 8 --every 1 t"""
 import subprocess
@@ -13,7 +13,7 @@ import time
 import ramp_client
 
 KEYS = [f"kept/{n}" for n in range(16)]
-SECONDS, DEPTH, WRITERS = 1, 16, 3
+SECONDS, LONGEST, DEPTH, WRITERS = 1, 20, 16, 3
 
 
 def write(url):
@@ -43,11 +43,12 @@ def main(url):
     with ramp_client.connect(url, retry=ramp_client.Retry(restarts=0)) as client:
         for keep in (1, 2, 8):
             client.keep(keep)
-            writers = [subprocess.Popen([sys.executable, __file__, url, "write"]) for _ in range(WRITERS)]
-            restarts = reads = 0
-            while reads == 0 or any(writer.poll() is None for writer in writers):
-                restarts, reads = restarts + read(client), reads + DEPTH
-            assert all(writer.wait() == 0 for writer in writers)
+            restarts, reads, begun = 0, 0, time.monotonic()
+            while reads == 0 or keep == 1 and restarts == 0 and time.monotonic() - begun < LONGEST:
+                writers = [subprocess.Popen([sys.executable, __file__, url, "write"]) for _ in range(WRITERS)]
+                while any(writer.poll() is None for writer in writers):
+                    restarts, reads = restarts + read(client), reads + DEPTH
+                assert all(writer.wait() == 0 for writer in writers)
             print(f"keep {keep}: {restarts} of {reads} reads were answered `restart`, all others were whole")
         client.keep(2)  # as the server had it
 

@@ -36,6 +36,17 @@ class Pending(Generic[T]):
         return f"<ramp_client.{type(self).__name__}: {state}>"
 
 
+class PendingContents(Pending[dict[str, Any]]):
+    """As `Pending`, of contents."""
+
+    def __init__(self, call: Call, kind: contents.Kind, names: Sequence[str]):
+        super().__init__(call)
+        self._kind, self._names = kind, names
+
+    def result(self) -> dict[str, Any]:
+        return contents.read_at_once(self._kind, self._names, super().result())
+
+
 class Batch:
     """Calls that are collected, to be sent together. Each raises `Invalid` at once where it is wrong by itself; its answer, or its error, comes from `result()`
     of what it returns, once the pipeline has ended."""
@@ -59,6 +70,33 @@ class Batch:
     def keep(self, versions: int) -> Pending[int]:
         """As `Calls.keep`: the result is the number."""
         return Pending(self._add(lines.keep(versions)))
+
+    def put_text(self, texts: Mapping[str, str], tag: str = "", tags: Optional[Mapping[str, str]] = None, blind: bool = False) -> Pending[str]:
+        """As `Calls.put_text`: the result is the stamp."""
+        return Pending(self._add(contents.put(contents.TEXT, texts, tag, tags, not blind)))
+
+    def get_text(self, *names: str) -> Pending[dict[str, Optional[str]]]:
+        """As `Calls.get_text`, by one get of 16 keys: of one text all of it, of several as many keys of each as fit (`Invalid` where one has more)."""
+        return self._contents(contents.TEXT, names)
+
+    def put_json(self, documents: Mapping[str, Any], tag: str = "", tags: Optional[Mapping[str, str]] = None, blind: bool = False) -> Pending[str]:
+        """As `Calls.put_json`: the result is the stamp."""
+        return Pending(self._add(contents.put(contents.JSON, documents, tag, tags, not blind)))
+
+    def get_json(self, *names: str) -> Pending[dict[str, Any]]:
+        """As `Calls.get_json`, by one get of 16 keys, as `get_text`."""
+        return self._contents(contents.JSON, names)
+
+    def put_bytes(self, data: Mapping[str, bytes], tag: str = "", tags: Optional[Mapping[str, str]] = None, blind: bool = False) -> Pending[str]:
+        """As `Calls.put_bytes`: the result is the stamp."""
+        return Pending(self._add(contents.put(contents.BYTES, data, tag, tags, not blind)))
+
+    def get_bytes(self, *names: str) -> Pending[dict[str, Optional[bytes]]]:
+        """As `Calls.get_bytes`, by one get of 16 keys, as `get_text`."""
+        return self._contents(contents.BYTES, names)
+
+    def _contents(self, kind: contents.Kind, names: Sequence[str]) -> PendingContents:
+        return PendingContents(self._add(lines.get(contents.keys_at_once(kind, names))), kind, names)
 
     def __repr__(self) -> str:
         return f"<ramp_client.{type(self).__name__} of {len(self._calls)} calls>"

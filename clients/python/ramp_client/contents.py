@@ -83,5 +83,22 @@ def get(kind: Kind, keys: Sequence[str]) -> Generator[list[str], Mapping[str, It
         parts = told
 
 
+def keys_at_once(kind: Kind, keys: Sequence[str]) -> list[str]:
+    """The keys of one get that reads as many parts of each content as a get has room for."""
+    lines.check_keys(f"get_{kind.name}", keys)
+    if not 1 <= len(keys) <= MOST_ITEMS:
+        raise Invalid(f"{len(keys)} keys: give 1 to {MOST_ITEMS}", "keys", length=len(keys))
+    return [name for key in keys for name in codec.record_keys(key, MOST_ITEMS // len(keys))]
+
+
+def read_at_once(kind: Kind, keys: Sequence[str], items: Mapping[str, Item]) -> dict[str, Any]:
+    """The contents that a get of `keys_at_once` read. `Invalid` where one has more keys than were read of it."""
+    most = MOST_ITEMS // len(keys)
+    for key in keys:
+        if (parts := codec.parts_of(items[f"{key}.0"])) > most:
+            raise Invalid(f"the content of {key!r} stands under {parts} keys, and a pipeline reads {most} of each of {len(keys)} contents: read fewer at once", "keys", key, length=parts)
+    return {key: _decoded(kind, key, codec.decode_record(key, items)) for key in keys}
+
+
 def _decoded(kind: Kind, key: str, content: Content) -> Any:
     return None if content is None else kind.decode(key, content)

@@ -70,7 +70,7 @@ class Retry:
 
 def check_seconds(name: str, seconds: Any, may_be_zero: bool = False) -> None:
     """Checks a time that a program gave; None is one without an end."""
-    if seconds is None or (isinstance(seconds, (int, float)) and 0 <= seconds < math.inf and (seconds or may_be_zero)):
+    if seconds is None or (isinstance(seconds, (int, float)) and not isinstance(seconds, bool) and 0 <= seconds < math.inf and (seconds or may_be_zero)):
         return
     raise Invalid(f"{name} is a number of seconds{'' if may_be_zero else ' above 0'}, as in {name}=5, or None, and not {seconds!r}", name)
 

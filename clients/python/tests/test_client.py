@@ -469,6 +469,32 @@ class Contents(unittest.TestCase):
                 client.close()
                 self.assertEqual(server.stop(), ["settled t yes"])
 
+    def test_pipelines_have_these_calls_too(self) -> None:
+        document = {"pages": list(range(400))}
+        with Server(*MANY) as server, ramp_client.connect(server.url(), client=1) as client:
+            with client.pipeline() as pipeline:
+                done = pipeline.put_json({"doc": document, "small": [1]}, tag="red"), pipeline.put_text({"t": "two words"}), pipeline.put_bytes({"b": b"\0\n"})
+                told = pipeline.get_json("doc"), pipeline.get_json("small", "none"), pipeline.get_text("t"), pipeline.get_bytes("b"), pipeline.get_json("doc", "small")
+            self.assertEqual([it.result() for it in told[:4]], [{"doc": document}, {"small": [1], "none": None}, {"t": "two words"}, {"b": b"\0\n"}])
+            self.assertEqual(client.get("doc.0", "small.0", "t.0")["t.0"].stamp, done[1].result())
+            with self.assertRaises(ramp_client.Invalid) as caught:
+                told[4].result()
+            self.assertRegex(str(caught.exception), "the content of 'doc' stands under 1[0-6] keys, and a pipeline reads 8 of each of 2 contents: read fewer at once")
+            with client.pipeline() as pipeline:
+                for call, why in ((lambda: pipeline.get_json("doc", *"abcdefghijklmnop"), "17 keys: give 1 to 16"), (lambda: pipeline.get_text(), "0 keys: give 1 to 16"),
+                                  (lambda: pipeline.get_json("a", "a"), "16 keys, 8 of them different"), (lambda: pipeline.put_json("x", 1), "put_json takes a dict")):
+                    with self.assertRaises(ramp_client.Invalid) as caught:
+                        call()
+                    self.assertTrue(str(caught.exception).startswith(why), f"{caught.exception}")
+
+            async def in_loop() -> None:
+                async with ramp_client.AsyncClient(server.url()) as other:
+                    async with other.pipeline() as batch:
+                        read = batch.get_json("doc")
+                    self.assertEqual(read.result(), {"doc": document})
+
+            asyncio.run(in_loop())
+
     def test_content_that_grows_is_read_whole(self) -> None:
         with Server(*MANY) as server, ramp_client.Pool(server.url(), size=3) as pool:
             begun = time.monotonic()
@@ -569,6 +595,7 @@ class Errors(unittest.TestCase):
         pools: tuple[Any, ...] = (ramp_client.Pool, ramp_client.AsyncPool)
         for kinds, options, why in (
             (sessions + pools, {"timeout": "5"}, "timeout is a number of seconds above 0, as in timeout=5, or None, and not '5'"),
+            (sessions + pools, {"timeout": True}, "timeout is a number of seconds above 0, as in timeout=5, or None, and not True"),
             (sessions + pools, {"timeout": 0}, "timeout is a number of seconds above 0, as in timeout=5, or None, and not 0"),
             (sessions + pools, {"retry": 3}, "retry takes a Retry, as in retry=Retry(attempts=3), and not 3"),
             (sessions + pools, {"newest": 5}, "newest is client or server, and not 5"),

@@ -97,7 +97,8 @@ impl Options {
                 "--wait" => options.waits = true,
                 "--csv" => options.form = Form::Csv,
                 "--json" => options.form = Form::Json,
-                name if name.starts_with("--") => {
+                name if name.starts_with('-') => {
+                    known(name)?;
                     let value = words.next().ok_or_else(|| format!("{name} takes a value: --help says which"))?;
                     options.set(name, &value)?;
                 }
@@ -154,7 +155,7 @@ impl Options {
             "--warmup" => self.warmup = seconds(name, value, 0.0)?,
             "--rate" => self.rate = Some(number(name, value, 1, 100_000_000)? as f64),
             "--seed" => self.seed = number(name, value, 0, usize::MAX)? as u64,
-            _ => return Err(format!("there is no option {name}: --help lists them")),
+            _ => return Err(unknown(name)),
         }
         Ok(())
     }
@@ -182,6 +183,20 @@ impl Options {
         }
         Ok(self)
     }
+}
+
+/// The options that take a value.
+const OF_VALUES: [&str; 12] =
+    ["--connections", "--depth", "--mix", "--keys", "--items", "--size", "--tenants", "--seconds", "--count", "--warmup", "--rate", "--seed"];
+
+fn known(name: &str) -> Result<(), String> {
+    OF_VALUES.contains(&name).then_some(()).ok_or_else(|| unknown(name))
+}
+
+fn unknown(name: &str) -> String {
+    let is_address = ["--port", "-p", "--tenant", "-t", "--host", "--client", "-c"].contains(&name.split('=').next().unwrap_or(name));
+    let right = if is_address { "the address is a URL, as in ramp-bench ramp://127.0.0.1:7000/t" } else { "--help lists them" };
+    format!("there is no option {name}: {right}")
 }
 
 fn place(url: &str) -> Result<Place, String> {
@@ -238,6 +253,10 @@ mod tests {
             ("--size 9-8", "--size 9-8 goes down: the lesser one comes first"),
             ("--keys 3", "--items 4 of --keys 3: a request's keys differ, so there are at least as many"),
             ("--speed 9", "there is no option --speed: --help lists them"),
+            ("--speed", "there is no option --speed: --help lists them"),
+            ("--port 7000", "there is no option --port: the address is a URL, as in ramp-bench ramp://127.0.0.1:7000/t"),
+            ("-p 7000", "there is no option -p: the address is a URL, as in ramp-bench ramp://127.0.0.1:7000/t"),
+            ("--tenant=t", "there is no option --tenant=t: the address is a URL, as in ramp-bench ramp://127.0.0.1:7000/t"),
             ("a b", "the URL \"a\" is none, and takes ramp://HOST:PORT/TENANT"),
             ("ramp://127.0.0.1:1/t b", "\"b\" is a second URL, and one is measured"),
             ("redis://127.0.0.1:1 --mix find", "a Redis server has no find, no tenants, and nothing to read before a put"),
