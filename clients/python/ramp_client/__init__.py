@@ -12,15 +12,15 @@
 from . import codec
 from .aio import AsyncCalls, AsyncClient, AsyncPipeline, AsyncPool
 from .client import Calls, Client, Pending, Pipeline, Pool, connect
-from .errors import (REFUSALS, CannotConnect, Closed, ConnectionLost, FalseAnswer, InUse, Invalid, Lost, NoAnswer, NoRoom, NotWhole, OutcomeUnknown, RampError,
+from .errors import (REFUSALS, CannotConnect, Closed, ConnectionLost, FalseAnswer, InUse, Invalid, Lost, NewStore, NoAnswer, NoRoom, NotWhole, OutcomeUnknown, RampError,
                      Refused, RefusedNow, RefusedRoom, RefusedUse, Restarted, Torn, TrustNothing, TryAgain, WrongUse)
-from .lines import Item
+from .lines import Item, ServerInfo
 from .policy import Options, Retry, read_url
 
 __version__ = "0.3.0"
 
 __all__ = [
     "REFUSALS", "AsyncCalls", "AsyncClient", "AsyncPipeline", "AsyncPool", "Calls", "CannotConnect", "Client", "Closed", "ConnectionLost", "FalseAnswer", "InUse", "Invalid", "Item", "Lost",
-    "NoAnswer", "NoRoom", "NotWhole", "Options", "OutcomeUnknown", "Pending", "Pipeline", "Pool", "RampError", "Refused", "RefusedNow", "RefusedRoom",
-    "RefusedUse", "Restarted", "Retry", "Torn", "TrustNothing", "TryAgain", "WrongUse", "codec", "connect", "read_url",
+    "NewStore", "NoAnswer", "NoRoom", "NotWhole", "Options", "OutcomeUnknown", "Pending", "Pipeline", "Pool", "RampError", "Refused", "RefusedNow", "RefusedRoom",
+    "RefusedUse", "Restarted", "Retry", "ServerInfo", "Torn", "TrustNothing", "TryAgain", "WrongUse", "codec", "connect", "read_url",
 ]

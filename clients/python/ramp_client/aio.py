@@ -11,8 +11,8 @@ from . import contents, lines
 from .async_wire import AsyncWire
 from .client import Batch, check_pool, described
 from .errors import Closed, InUse, Invalid, WrongUse
-from .lines import Call, Item
-from .policy import CLIENT, TIMEOUT, Retry, read_url
+from .lines import Call, Item, ServerInfo
+from .policy import CLIENT, TIMEOUT, WARN, Retry, read_url
 from .session import Connect, Exchange, Pause, Session, Steps
 
 T = TypeVar("T")
@@ -158,8 +158,9 @@ class AsyncClient(AsyncCalls):
     Tasks may share one: a call waits, at most `timeout` seconds, until the call of another task has ended. An `AsyncPool` lets them run
     concurrently."""
 
-    def __init__(self, url: str, *, client: Optional[int] = None, timeout: Optional[float] = TIMEOUT, newest: str = CLIENT, retry: Optional[Retry] = None):
-        self.options = read_url(url, client, timeout, newest, retry)
+    def __init__(self, url: str, *, client: Optional[int] = None, timeout: Optional[float] = TIMEOUT, newest: str = CLIENT, retry: Optional[Retry] = None,
+                 new_store: str = WARN):
+        self.options = read_url(url, client, timeout, newest, retry, new_store)
         self._session = Session(self.options)
         self._wire = AsyncWire()
         self._turns = _Shared([self._wire])
@@ -186,9 +187,13 @@ class AsyncClient(AsyncCalls):
 
     @property
     def new_stores(self) -> int:
-        """How often it connected again and found its counter below what it had been: then the server was started anew, and what was written before
-        is gone. Each time is logged as a WARNING, too. A client that has written and read nothing can't notice it, nor one that got another number."""
+        """As `Client.new_stores`."""
         return self._session.new_stores
+
+    @property
+    def server(self) -> Optional[ServerInfo]:
+        """As `Client.server`."""
+        return self._session.server
 
     async def open(self) -> None:
         """Connects now, if it has not. It raises what a call would raise."""
@@ -258,10 +263,11 @@ class AsyncPool(AsyncCalls):
     """At most `size` sessions, for any number of tasks of one event loop. A call takes a free session, or waits for one, first come first
     served, at most `wait` seconds. See `Pool`."""
 
-    def __init__(self, url: str, *, size: int = 16, wait: Optional[float] = 30.0, timeout: Optional[float] = TIMEOUT, newest: str = CLIENT, retry: Optional[Retry] = None):
+    def __init__(self, url: str, *, size: int = 16, wait: Optional[float] = 30.0, timeout: Optional[float] = TIMEOUT, newest: str = CLIENT, retry: Optional[Retry] = None,
+                 new_store: str = WARN):
         check_pool(size, wait)
         self.size, self.wait = size, wait
-        clients = [AsyncClient(url, timeout=timeout, newest=newest, retry=retry) for _ in range(size)]
+        clients = [AsyncClient(url, timeout=timeout, newest=newest, retry=retry, new_store=new_store) for _ in range(size)]
         if clients[0].options.client is not None:
             raise Invalid("the clients of a pool draw their numbers: name none in its URL", "client")
         self._clients = clients

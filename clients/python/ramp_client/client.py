@@ -10,8 +10,8 @@ from typing import Any, Callable, Generic, Iterator, Mapping, Optional, Sequence
 
 from . import contents, lines
 from .errors import Closed, InUse, Invalid, WrongUse
-from .lines import Call, Item
-from .policy import CLIENT, TIMEOUT, Retry, check_seconds, read_url
+from .lines import Call, Item, ServerInfo
+from .policy import CLIENT, TIMEOUT, WARN, Retry, check_seconds, read_url
 from .session import Connect, Exchange, Pause, Session, Steps
 from .wire import Wire
 
@@ -212,8 +212,9 @@ class Client(Calls):
     Threads may share one: a call waits, at most `timeout` seconds, until the call of another thread has ended. A `Pool` lets them run
     concurrently. A forked process connects anew."""
 
-    def __init__(self, url: str, *, client: Optional[int] = None, timeout: Optional[float] = TIMEOUT, newest: str = CLIENT, retry: Optional[Retry] = None):
-        self.options = read_url(url, client, timeout, newest, retry)
+    def __init__(self, url: str, *, client: Optional[int] = None, timeout: Optional[float] = TIMEOUT, newest: str = CLIENT, retry: Optional[Retry] = None,
+                 new_store: str = WARN):
+        self.options = read_url(url, client, timeout, newest, retry, new_store)
         self._begin()
         self._is_closed = False
 
@@ -243,9 +244,16 @@ class Client(Calls):
 
     @property
     def new_stores(self) -> int:
-        """How often it connected again and found its counter below what it had been: then the server was started anew, and what was written before
-        is gone. Each time is logged as a WARNING, too. A client that has written and read nothing can't notice it, nor one that got another number."""
+        """How often it connected again and found another store: then the server was started anew, and what was written before is gone. Each time is
+        logged as a WARNING, too, and with `new_store="raise"` the call raises `NewStore`. An older server does not tell which store it has: there
+        the client notices it where its number's counter is below what it had been."""
         return self._session.new_stores
+
+    @property
+    def server(self) -> Optional[ServerInfo]:
+        """What the server told of itself when this client last connected: `version`, `store`, the number of its store, and `newest`, whether puts need
+        no read before them. None where it has not connected, and of an older server, which reports nothing."""
+        return self._session.server
 
     def open(self) -> None:
         """Connects now, if it has not. It raises what a call would raise."""
@@ -330,11 +338,12 @@ class Pool(Calls):
     Sessions are opened on demand, and each uses one of the tenant's client numbers: the server's `--clients` and `--sessions` have to allow
     as many. Open a pool in each process, after a fork and not before it."""
 
-    def __init__(self, url: str, *, size: int = 16, wait: Optional[float] = 30.0, timeout: Optional[float] = TIMEOUT, newest: str = CLIENT, retry: Optional[Retry] = None):
+    def __init__(self, url: str, *, size: int = 16, wait: Optional[float] = 30.0, timeout: Optional[float] = TIMEOUT, newest: str = CLIENT, retry: Optional[Retry] = None,
+                 new_store: str = WARN):
         check_pool(size, wait)
         self.size, self.wait = size, wait
         self._process = os.getpid()
-        self._clients = [Client(url, timeout=timeout, newest=newest, retry=retry) for _ in range(size)]
+        self._clients = [Client(url, timeout=timeout, newest=newest, retry=retry, new_store=new_store) for _ in range(size)]
         if self._clients[0].options.client is not None:
             raise Invalid("the clients of a pool draw their numbers: name none in its URL", "client")
         self._free = list(self._clients)
@@ -397,12 +406,14 @@ class Pool(Calls):
         self.close()
 
 
-def connect(url: str, *, client: Optional[int] = None, timeout: Optional[float] = TIMEOUT, newest: str = CLIENT, retry: Optional[Retry] = None) -> Client:
+def connect(url: str, *, client: Optional[int] = None, timeout: Optional[float] = TIMEOUT, newest: str = CLIENT, retry: Optional[Retry] = None,
+            new_store: str = WARN) -> Client:
     """A client that is connected: `connect("ramp://127.0.0.1:7000/t")`.
 
-    `client` is its number, else one is drawn that no session has. `timeout` is in seconds, for each answer. `newest="server"` says that
-    the server was started with --newest, so that no put has to read before."""
-    session = Client(url, client=client, timeout=timeout, newest=newest, retry=retry)
+    `client` is its number, else the server gives one that no session has. `timeout` is in seconds, for each answer. `newest="server"` asks that the
+    server was started with --newest, so that no put has to read before. `new_store="raise"` has the call raise `NewStore` that finds another store
+    behind the address than the one before."""
+    session = Client(url, client=client, timeout=timeout, newest=newest, retry=retry, new_store=new_store)
     session.open()
     return session
 

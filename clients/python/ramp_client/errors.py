@@ -106,6 +106,11 @@ class NoAnswer(ConnectionLost, TimeoutError):
     """No answer came in time. The connection is closed, so that a late answer is never taken for that of another call."""
 
 
+class NewStore(Lost):
+    """The connection was opened again, and the store behind it is another one: what was written to the one before is gone. It is raised where
+    `new_store="raise"` asks for it, before the call is sent. The next call goes to the new store."""
+
+
 class Refused(RampError):
     """The store refused a line, or ended its transaction: `number`, `name`, `cause` and `cure` say why. Its class is that of its group, too.
 

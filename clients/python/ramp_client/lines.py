@@ -11,6 +11,18 @@ from .limits import LENGTHS, LINE_LIMIT, MOST_ITEMS
 
 MOST_COUNTER = (1 << 40) - 1
 
+ANY = "any"
+"""In place of a client's number: one that is free."""
+
+
+class ServerInfo(NamedTuple):
+    """What a server reports of itself: its version, the number of its store, which is another one each time that it starts, and whether each put is the
+    newest without a read before it."""
+
+    version: str
+    store: int
+    newest: bool
+
 
 def _kind(kind: str, sign: str, words: str) -> tuple[int, int, str, str]:
     least, most = LENGTHS[kind]
@@ -30,6 +42,7 @@ _WORDS = {kind: re.compile(pattern).fullmatch for kind, pattern in _PATTERNS.ite
 _NUMBER = re.compile(r"0|[1-9][0-9]{0,18}").fullmatch
 _STAMP = r"([1-9][0-9]{0,12})\.([1-9][0-9]{0,4})"
 _STAMPED = re.compile(_STAMP).fullmatch
+_INFO = re.compile(r"version=([!-~]{1,64}) store=(0|[1-9][0-9]{0,19}) newest=(yes|no)(?: [!-~]+)*").fullmatch  # later versions may tell more
 _WRITTEN = re.compile(f"({_PATTERNS['key']})@{_STAMP}(?:#({_PATTERNS['tag']}))?=({_PATTERNS['value']})").fullmatch
 
 
@@ -195,11 +208,19 @@ def _kept(call: Call, rest: str) -> int:
     return int(rest)
 
 
-def _ready(call: Call, rest: str) -> int:
-    counter = int(rest) if _NUMBER(rest) else -1
-    if not 0 <= counter <= MOST_COUNTER:
+def _ready(call: Call, rest: str) -> tuple[int, int]:
+    """The counter of the session, and its client's number: the one that was asked for, or the one that the server gave."""
+    counter, word, given = rest.partition(" as ") if call.keys[0] == ANY else (rest, " as ", call.keys[0])
+    if not (word and _NUMBER(counter) and int(counter) <= MOST_COUNTER and _NUMBER(given) and 1 <= int(given) <= 65535):
         raise call.false(f"ready {rest}")
-    return counter
+    return int(counter), int(given)
+
+
+def _informed(call: Call, rest: str) -> ServerInfo:
+    found = _INFO(rest)
+    if not found:
+        raise call.false(f"info {rest}")
+    return ServerInfo(found[1], int(found[2]), found[3] == "yes")
 
 
 def _gone(call: Call, rest: str) -> None:
@@ -260,8 +281,14 @@ def keep(versions: int) -> Call:
     return Call(f"keep {versions}", [str(versions)], "keep", (), _kept)
 
 
-def hello(tenant: str, number: int) -> Call:
-    return Call(f"hello {tenant} {number}", [], "ready", (), _ready)
+def hello(tenant: str, number: Optional[int]) -> Call:
+    """Opens a session as this client, or, where it is None, as one whose number the server gives."""
+    client = ANY if number is None else str(number)
+    return Call(f"hello {tenant} {client}", [client], "ready", (), _ready)
+
+
+def info() -> Call:
+    return Call("info", [], "info", (), _informed)
 
 
 def bye() -> Call:

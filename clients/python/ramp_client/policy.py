@@ -12,10 +12,13 @@ from .errors import CannotConnect, ConnectionLost, Invalid, NoAnswer, RampError,
 from .lines import check
 
 CLIENT = "client"
-"""Of `newest`: a put reads its keys first, so that it is the newest."""
+"""Of `newest`: a put reads its keys first, so that it is the newest, unless the server reports that its puts are."""
 
 SERVER = "server"
-"""Of `newest`: the server was started with --newest and does so itself."""
+"""Of `newest`: the server's puts are the newest (--newest). One that reports otherwise is `Invalid`; one that reports nothing is believed."""
+
+WARN, RAISE = "warn", "raise"
+"""Of `new_store`: what happens where a connection was opened again and the store behind it is another one."""
 
 TIMEOUT = 5.0
 """Seconds that each answer may take, where no timeout is given."""
@@ -86,6 +89,7 @@ class Options:
     timeout: Optional[float] = TIMEOUT
     newest: str = CLIENT
     retry: Retry = field(default_factory=Retry)
+    new_store: str = WARN
 
     def __post_init__(self) -> None:
         check("tenant", self.tenant)
@@ -96,6 +100,8 @@ class Options:
         check_seconds("timeout", self.timeout)
         if self.newest not in (CLIENT, SERVER):
             raise Invalid(f"newest is {CLIENT} or {SERVER}, and not {self.newest!r}", "newest")
+        if self.new_store not in (WARN, RAISE):
+            raise Invalid(f"new_store is {WARN} or {RAISE}, and not {self.new_store!r}", "new_store")
         if not isinstance(self.retry, Retry):
             raise Invalid(f"retry takes a Retry, as in retry=Retry(attempts=3), and not {self.retry!r}", "retry")
 
@@ -112,7 +118,8 @@ class Options:
 FORM = "ramp://HOST:PORT/TENANT, and behind it ?client=NUMBER&timeout=SECONDS&newest=server as needed"
 
 
-def read_url(url: str, client: Optional[int] = None, timeout: Optional[float] = TIMEOUT, newest: str = CLIENT, retry: Optional[Retry] = None) -> Options:
+def read_url(url: str, client: Optional[int] = None, timeout: Optional[float] = TIMEOUT, newest: str = CLIENT, retry: Optional[Retry] = None,
+             new_store: str = WARN) -> Options:
     """The options that a URL names, and these where it names none."""
     if not isinstance(url, str):
         raise Invalid(f"{url!r} is no URL: {FORM}", "url")
@@ -136,4 +143,4 @@ def read_url(url: str, client: Optional[int] = None, timeout: Optional[float] = 
             timeout = float(named["timeout"])
         except ValueError:
             raise Invalid(f"{url!r}: {named['timeout']!r} is no number of seconds", "timeout") from None
-    return Options(host, port, tenant, client, timeout, named.get("newest", newest), Retry() if retry is None else retry)
+    return Options(host, port, tenant, client, timeout, named.get("newest", newest), Retry() if retry is None else retry, new_store)

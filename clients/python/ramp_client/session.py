@@ -10,9 +10,9 @@ import threading
 from typing import Generator, Iterator, NamedTuple, Optional, Sequence, TypeVar, Union
 
 from . import lines
-from .errors import MAY_BE_DONE, CannotConnect, ConnectionLost, FalseAnswer, NoAnswer, OutcomeUnknown, RampError, Refused, Restarted
-from .lines import Call
-from .policy import CLIENT, Options
+from .errors import MAY_BE_DONE, CannotConnect, ConnectionLost, FalseAnswer, Invalid, NewStore, NoAnswer, OutcomeUnknown, RampError, Refused, Restarted
+from .lines import ANY, Call, ServerInfo
+from .policy import RAISE, SERVER, Options
 
 log = logging.getLogger("ramp_client")
 
@@ -20,7 +20,10 @@ MOST_IN_FLIGHT = 16
 """How many calls of a pipeline are sent before their answers are read: what both sides may then send fits the socket buffers."""
 
 MOST_NUMBER = 1024
-"""Client numbers are chosen from 1 to this: as many as a tenant can have, so that trying them all finds every number that was ever used."""
+"""A client of an older server chooses its number from 1 to this: as many as a tenant can have, so that trying them all finds every number that was ever used."""
+
+BAD_LINE = 40
+"""By which number an older server refuses a line that it does not know."""
 
 BATCHES = (4, 60, 1024)
 """How many hellos are sent in one piece, the first time, the second time and so on. The server accepts the first that it can."""
@@ -110,8 +113,9 @@ def batches(first: Optional[int], is_drawn: bool = True) -> Iterator[list[int]]:
 
 class Session:
     """A client's session, and what it knows of its connection. `number` is 0 where none is open. `counter` is the greatest that it wrote or read, or
-    that the server gave it. `opened` counts its connections, and `new_stores` those at which the store was another one than before. Where `draws` is
-    not set, it tries client numbers from the greatest down, so that programs that run one after the other use up few of them."""
+    that the server gave it. `server` is what the server told of itself at the last connection, None where it is an older one that does not. `opened`
+    counts its connections, and `new_stores` those at which the store was another one than before. Where `draws` is not set, it tries the numbers of an
+    older server from the greatest down, so that programs that run one after the other use up few of them."""
 
     def __init__(self, options: Options):
         self.options = options
@@ -120,6 +124,8 @@ class Session:
         self.opened = 0
         self.new_stores = 0
         self.draws = True
+        self.server: Optional[ServerInfo] = None
+        self._is_older = False
         self._last: Optional[int] = options.client
         self._is_connected = False
         self._counters: dict[int, int] = {}
@@ -195,16 +201,7 @@ class Session:
     def _open(self) -> Steps[None]:
         options = self.options
         if not self._is_connected:
-            try:
-                yield Connect(options)
-            except Late:
-                raise NoAnswer(f"no connection to {options.where} in {options.timeout} s") from None
-            except ConnectionRefusedError:
-                raise CannotConnect(f"nobody listens at {options.where}: is `ramp serve --port {options.port} {options.tenant}` running there, "
-                                    "and has it room for a further connection?") from None
-            except OSError as error:
-                raise CannotConnect(f"no connection to {options.where}: {error}") from None
-            self._is_connected = True
+            yield from self._connect()
         try:
             yield from self._hello()
         except OSError as error:
@@ -212,48 +209,103 @@ class Session:
             if isinstance(error, Late):
                 raise NoAnswer(f"{options.where} gave no answer to hello in {options.timeout} s: has the server room for a further session (--sessions)?") from None
             raise self._told(error) from None
-        except FalseAnswer:
+        except (FalseAnswer, Invalid):
             yield from self._drop()
             raise
 
+    def _connect(self) -> Steps[None]:
+        options = self.options
+        try:
+            yield Connect(options)
+        except Late:
+            raise NoAnswer(f"no connection to {options.where} in {options.timeout} s") from None
+        except ConnectionRefusedError:
+            raise CannotConnect(f"nobody listens at {options.where}: is `ramp serve --port {options.port} {options.tenant}` running there, "
+                                "and has it room for a further connection?") from None
+        except OSError as error:
+            raise CannotConnect(f"no connection to {options.where}: {error}") from None
+        self._is_connected = True
+
     def _hello(self) -> Steps[None]:
-        """Opens the session as this client, or as one that no session has."""
+        """Opens the session as this client, or as one whose number the server gives, or else as one that no session has."""
         options = self.options
         refused: Optional[Refused] = None
-        if self._last is None:
+        if options.client is None and not self._is_older:
+            refused = yield from self._say([self._last, None] if self._last else [None], True)
+            self._is_older = refused is not None and refused.number == BAD_LINE
+            if self._is_older and not self._is_connected:
+                yield from self._connect()
+        if self._is_older and self._last is None:
             self._last = NUMBERS.take(options)
-        for batch in [[options.client]] if options.client else batches(self._last, self.draws):
-            calls = [lines.hello(options.tenant, number) for number in batch]
-            answers: list[str] = []
-            yield Exchange("".join(call.line + "\n" for call in calls).encode(), len(calls), answers)
-            taken = 0
-            for number, call, answer in zip(batch, calls, answers):
-                try:
-                    self.counter = call.read(answer)
-                except Refused as error:
-                    if error.number not in (12, 24) or (taken and error.number != 12):
-                        raise error if not taken else call.false(answer)
-                    refused = error if refused is None or refused.number == 12 else refused
-                else:
-                    if taken:
-                        raise call.false(answer)
-                    taken = number
-            if taken:
-                self._begin(taken)
+        for batch in [[options.client]] if options.client else batches(self._last, self.draws) if self._is_older else ():
+            refused = (yield from self._say(batch, not self._is_older)) or refused
+            if self.number:
                 return
-        assert refused is not None
-        raise refused
+        if not self.number:
+            assert refused is not None
+            raise refused
 
-    def _begin(self, number: int) -> None:
-        """The session is open. A store never lowers a client's counter: where it is below what this client had, the store is a new one."""
-        self.number = number
+    def _say(self, numbers: Sequence[Optional[int]], asks_info: bool) -> Steps[Optional[Refused]]:
+        """Says hello with these numbers, in one piece, and then asks the server what it is. The session is open if one was free; else it returns why not."""
+        hellos = [lines.hello(self.options.tenant, number) for number in numbers]
+        asked = [*hellos, lines.info()] if asks_info else hellos
+        answers: list[str] = []
+        try:
+            yield Exchange("".join(call.line + "\n" for call in asked).encode(), len(asked), answers)
+        except ConnectionError:
+            # An older server that is strict ends at a line that it does not know.
+            if not (None in numbers and answers[-1:] == [f"refused {BAD_LINE}"]):
+                raise
+            yield from self._drop()
+        taken: Optional[tuple[int, int]] = None
+        refused: Optional[Refused] = None
+        for call, answer in zip(hellos, answers):
+            try:
+                ready = call.read(answer)
+            except Refused as error:
+                if error.number not in ((12, 24, BAD_LINE) if call.keys == [ANY] else (12, 24)) or (taken and error.number == 24):
+                    raise error if not taken else call.false(answer)
+                refused = error if refused is None or refused.number == 12 else refused
+            else:
+                if taken:
+                    raise call.false(answer)
+                taken = ready
+        if taken:
+            self._begin(*taken, self._informed(asked[-1], answers[-1]) if asks_info else None)
+            return None
+        return refused
+
+    def _informed(self, call: Call, answer: str) -> Optional[ServerInfo]:
+        """What the server reports of itself, if it knows the line."""
+        options = self.options
+        try:
+            server: ServerInfo = call.read(answer)
+        except Refused:
+            return None
+        if options.newest == SERVER and not server.newest:
+            raise Invalid(f"newest={SERVER}: the server at {options.where} was started without --newest, so its puts are the newest only where the client reads first", "newest")
+        return server
+
+    def _begin(self, counter: int, number: int, server: Optional[ServerInfo]) -> None:
+        """The session is open. Where the server does not tell which store it has: a store never lowers a client's counter, so one below what this client had
+        shows that the store is a new one."""
+        before, self.server = self.server, server
+        had = self._counters.get(number, 0)
+        if before or server:
+            is_new = self.opened > 0 and (server and server.store) != (before and before.store)
+            why = f"its number is {server.store if server else 'not told'}, and was {before.store if before else 'not told'}"
+        else:
+            is_new = counter < had
+            why = f"the counter of client {number} is {counter}, and was {had}"
+        self.number, self.counter = number, counter
         self.opened += 1
-        before = self._counters.get(number, 0)
-        if self.counter < before:
+        if is_new:
             self.new_stores += 1
             self._counters.clear()
-            log.warning("%s: the store is a new one, and what was written to the one before is gone: the counter of client %d is %d, and was %d",
-                        self.options.where, number, self.counter, before)
+            text = f"{self.options.where}: the store is a new one, and what was written to the one before is gone: {why}"
+            log.warning("%s", text)
+            if self.options.new_store == RAISE:
+                raise NewStore(text)
 
     def _ask(self, calls: Sequence[Call], known: set[str]) -> Steps[Optional[RampError]]:
         """Sends these calls, each put after a read of its keys that are not `known` yet, and settles those that are answered for good."""
@@ -287,8 +339,9 @@ class Session:
         return fault or failure
 
     def _with_reads(self, calls: Sequence[Call], known: set[str]) -> Iterator[Call]:
+        is_newest = self.server.newest if self.server else self.options.newest == SERVER
         for call in calls:
-            if call.reads_first and self.options.newest == CLIENT:
+            if call.reads_first and not is_newest:
                 unread = [key for key in call.keys if key not in known]
                 if unread:
                     yield lines.reading(unread)

@@ -180,7 +180,9 @@ def info(asking: Asking, _: list[str]) -> Answer:
     begun = time.perf_counter()
     client.get("ramp-cli")
     took = (time.perf_counter() - begun) * 1000
+    server = client.server
     told: dict[str, Any] = {"address": client.options.where, "tenant": client.options.tenant, "client": client.number, "counter": client.counter,
+                            **({"version": server.version, "store": server.store, "newest": "yes" if server.newest else "no"} if server else {}),
                             "round_trip_ms": round(took, 3), "reconnects": client.opened - 1, **asking.sizes.read(client.options)}
     rows = [f"{name.replace('_ms', ', ms').replace('_', ' '):16}{size_words(value)}" for name, value in told.items()]
     return Answer("\n".join(rows), {"info": told})
@@ -212,7 +214,7 @@ COMMANDS = {
     "put-json": Command("KEY JSON", "writes JSON, in the same way", 2, None, put_json, "keys", True),
     "get-json": Command("KEY", "reads it", 1, 1, get_json, "keys"),
     "keep": Command("K", "has collections keep the K latest versions of an item, 1 to 255", 1, 1, keep),
-    "info": Command("", "address, tenant, client number, counter, round trip, and sizes with --status", 0, 0, info),
+    "info": Command("", "address, tenant, client number, counter, the server's version and store, whether its puts are newest, round trip, and sizes with --status", 0, 0, info),
 }
 HIDDEN = {"hello": Command("TENANT CLIENT", "", 0, None, hello)}
 """Of the session's lines: answered, and listed nowhere, since the client has said it."""

@@ -247,6 +247,8 @@ class Runner:
         if word == "close":
             client.close()
             return "bye"
+        if word == "new_stores":
+            return str(client.own.new_stores)
         if word == "pipe":
             parts = [part.split(" ") for part in " ".join(rest).split(" ; ")]
             pending = client.pipe(lambda pipeline: [ask(pipeline, part) for part in parts])
@@ -257,7 +259,7 @@ class Runner:
         found = re.fullmatch("false '([^']*)' (.*)", words)
         assert found is not None, words
         self.end()
-        self.script = ["accept", "hear hello t 5", "say ready 0", f"hear {found[1]}", f"say {found[2]}"]
+        self.script = ["accept", "hear hello t 5", "hear info", "say ready 0", "say refused 40", f"hear {found[1]}", f"say {found[2]}"]
         self.call(["a", "connect", "t", "5", "attempts=1"])
         call = found[1].split(" ")
         try:

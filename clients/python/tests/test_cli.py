@@ -114,7 +114,7 @@ class Commands(unittest.TestCase):
             for _ in range(4):
                 self.assertEqual(run(server.url(), "put", "x=1").returncode, 0)
             told = json.loads(run("--json", server.url(), "info").stdout)["info"]
-            self.assertEqual((told["client"], told["counter"]), (1024, 4))
+            self.assertEqual((told["client"], told["counter"]), (2, 4))
 
     def test_sizes_are_those_of_the_metrics(self) -> None:
         with socket.create_server(("127.0.0.1", 0)) as free:
@@ -132,7 +132,7 @@ class Commands(unittest.TestCase):
         def serve(*told: bytes) -> Any:
             def handle(connection: socket.socket) -> None:
                 connection.recv(1 << 16)
-                connection.sendall(b"ready 0\n")
+                connection.sendall(b"ready 0\nrefused 40\n")
                 for answer in told:
                     connection.recv(1 << 16)
                     connection.sendall(answer)
@@ -190,7 +190,7 @@ class Pipes(unittest.TestCase):
                                   env=environment()) as client:
                 assert client.stdin and client.stdout and client.stderr
                 print("put x=1", file=client.stdin, flush=True)
-                self.assertEqual(client.stdout.readline(), "done 1.1024\n")
+                self.assertEqual(client.stdout.readline(), "done 1.16\n")
                 first.kill()
                 with Server(*MANY, port=first.port):
                     out, err = client.communicate("get x\nget y\n", timeout=ALL)
@@ -201,7 +201,7 @@ class Pipes(unittest.TestCase):
         with Server(*MANY) as server:
             with subprocess.Popen([sys.executable, CLI, server.url()], stdin=subprocess.PIPE, stdout=subprocess.PIPE, text=True, env=environment()) as client:
                 assert client.stdin and client.stdout
-                for line, answer in (("put x=1", "done 1.1024"), ("get x", "lost: nobody listens at "), ("put x=2", "lost: nobody listens at ")):
+                for line, answer in (("put x=1", "done 1.16"), ("get x", "lost: nobody listens at "), ("put x=2", "lost: nobody listens at ")):
                     print(line, file=client.stdin, flush=True)
                     self.assertTrue((told := client.stdout.readline()).startswith(answer), told)
                     server.kill()
@@ -288,10 +288,10 @@ class Prompt(unittest.TestCase):
 
     def test_completion(self) -> None:
         with Server(*MANY) as server, Terminal(server.url(), state=self.state) as terminal:
-            terminal.until(r"client 1024 of tenant t at [^\n]*\r\nt/1024> ")
-            terminal.ask("put stock#red=1 sold#blue=2", "done 1.1024")
-            for typed, shown, answer in (("get st\t", "get stock ", "read stock@1.1024#red=1"), ("fi\tb\t", "find blue ", "list sold@1.1024#blue=2"),
-                                         ("put sto\t5", "put stock=5", "done 2.1024"), ("put x#r\t5", "put x#red=5", "done 3.1024"), ("kee\t3", "keep 3", "keep 3")):
+            terminal.until(r"client 16 of tenant t at [^\n]*\r\nt/16> ")
+            terminal.ask("put stock#red=1 sold#blue=2", "done 1.16")
+            for typed, shown, answer in (("get st\t", "get stock ", "read stock@1.16#red=1"), ("fi\tb\t", "find blue ", "list sold@1.16#blue=2"),
+                                         ("put sto\t5", "put stock=5", "done 2.16"), ("put x#r\t5", "put x#red=5", "done 3.16"), ("kee\t3", "keep 3", "keep 3")):
                 self.assertIn(shown, terminal.ask(typed, answer))
             self.end(terminal)
             self.assertEqual(server.stop(), ["settled t yes"])
@@ -307,7 +307,7 @@ class Prompt(unittest.TestCase):
             self.assertEqual((self.history.stat().st_mode & 0o777, self.history.parent.stat().st_mode & 0o777), (0o600, 0o700))
             with Terminal(server.url(), state=self.state) as terminal:
                 terminal.until("> ")
-                terminal.ask("\x1b[A", "read x@1.1024=1")
+                terminal.ask("\x1b[A", "read x@1.16=1")
                 self.end(terminal, "bye\n")
             self.assertEqual(self.history.read_text(), "put x=1\nget x\nbye\n")
             with Terminal("--no-history", server.url(), state=self.state) as terminal:
@@ -327,17 +327,17 @@ class Prompt(unittest.TestCase):
     def test_server_that_comes_back(self) -> None:
         with Server(*MANY) as first, Terminal(first.url(), state=self.state) as terminal:
             terminal.until("> ")
-            terminal.ask("put x=1", "done 1.1024")
+            terminal.ask("put x=1", "done 1.16")
             first.kill()
             told = terminal.ask("get x", "lost: nobody listens at 127.0.0.1")
             self.assertIn("-- the next line tries to connect again", told)
             self.assertTrue(told.endswith("t/-> "), told)
             with Server(*MANY, port=first.port):
                 told = terminal.ask("get x", r"read x@0\.0")
-                self.assertIn(f"-- connected again to 127.0.0.1:{first.port}, as client 1024", told)
+                self.assertIn(f"-- connected again to 127.0.0.1:{first.port}, as client 16", told)
                 self.assertIn("-- the server was started anew: its store is a new one, and all that was written before is gone", told)
-                terminal.ask("put x=2", "done 1.1024")
-                self.assertNotIn("--", terminal.ask("get x", "read x@1.1024=2"))
+                terminal.ask("put x=2", "done 1.16")
+                self.assertNotIn("--", terminal.ask("get x", "read x@1.16=2"))
                 self.end(terminal)
 
     def test_interrupt_leaves_the_line_alone(self) -> None:
@@ -351,7 +351,7 @@ class Prompt(unittest.TestCase):
                     break
                 terminal.type("\x03")
             terminal.type("get x\n")
-            terminal.until(r"read x@0\.0\r\nt/1024> ")
+            terminal.until(r"read x@0\.0\r\nt/16> ")
             terminal.ask("put x=1 y=", "done")
             self.assertIn("find TAG", terminal.ask("help", "put KEY=VALUE"))
             self.end(terminal, "quit\n")

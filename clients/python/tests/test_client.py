@@ -38,7 +38,7 @@ def answers(*told: Any) -> Callable[[socket.socket], None]:
     """Says hello to the client, and then each of these to a piece of its lines. A number is seconds to wait."""
     def serve(connection: socket.socket) -> None:
         connection.recv(1 << 16)
-        connection.sendall(b"ready 0\n")
+        connection.sendall(b"ready 0\nrefused 40\n")
         for it in told:
             if isinstance(it, float):
                 time.sleep(it)
@@ -47,6 +47,32 @@ def answers(*told: Any) -> Callable[[socket.socket], None]:
                 connection.recv(1 << 16)
             connection.sendall(it)
         connection.recv(1 << 16)
+    return serve
+
+
+def older(is_strict: bool) -> Callable[[socket.socket], None]:
+    """A server without `hello TENANT any` and `info`, at which one client number alone is free."""
+    def serve(connection: socket.socket) -> None:
+        number, counter = "", 0
+        with connection.makefile("rwb") as stream:
+            for line in stream:
+                words = line.decode().split()
+                if words[0] == "hello" and words[2] != "any":
+                    told = "refused 12" if number or words[2] != "700" else "ready 0"
+                    number = "700" if told == "ready 0" else number
+                elif words[0] in ("hello", "info"):
+                    told = "refused 40"
+                elif words[0] == "get":
+                    told = " ".join(["read", *(f"{key}@0.0" for key in words[1:])])
+                elif words[0] == "put":
+                    counter += 1
+                    told = f"done {counter}.{number}"
+                else:
+                    told = "bye"
+                stream.write(told.encode() + b"\n")
+                stream.flush()
+                if told == "bye" or (is_strict and told == "refused 40" and not number):
+                    return
     return serve
 
 
@@ -79,11 +105,65 @@ class Clients(unittest.TestCase):
                 with Server(*MANY, port=first.port) as second:
                     with self.assertLogs("ramp_client", logging.WARNING) as told:
                         self.assertEqual(client.put({"x": "2"}), "1.3")
-                    self.assertRegex(told.output[0], "the store is a new one, and what was written to the one before is gone: the counter of client 3 is 0, and was 1")
+                    self.assertRegex(told.output[0], "the store is a new one, and what was written to the one before is gone: its number is [0-9]+, and was [0-9]+")
                     self.assertEqual((client.own.new_stores, client.own.opened, client.own.counter), (1, 2, 1))
                     self.assertEqual(client.get("x")["x"].value, "2")
                     client.close()
                     self.assertEqual(second.stop(), ["settled t yes"])
+
+    def test_new_store_is_an_error_where_it_is_to_be(self) -> None:
+        for loop in self.each():
+            with Server(*MANY) as first:
+                # One that has written and read nothing notices it, too.
+                client = make_client(loop, first.url(), new_store="raise")
+                client.open()
+                before = client.own.server
+                first.kill()
+                with Server(*MANY, port=first.port), self.assertLogs("ramp_client", logging.WARNING):
+                    with self.assertRaisesRegex(ramp_client.NewStore, f"its number is [0-9]+, and was {before.store}$"):
+                        client.put({"x": "1"})
+                    self.assertIsNone(client.get("x")["x"].value)
+                    self.assertEqual((client.own.new_stores, client.own.opened, client.own.server.store > before.store), (1, 2, True))
+                    client.close()
+
+    def test_what_a_server_tells_of_itself(self) -> None:
+        for loop in self.each():
+            for words, newest in ((("--newest",), True), ((), False)):
+                with Server(*words, *MANY) as server:
+                    client = make_client(loop, server.url())
+                    self.assertIsNone(client.own.server)
+                    client.open()
+                    self.assertEqual(client.own.server, ramp_client.ServerInfo(ramp_client.__version__, client.own.server.store, newest))
+                    pieces = self.pieces_of(lambda: client.put({"x": "1"})) if loop is None else []
+                    self.assertEqual(pieces, [] if loop else [1 if newest else 2])
+                    client.close()
+
+    def test_older_server(self) -> None:
+        """It knows neither `hello TENANT any` nor `info`, and a strict one ends at such a line."""
+        for loop in self.each():
+            for is_strict in (False, True):
+                listener = self.scripted(older(is_strict))
+                client = make_client(loop, listener.url(), retry=ramp_client.Retry(attempts=2, pause=0.01))
+                client.put({"x": "1"})
+                self.assertEqual((client.own.number, client.own.server, client.own.new_stores), (700, None, 0))
+                self.assertEqual(client.ask("bye"), "bye")
+                client.put({"x": "1"})
+                self.assertEqual((client.own.number, client.own.opened), (700, 2))
+                client.close()
+                named = make_client(loop, listener.url(), client=700, newest="server", retry=ONCE)
+                self.assertEqual((named.put({"x": "1"}), named.own.server), ("1.700", None))
+                named.close()
+
+    def pieces_of(self, call: Callable[[], Any]) -> list[int]:
+        """How many lines each piece has that a client of threads sends meanwhile."""
+        pieces: list[int] = []
+        original = ramp_client.client.Wire.exchange  # type: ignore[attr-defined]
+        ramp_client.client.Wire.exchange = lambda wire, wanted: (pieces.append(wanted.count), original(wire, wanted))[1]  # type: ignore[attr-defined]
+        try:
+            call()
+        finally:
+            ramp_client.client.Wire.exchange = original  # type: ignore[attr-defined]
+        return pieces
 
     def test_pool_notices_a_new_store(self) -> None:
         with Server(*MANY) as first:
@@ -164,16 +244,11 @@ class Clients(unittest.TestCase):
         with Server("--clients", "32", "--sessions", "40", "t") as server:
             ramp_client.connect(server.url(), client=7).close()
             busy = [ramp_client.connect(server.url(), client=number) for number in range(1, 33) if number != 7]
-            session.NUMBERS = session.Numbers()
-            pieces = []
-            original = ramp_client.client.Wire.exchange  # type: ignore[attr-defined]
-            ramp_client.client.Wire.exchange = lambda wire, wanted: (pieces.append(wanted.count), original(wire, wanted))[1]  # type: ignore[attr-defined]
-            try:
+            def use_one() -> None:
                 with ramp_client.connect(server.url(), retry=ONCE) as client:
                     self.assertEqual(client.number, 7)
-                    self.assertLessEqual(len(pieces), 3)
-            finally:
-                ramp_client.client.Wire.exchange = original  # type: ignore[attr-defined]
+
+            self.assertEqual(self.pieces_of(use_one), [2, 1])  # the hello and the info, and the bye
             # It is used again, so that few of the tenant's numbers are used up.
             with ramp_client.connect(server.url()) as client:
                 self.assertEqual(client.number, 7)

@@ -40,9 +40,13 @@ class Hostile:
         """The right answer to a line."""
         self.asked += 1
         if words[0] == "hello":
-            is_first, self.client = not self.counter, words[2] if not self.counter else self.client
+            is_first, is_any = not self.counter, words[2] == "any"
+            if is_first:
+                self.client = "16" if is_any else words[2]
             self.counter = max(self.counter, 1)
-            return "ready 0" if is_first else "refused 12"
+            return ("ready 0 as 16" if is_any else "ready 0") if is_first else "refused 12"
+        if words[0] == "info":
+            return "info version=0.3.0 store=7 newest=no"
         if words[0] == "get":
             return " ".join(["read", *(f"{key}@{self.counter}.7=v.{key}.{self.asked}" for key in words[1:])])
         if words[0] == "find":

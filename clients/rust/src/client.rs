@@ -7,7 +7,7 @@ use crate::line::{self, Request};
 use crate::link::Link;
 use crate::numbers;
 use crate::pipeline::{self, Line, Pipeline};
-use crate::{Answer, Item, Write};
+use crate::{Answer, Item, ServerInfo, Write};
 use std::net::TcpStream;
 use std::sync::Arc;
 use std::thread;
@@ -27,6 +27,11 @@ pub struct Client {
     link: Option<Link>,
     /// The number and the counter of the session before.
     before: Option<(u16, u64)>,
+    /// What the server told of itself at the last connection, if there was one and it did.
+    server: Option<ServerInfo>,
+    has_opened: bool,
+    /// Whether the server knows neither `hello TENANT any` nor `info`.
+    is_older: bool,
     new_stores: u64,
 }
 
@@ -44,7 +49,7 @@ impl Client {
 
     /// A client that connects on first use.
     pub(crate) fn unconnected(config: Arc<Config>) -> Client {
-        Client { config, link: None, before: None, new_stores: 0 }
+        Client { config, link: None, before: None, server: None, has_opened: false, is_older: false, new_stores: 0 }
     }
 
     /// The client number; 0 while there is no connection.
@@ -52,22 +57,27 @@ impl Client {
         self.link.as_ref().map_or(0, |link| link.number)
     }
 
-    /// How often it connected again and found its counter below what it had been. Then the server was started anew, and all that was written before
-    /// is gone. A client that has written and read nothing can't notice that, nor one that gets another number.
+    /// How often it connected again and found another store. Then the server was started anew, and all that was written before is gone. An older
+    /// server does not tell which store it has: there the client notices it where its number's counter is below what it had been.
     pub fn new_stores(&self) -> u64 {
         self.new_stores
     }
 
+    /// What the server told of itself when this client last connected; `None` before that, and of an older server.
+    pub fn server(&self) -> Option<&ServerInfo> {
+        self.server.as_ref()
+    }
+
     /// Writes 1 to 16 items, all or none, and returns the stamp of the write.
     ///
-    /// The keys are read first, in the same packet. So this write is newer than every write to them that was done before it began.
+    /// This write is newer than every write to its keys that was done before it began. Unless the server tells that its writes are so anyway, the
+    /// keys are read first, in the same packet.
     pub fn put<'a, I>(&mut self, items: I) -> Result<String, Error>
     where
         I: IntoIterator,
         I::Item: Into<Write<'a>>,
     {
-        let is_blind = !self.config.reads_first;
-        self.write(items, is_blind)
+        self.write(items, false)
     }
 
     /// Writes 1 to 16 items, all or none, without reading their keys first.
@@ -202,11 +212,6 @@ impl Client {
         }
     }
 
-    /// Whether a put reads its keys first.
-    pub(crate) fn reads_first(&self) -> bool {
-        self.config.reads_first
-    }
-
     fn call(&mut self, line: Line) -> Result<Answer, Error> {
         self.run(&[line]).pop().unwrap_or_else(|| Err(Error::ConnectionLost("no line was asked".into())))
     }
@@ -281,8 +286,7 @@ impl Client {
         let opened = if link.number == 0 { self.say_hello(&mut link) } else { Ok(()) };
         match opened {
             Ok(()) => {
-                let is_new = matches!(self.before.take(), Some((number, counter)) if number == link.number && link.counter < counter);
-                self.new_stores += u64::from(is_new);
+                self.note_store(&link);
                 Ok(self.link.insert(link))
             }
             Err(error) => {
@@ -293,11 +297,38 @@ impl Client {
         }
     }
 
-    /// Opens the session under the first free number: of those that this program used before, and then of the others.
-    fn say_hello(&self, link: &mut Link) -> Result<(), Error> {
+    /// Notes which store the open session is of, and whether it is another one than before.
+    fn note_store(&mut self, link: &Link) {
+        let before = self.before.take();
+        let (store, old) = (link.server.as_ref().map(|its| its.store), self.server.as_ref().map(|its| its.store));
+        let is_new = match (store, old) {
+            (None, None) => matches!(before, Some((number, counter)) if number == link.number && link.counter < counter),
+            _ => self.has_opened && store != old,
+        };
+        self.new_stores += u64::from(is_new);
+        self.server = link.server.clone();
+        self.has_opened = true;
+    }
+
+    /// Opens the session under a number that the server gives; or, where the program named numbers or the server is an older one, under the first
+    /// that is free: of those that this program used before, and then of the others.
+    fn say_hello(&mut self, link: &mut Link) -> Result<(), Error> {
+        if !self.config.has_numbers && !self.is_older {
+            let last = self.before.map(|(number, _)| Some(number));
+            let numbers: Vec<Option<u16>> = last.into_iter().chain([None]).collect();
+            let opened = greet(link, &self.config, &numbers, true);
+            self.is_older = matches!(&opened, Err(Error::Refused { refusal, .. }) if refusal.name == "BadLine");
+            if !self.is_older {
+                return opened;
+            }
+            // A strict one ends at a line that it does not know.
+            if !link.is_ready() {
+                *link = Link::open(&self.config.host, self.config.port, self.config.timeout)?;
+            }
+        }
         let place = self.config.place();
         let (order, had) = numbers::in_order(&place, &self.config.numbers);
-        let opened = first_free(link, &self.config.tenant, &order);
+        let opened = first_free(link, &self.config, &order, !self.is_older);
         // The remembered numbers that this session does not use are remembered again.
         order[..had].iter().rev().filter(|number| **number != link.number).for_each(|number| numbers::give_back(&place, *number));
         opened
@@ -319,9 +350,8 @@ impl Drop for Client {
     }
 }
 
-/// Opens the session under the first of these numbers that is free. Many are tried in one packet: once one of them has opened the session,
-/// the remaining `hello`s are refused and change nothing.
-fn first_free(link: &mut Link, tenant: &str, order: &[u16]) -> Result<(), Error> {
+/// Opens the session under the first of these numbers that is free. Many are tried in one packet.
+fn first_free(link: &mut Link, config: &Config, order: &[u16], asks_info: bool) -> Result<(), Error> {
     let mut last = line::invalid(Part::Number, "", "", Fault::Other("is missing".into()));
     let mut sizes = NUMBERS_AT_ONCE.iter();
     let (mut rest, mut size) = (order, 0);
@@ -329,26 +359,70 @@ fn first_free(link: &mut Link, tenant: &str, order: &[u16]) -> Result<(), Error>
         size = *sizes.next().unwrap_or(&size);
         let (group, others) = rest.split_at(size.min(rest.len()));
         rest = others;
-        let requests: Vec<Request> = group.iter().map(|number| line::hello(tenant, *number)).collect();
-        for (number, answer) in group.iter().zip(link.exchange(&requests)) {
-            match answer {
-                Ok(_) if link.number == 0 => link.number = *number,
-                Ok(answer) => return Err(unfit(&answer)),
-                Err(_) if link.number != 0 => {}
-                Err(Error::Refused { refusal, has_ended }) if matches!(refusal.name, "Busy" | "ClientsFull") => {
-                    let is_full = matches!(&last, Error::Refused { refusal, .. } if refusal.name == "ClientsFull");
-                    if !is_full {
-                        last = Error::Refused { refusal, has_ended };
-                    }
-                }
-                Err(error) => return Err(error),
+        let numbers: Vec<Option<u16>> = group.iter().copied().map(Some).collect();
+        match greet(link, config, &numbers, asks_info && order.len() == 1) {
+            Ok(()) if asks_info && order.len() > 1 => {
+                return link.exchange(&[Request::Info]).pop().map_or(Ok(()), |answer| inform(link, config, answer))
             }
-        }
-        if link.number != 0 {
-            return Ok(());
+            Err(Error::Refused { refusal, has_ended }) if matches!(refusal.name, "Busy" | "ClientsFull") => {
+                keep_cause(&mut last, Error::Refused { refusal, has_ended })
+            }
+            other => return other,
         }
     }
     Err(last)
+}
+
+/// Says hello with these numbers, or for one that the server gives, in one packet, and asks what the server is. Once one of them has opened the
+/// session, the remaining `hello`s are refused and change nothing. It is refused where none was free, and `BadLine` of an older server.
+fn greet(link: &mut Link, config: &Config, numbers: &[Option<u16>], asks_info: bool) -> Result<(), Error> {
+    let mut last = line::invalid(Part::Number, "", "", Fault::Other("is missing".into()));
+    let mut requests: Vec<Request> = numbers.iter().map(|number| line::hello(&config.tenant, *number)).collect();
+    requests.extend(Some(Request::Info).filter(|_| asks_info));
+    let mut answers = link.exchange(&requests).into_iter();
+    for (number, answer) in numbers.iter().zip(answers.by_ref()) {
+        match (answer, number) {
+            (Ok(Answer::Ready(_)), Some(number)) if link.number == 0 => link.number = *number,
+            (Ok(Answer::ReadyAs(_, number)), None) if link.number == 0 => link.number = number,
+            (Ok(answer), _) => return Err(unfit(&answer)),
+            (Err(_), _) if link.number != 0 => {}
+            (Err(Error::Refused { refusal, has_ended }), _) if matches!(refusal.name, "Busy" | "ClientsFull" | "BadLine") => {
+                keep_cause(&mut last, Error::Refused { refusal, has_ended })
+            }
+            (Err(error), _) => return Err(error),
+        }
+    }
+    match answers.next() {
+        _ if link.number == 0 => Err(last),
+        Some(answer) => inform(link, config, answer),
+        None => {
+            link.is_newest = !config.reads_first;
+            Ok(())
+        }
+    }
+}
+
+/// Of several causes for which no number was free, the one that says most: only `Busy` gives way.
+fn keep_cause(last: &mut Error, cause: Error) {
+    if !matches!(last, Error::Refused { refusal, .. } if refusal.name != "Busy") {
+        *last = cause;
+    }
+}
+
+/// Takes what the server tells of itself. An older one refuses that.
+fn inform(link: &mut Link, config: &Config, answer: Result<Answer, Error>) -> Result<(), Error> {
+    link.server = match answer {
+        Ok(Answer::Info(server)) => Some(server),
+        Ok(other) => return Err(unfit(&other)),
+        Err(Error::Refused { .. }) => None,
+        Err(error) => return Err(error),
+    };
+    link.is_newest = link.server.as_ref().map_or(!config.reads_first, |server| server.newest);
+    if config.reads_first || link.is_newest {
+        return Ok(());
+    }
+    let why = "is asked of a server that was started without --newest, whose puts are the newest only where the client reads first";
+    Err(line::invalid(Part::Url, "newest=server", "", Fault::Other(why.into())))
 }
 
 /// Never happens: an answer is decoded by its request, and so is of the request's kind.

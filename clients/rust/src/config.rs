@@ -11,7 +11,7 @@ use std::time::Duration;
 /// The default timeout of an answer.
 pub const TIMEOUT: Duration = Duration::from_secs(5);
 
-/// The client numbers that are drawn from by default: as many as a tenant can have.
+/// The client numbers that are drawn from by default at an older server: as many as a tenant can have.
 const NUMBERS: std::ops::RangeInclusive<u16> = 1..=1024;
 
 /// Where a client connects, and how it behaves.
@@ -31,6 +31,8 @@ pub struct Config {
     pub(crate) port: u16,
     pub(crate) tenant: String,
     pub(crate) numbers: Vec<u16>,
+    /// Whether the program named these numbers. Else the server gives one.
+    pub(crate) has_numbers: bool,
     pub(crate) timeout: Duration,
     pub(crate) retry: Retry,
     pub(crate) reads_first: bool,
@@ -38,7 +40,7 @@ pub struct Config {
 
 impl Config {
     /// Parses `ramp://HOST:PORT/TENANT`. It may be followed by `?` and, separated by `&`, `client=NUMBER`, `timeout=SECONDS`, and
-    /// `newest=server` for a server that runs with `--newest`: then no put reads its keys first.
+    /// `newest=server` to ask for a server that runs with `--newest`, where no put reads its keys first.
     pub fn new(url: &str) -> Result<Config, Error> {
         parse(url).map_err(|why| line::invalid(Part::Url, url, "", Fault::Other(why)))
     }
@@ -66,7 +68,7 @@ impl Config {
         self.timeout
     }
 
-    /// The client numbers that are drawn from.
+    /// The client numbers that are drawn from, where the program named them or an older server gives none.
     pub fn allowed_numbers(&self) -> &[u16] {
         &self.numbers
     }
@@ -81,10 +83,11 @@ impl Config {
         self.numbers([number])
     }
 
-    /// Sets the client numbers that are drawn from: 1 to 1024 by default. A number counts against the tenant's `--clients`, 16 by default,
-    /// for as long as the server runs. So the numbers that this program used before are tried first.
+    /// Sets the client numbers that are drawn from. By default the server gives one that is free; an older server gives none, and the number is
+    /// drawn from 1 to 1024. A number counts against the tenant's `--clients`, 16 by default, for as long as the server runs. So the numbers that this
+    /// program used before are tried first.
     pub fn numbers(self, numbers: impl IntoIterator<Item = u16>) -> Config {
-        Config { numbers: numbers.into_iter().collect(), ..self }
+        Config { numbers: numbers.into_iter().collect(), has_numbers: true, ..self }
     }
 
     /// Sets what is retried.
@@ -92,7 +95,8 @@ impl Config {
         Config { retry, ..self }
     }
 
-    /// Says that the server runs with `--newest`: no put reads its keys first.
+    /// Asks that the server runs with `--newest`, so that no put reads its keys first. One that tells otherwise is an error; an older one, which tells
+    /// nothing, is believed to.
     pub fn newest_by_server(self) -> Config {
         Config { reads_first: false, ..self }
     }
@@ -136,7 +140,16 @@ fn parse(url: &str) -> Result<Config, String> {
     let port = number(port).ok_or("has no port from 1 to 65535")?;
     line::check(Part::Tenant, tenant).map_err(|_| "has no tenant's name of 1 to 16 bytes of a-z 0-9 _")?;
     let numbers = NUMBERS.collect();
-    let mut config = Config { host: host.into(), port, tenant: tenant.into(), numbers, timeout: TIMEOUT, retry: Retry::default(), reads_first: true };
+    let mut config = Config {
+        host: host.into(),
+        port,
+        tenant: tenant.into(),
+        numbers,
+        has_numbers: false,
+        timeout: TIMEOUT,
+        retry: Retry::default(),
+        reads_first: true,
+    };
     for option in options.split('&').filter(|option| !option.is_empty()) {
         config = with_option(config, option)?;
     }

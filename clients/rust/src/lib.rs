@@ -85,11 +85,25 @@ pub struct Item {
     pub stamp: String,
 }
 
+/// What a server tells of itself.
+#[derive(Clone, Debug, PartialEq, Eq)]
+pub struct ServerInfo {
+    pub version: String,
+    /// The number of its store, which is another one each time that it starts.
+    pub store: u64,
+    /// Whether each put is the newest without a read before it.
+    pub newest: bool,
+}
+
 /// The answer to a call.
 #[derive(Clone, Debug, PartialEq, Eq)]
 pub enum Answer {
     /// The session is open, with the client's counter.
     Ready(u64),
+    /// The session is open, with the client's counter, and under this number, which the server gave.
+    ReadyAs(u64, u16),
+    /// What the server is.
+    Info(ServerInfo),
     /// The write is done, with its stamp.
     Done(String),
     /// The items that were read or found.

@@ -3,7 +3,7 @@
 use crate::codec::MOST_SIGNS;
 use crate::error::{Error, Fault, Invalid, Part};
 use crate::refusal::Refusal;
-use crate::{Answer, Item, Write};
+use crate::{Answer, Item, ServerInfo, Write};
 
 /// A line with its LF is shorter than this.
 pub(crate) const LINE_LIMIT: usize = 4096;
@@ -20,11 +20,12 @@ pub(crate) const MOST_ITEMS: usize = 16;
 /// A request: its line, and what its answer has to match.
 #[derive(Clone, Debug, PartialEq, Eq)]
 pub(crate) enum Request {
-    Hello { line: String },
+    Hello { line: String, is_any: bool },
     Put { line: String, keys: Vec<String> },
     Get { line: String },
     Find { line: String, tag: String },
     Keep { line: String, versions: u8 },
+    Info,
     Bye,
 }
 
@@ -35,8 +36,9 @@ impl Request {
 
     pub(crate) fn line(&self) -> &str {
         match self {
-            Request::Hello { line } | Request::Put { line, .. } | Request::Get { line } => line,
+            Request::Hello { line, .. } | Request::Put { line, .. } | Request::Get { line } => line,
             Request::Find { line, .. } | Request::Keep { line, .. } => line,
+            Request::Info => "info",
             Request::Bye => "bye",
         }
     }
@@ -146,8 +148,10 @@ pub(crate) fn whole(line: String) -> Result<String, Error> {
     }
 }
 
-pub(crate) fn hello(tenant: &str, number: u16) -> Request {
-    Request::Hello { line: format!("hello {tenant} {number}") }
+/// Opens a session as this client, or as one whose number the server gives.
+pub(crate) fn hello(tenant: &str, number: Option<u16>) -> Request {
+    let client = number.map_or("any".into(), |number| number.to_string());
+    Request::Hello { line: format!("hello {tenant} {client}"), is_any: number.is_none() }
 }
 
 pub(crate) fn put(items: &[Write<'_>]) -> Result<Request, Error> {
@@ -214,7 +218,10 @@ pub(crate) fn keep(versions: u8) -> Result<Request, Error> {
 pub(crate) fn read_answer(request: &Request, number: u16, line: &str) -> Result<Answer, Error> {
     read_refusal(request, line).unwrap_or_else(|| {
         let answer = match request {
-            Request::Hello { .. } => line.strip_prefix("ready ").and_then(|rest| read_number(rest, MOST_COUNTER)).map(Answer::Ready),
+            Request::Hello { is_any, .. } => {
+                line.strip_prefix("ready ").and_then(|rest| if *is_any { read_ready_as(rest) } else { read_ready(rest) })
+            }
+            Request::Info => line.strip_prefix("info ").and_then(read_info).map(Answer::Info),
             Request::Put { .. } => line.strip_prefix("done ").filter(|stamp| is_stamp_of(stamp, number)).map(|stamp| Answer::Done(stamp.into())),
             Request::Get { line: asked } => read_items(line, asked),
             Request::Find { tag, .. } => read_list(line, tag),
@@ -265,6 +272,29 @@ fn can_end(request: &Request, refusal: &Refusal) -> bool {
         Request::Find { .. } => matches!(refusal.name, "Torn" | "TooMany"),
         _ => false,
     }
+}
+
+fn read_ready(rest: &str) -> Option<Answer> {
+    read_number(rest, MOST_COUNTER).map(Answer::Ready)
+}
+
+fn read_ready_as(rest: &str) -> Option<Answer> {
+    let (counter, client) = rest.split_once(" as ")?;
+    let client = read_number(client, u64::from(u16::MAX)).filter(|client| *client > 0)?;
+    Some(Answer::ReadyAs(read_number(counter, MOST_COUNTER)?, client as u16))
+}
+
+/// Decodes what a server tells of itself. A later version may tell more behind that.
+fn read_info(rest: &str) -> Option<ServerInfo> {
+    let mut words = rest.split(' ');
+    let version = words.next()?.strip_prefix("version=").filter(|version| !version.is_empty())?;
+    let store = read_number(words.next()?.strip_prefix("store=")?, u64::MAX)?;
+    let newest = match words.next()? {
+        "newest=yes" => true,
+        "newest=no" => false,
+        _ => return None,
+    };
+    Some(ServerInfo { version: version.into(), store, newest })
 }
 
 /// Decodes items, which have to be of the keys of this `get` line, in its order.
@@ -329,9 +359,9 @@ fn is_stamp_of(text: &str, number: u16) -> bool {
 pub(crate) fn counter_of(answer: &Answer) -> u64 {
     let counter = |stamp: &str| stamp.split_once('.').and_then(|(counter, _)| counter.parse().ok()).unwrap_or(0);
     match answer {
-        Answer::Ready(counter) => *counter,
+        Answer::Ready(counter) | Answer::ReadyAs(counter, _) => *counter,
         Answer::Done(stamp) => counter(stamp),
         Answer::Items(items) => items.iter().map(|item| counter(&item.stamp)).max().unwrap_or(0),
-        Answer::Kept(_) | Answer::Bye => 0,
+        Answer::Kept(_) | Answer::Info(_) | Answer::Bye => 0,
     }
 }

@@ -2,7 +2,7 @@
 
 use crate::error::Error;
 use crate::line::{self, Request, LINE_LIMIT};
-use crate::Answer;
+use crate::{Answer, ServerInfo};
 use std::borrow::Borrow;
 use std::io::{self, Read, Write};
 use std::net::{TcpStream, ToSocketAddrs};
@@ -29,6 +29,10 @@ pub(crate) struct Link {
     pub(crate) number: u16,
     /// The greatest counter of all stamps that the session wrote or read.
     pub(crate) counter: u64,
+    /// What the server told of itself; none of an older one.
+    pub(crate) server: Option<ServerInfo>,
+    /// Whether its puts are the newest without a read before them.
+    pub(crate) is_newest: bool,
     /// Whether answers are outstanding. Then the connection is of no further use: the next answer would belong to an earlier request.
     is_midway: bool,
 }
@@ -77,7 +81,21 @@ impl Link {
         stream.set_read_timeout(Some(timeout))?;
         stream.set_write_timeout(Some(timeout))?;
         let came = vec![0; 4 * LINE_LIMIT];
-        Ok(Link { stream, timeout, waits: timeout, came, begin: 0, end: 0, last_used: Instant::now(), number: 0, counter: 0, is_midway: false })
+        let last_used = Instant::now();
+        Ok(Link {
+            stream,
+            timeout,
+            waits: timeout,
+            came,
+            begin: 0,
+            end: 0,
+            last_used,
+            number: 0,
+            counter: 0,
+            server: None,
+            is_newest: false,
+            is_midway: false,
+        })
     }
 
     /// Whether requests may be sent: no answer is outstanding, no unrequested bytes have arrived, and the server has not closed it.

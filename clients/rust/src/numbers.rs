@@ -1,4 +1,4 @@
-//! Client numbers: reused, and otherwise drawn at random.
+//! Client numbers that a program chooses: reused, and otherwise drawn at random. That is where it named the numbers, or an older server gives none.
 //!
 //! A number counts against the tenant's `--clients` for as long as the server runs. So a program reuses its numbers.
 
@@ -17,6 +17,7 @@ fn remembered() -> MutexGuard<'static, Vec<(String, Vec<u16>)>> {
 pub(crate) fn give_back(place: &str, number: u16) {
     let mut remembered = remembered();
     match remembered.iter_mut().find(|(other, _)| other == place) {
+        Some((_, numbers)) if numbers.contains(&number) => {}
         Some((_, numbers)) => numbers.push(number),
         None => remembered.push((place.into(), vec![number])),
     }

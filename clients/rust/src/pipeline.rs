@@ -10,7 +10,7 @@ use std::borrow::Cow;
 /// How many lines of a pipeline are sent before their answers are read. The requests and answers of so many fit the sockets' buffers.
 pub const MOST_UNDER_WAY: usize = 16;
 
-/// A line of a pipeline. A put that is not blind reads its keys first.
+/// A line of a pipeline. A put that is not blind reads its keys first, unless the server's puts are the newest.
 #[derive(Clone, Debug)]
 pub(crate) struct Line {
     pub(crate) request: Request,
@@ -38,8 +38,7 @@ impl<'c> Pipeline<'c> {
         I: IntoIterator,
         I::Item: Into<Write<'a>>,
     {
-        let is_blind = !self.client.reads_first();
-        self.write(items, is_blind)
+        self.write(items, false)
     }
 
     /// As [`Client::put_blind`].
@@ -93,7 +92,7 @@ impl<'c> Pipeline<'c> {
 
 /// Sends these lines, at most [`MOST_UNDER_WAY`] in flight, and returns an answer to each.
 pub(crate) fn exchange(link: &mut Link, lines: &[Line]) -> Vec<Result<Answer, Error>> {
-    let (requests, is_own) = with_reads(lines);
+    let (requests, is_own) = with_reads(lines, link.is_newest);
     let mut all = Vec::with_capacity(requests.len());
     for group in requests.chunks(MOST_UNDER_WAY) {
         all.extend(link.exchange(group));
@@ -111,12 +110,13 @@ pub(crate) fn exchange(link: &mut Link, lines: &[Line]) -> Vec<Result<Answer, Er
     answers
 }
 
-/// The requests of these lines, with the reads that go before writes. Each is paired with whether it is a line's own.
-fn with_reads(lines: &[Line]) -> (Vec<Cow<'_, Request>>, Vec<bool>) {
+/// The requests of these lines, with the reads that go before writes, where puts are not the newest anyway. Each is paired with whether it is a
+/// line's own.
+fn with_reads(lines: &[Line], is_newest: bool) -> (Vec<Cow<'_, Request>>, Vec<bool>) {
     let (mut requests, mut is_own) = (Vec::new(), Vec::new());
     let mut read: Vec<&str> = Vec::new();
     for line in lines {
-        if let (Request::Put { keys, .. }, false) = (&line.request, line.is_blind) {
+        if let (Request::Put { keys, .. }, false) = (&line.request, line.is_blind || is_newest) {
             let unread: Vec<&str> = keys.iter().map(String::as_str).filter(|key| !read.contains(key)).collect();
             if !unread.is_empty() {
                 requests.push(Cow::Owned(line::read_of(&unread)));

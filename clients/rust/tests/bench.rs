@@ -90,7 +90,7 @@ fn what_is_wrong_is_told_in_a_line() {
     let full = Server::start(&["--items", "2", "--parts", "1", "t"]);
     let few = Server::start(&["--sessions", "8", "--clients", "2", "t"]);
     let false_one = |text: &str| {
-        let hello = [Act::Accept, Act::HearAny, Act::Say(b"ready 0\n".to_vec()), Act::HearAny];
+        let hello = [Act::Accept, Act::HearAny, Act::HearAny, Act::Say(b"ready 0\nrefused 40\n".to_vec()), Act::HearAny];
         let script = Script::start(hello.into_iter().chain([Act::Say(text.into()), Act::Shut]).collect());
         // One number is one hello.
         format!("{}?client=1", script.url())

@@ -99,7 +99,7 @@ fn answer_tokens(answer: &Answer, word: &str) -> Tokens {
         Answer::Items(items) => std::iter::once(if word == "find" { "list" } else { "read" }.to_string()).chain(items.iter().map(spelled)).collect(),
         Answer::Kept(versions) => vec!["keep".into(), versions.to_string()],
         Answer::Bye => vec!["bye".into()],
-        Answer::Ready(_) => vec!["ready".into()],
+        Answer::Ready(_) | Answer::ReadyAs(..) | Answer::Info(_) => vec!["ready".into()],
     }
 }
 
@@ -256,6 +256,7 @@ impl Stage {
                 vec!["ready".into()]
             })),
             "close" => or_error(self.clients.remove(&name).expect("a client").close().map(|()| vec!["bye".into()])),
+            "new_stores" => vec![self.clients[&name].new_stores().to_string()],
             "pipe" => pipe(self.clients.get_mut(&name).expect("a client"), &words[2..]),
             _ => or_error(single(self.clients.get_mut(&name).expect("a client"), &words[1..])),
         }
@@ -308,7 +309,7 @@ fn pipe(client: &mut Client, words: &[String]) -> Tokens {
 
 /// The answer to a line of a server that answers this.
 fn answered(line: &str, text: &str) -> Tokens {
-    let hello = [Act::Accept, Act::Hear("hello t 5".into()), Act::Say(b"ready 0\n".to_vec())];
+    let hello = [Act::Accept, Act::Hear("hello t 5".into()), Act::Hear("info".into()), Act::Say(b"ready 0\nrefused 40\n".to_vec())];
     let said = [Act::Hear(line.into()), Act::Say(format!("{text}\n").into_bytes())];
     let mut stage = Stage { acts: hello.into_iter().chain(said).collect(), ..Stage::default() };
     let mut client = stage.connect(&["t".into(), "5".into(), "attempts=1".into(), "newest=server".into()]).expect("a session");

@@ -115,7 +115,8 @@ fn judge(asked: &str, bytes: &[u8], came: &Result<Answer, Error>) -> Result<(), 
 fn round(draw: &mut Draw) -> Result<(), String> {
     let (asked, good) = draw.of(&ASKED);
     let said = said(draw, good);
-    let hello = [Act::Accept, Act::Hear("hello t 5".into()), Act::Say(b"ready 0\n".to_vec()), Act::Hear(asked.into())];
+    let hello =
+        [Act::Accept, Act::Hear("hello t 5".into()), Act::Hear("info".into()), Act::Say(b"ready 0\nrefused 40\n".to_vec()), Act::Hear(asked.into())];
     let script = Script::start(hello.into_iter().chain(said.iter().cloned()).collect());
     let config = Config::new(&script.url()).expect("an address").client(5).timeout(Duration::from_millis(250)).retry(Retry::NONE);
     let mut client = match config.connect() {
@@ -144,7 +145,7 @@ fn no_item_comes_of_what_was_not_said() {
 
 #[test]
 fn a_late_answer_is_never_taken_for_another() {
-    let hello = || [Act::Accept, Act::Hear("hello t 5".into()), Act::Say(b"ready 0\n".to_vec())];
+    let hello = || [Act::Accept, Act::Hear("hello t 5".into()), Act::Hear("info".into()), Act::Say(b"ready 0\nrefused 40\n".to_vec())];
     let late = [Act::Hear("get x".into()), Act::Drip(b"read x@1.1=late\n".to_vec(), Duration::from_millis(150))];
     let then = [Act::Hear("get x".into()), Act::Say(b"read x@2.1=right\n".to_vec())];
     let script = Script::start(hello().into_iter().chain(late).chain(hello()).chain(then).collect());
@@ -158,7 +159,7 @@ fn a_late_answer_is_never_taken_for_another() {
 
 #[test]
 fn a_read_is_asked_for_again_so_often_and_no_more() {
-    let hello = [Act::Accept, Act::Hear("hello t 5".into()), Act::Say(b"ready 0\n".to_vec())];
+    let hello = [Act::Accept, Act::Hear("hello t 5".into()), Act::Hear("info".into()), Act::Say(b"ready 0\nrefused 40\n".to_vec())];
     let outrun = || [Act::Hear("get x".into()), Act::Say(b"restart x 9.1\n".to_vec())];
     let script = Script::start(hello.into_iter().chain((0..=MOST_RESTARTS).flat_map(|_| outrun())).collect());
     let mut client = Config::new(&script.url()).expect("an address").client(5).connect().expect("a session");
@@ -168,7 +169,7 @@ fn a_read_is_asked_for_again_so_often_and_no_more() {
 
 #[test]
 fn what_was_not_asked_for_is_no_answer() {
-    let hello = || [Act::Accept, Act::Hear("hello t 5".into()), Act::Say(b"ready 0\n".to_vec())];
+    let hello = || [Act::Accept, Act::Hear("hello t 5".into()), Act::Hear("info".into()), Act::Say(b"ready 0\nrefused 40\n".to_vec())];
     for ahead in ["read x@9.1=ahead\n", "read x@9.1=ah", "\n"] {
         let twice = [Act::Hear("get x".into()), Act::Say(format!("read x@1.1=1\n{ahead}").into_bytes())];
         let then = [Act::Hear("get x".into()), Act::Say(b"read x@2.1=right\n".to_vec())];
@@ -183,7 +184,7 @@ fn what_was_not_asked_for_is_no_answer() {
 
 #[test]
 fn a_pipeline_that_is_cut_tells_of_each_line() {
-    let hello = [Act::Accept, Act::Hear("hello t 5".into()), Act::Say(b"ready 0\n".to_vec())];
+    let hello = [Act::Accept, Act::Hear("hello t 5".into()), Act::Hear("info".into()), Act::Say(b"ready 0\nrefused 40\n".to_vec())];
     let lines = ["get x", "put x=1", "put x=2", "get x"].map(|line| Act::Hear(line.into()));
     let cut = [Act::Say(b"read x@0.0\ndone 1.5\ndone".to_vec()), Act::Shut];
     let script = Script::start(hello.into_iter().chain(lines).chain(cut).collect());

@@ -2,7 +2,7 @@
 
 mod common;
 
-use common::{spelled, Server};
+use common::{spelled, Act, Script, Server};
 use ramp_client::{tagged, Client, Config, Error, Group, Retry, Write};
 use std::collections::BTreeSet;
 use std::time::{Duration, Instant};
@@ -78,7 +78,7 @@ fn sessions_beside_many_have_numbers_of_their_own() {
     assert_eq!(numbers.len(), 300);
     let refused = config.clone().connect().expect_err("a refusal");
     assert_eq!(refused.group(), Group::Room, "{refused}");
-    // All numbers that the server takes are known by now: one that is free is found.
+    // Each number that it gives is taken by now: one that is free again is given again.
     let freed = clients.pop().expect("a client");
     let number = freed.number();
     freed.close().expect("its end");
@@ -105,6 +105,48 @@ fn a_client_outlives_its_server() {
     assert_eq!(client.new_stores(), 1);
     client.close().expect("its end");
     assert_eq!(second.verdict(), "settled t yes\n");
+}
+
+#[test]
+fn what_a_server_tells_of_itself() {
+    for (word, newest) in [("--newest", true), ("--strict", false)] {
+        let mut first = Server::start(&["--sessions", "2", word, "t"]);
+        let mut client = Config::new(&first.url("t")).expect("an address").connect().expect("a session");
+        let told = client.server().expect("what it tells").clone();
+        assert_eq!((told.version.as_str(), told.newest), (env!("CARGO_PKG_VERSION"), newest));
+        let asked = Config::new(&first.url("t?newest=server")).expect("an address").connect();
+        assert_eq!(asked.map(|_| ()).map_err(|error| error.group()), if newest { Ok(()) } else { Err(Group::WrongUse) });
+        // One that has written and read nothing notices a new store, too.
+        first.kill();
+        let second = Server::at(first.port, &["--sessions", "2", "t"]);
+        std::thread::sleep(Duration::from_millis(50));
+        assert_eq!(client.get(&["x"]).expect("items")[0].value, None);
+        assert!(client.server().expect("what it tells").store > told.store);
+        assert_eq!(client.new_stores(), 1);
+        client.close().expect("its end");
+        assert_eq!(second.verdict(), "settled t yes\n");
+    }
+}
+
+/// Neither `hello TENANT any` nor `info` is known there, and a strict one ends at them.
+#[test]
+fn an_older_server() {
+    let said = |text: &str| Act::Say(text.into());
+    let first = || vec![Act::Accept, Act::Hear("hello t any".into()), Act::Hear("info".into())];
+    // The numbers that are tried: one of them is free.
+    let tried = || vec![Act::HearAny, Act::HearAny, Act::HearAny, Act::HearAny, said("refused 12\nready 3\nrefused 12\nrefused 12\n")];
+    let asked = || vec![Act::Hear("get x".into()), said("read x@0.0\n")];
+    let lenient = [first(), vec![said("refused 40\nrefused 40\n")], tried(), asked()].concat();
+    let strict = [first(), vec![said("refused 40\n"), Act::Shut, Act::Accept], tried(), asked()].concat();
+    for acts in [lenient, strict] {
+        let script = Script::start(acts);
+        let config = Config::new(&format!("ramp://127.0.0.1:{}/t", script.port)).expect("an address").retry(Retry::NONE);
+        let mut client = config.connect().expect("a session");
+        assert_eq!(client.get(&["x"]).expect("items")[0].value, None);
+        assert_eq!((client.server(), client.new_stores()), (None, 0));
+        drop(client);
+        script.end().expect("all of the script");
+    }
 }
 
 #[test]

@@ -10,10 +10,8 @@ use crate::options::{
 };
 use clap::builder::ValueParser;
 use clap::{Arg, ArgAction, Command};
+use line_protocol::VERSION;
 use std::alloc::{AllocError, Global};
-
-/// Which program it is, as `ramp --version` reports.
-pub const VERSION: &str = "0.3.0";
 
 const ABOUT: &str = "A key-value store of many tenants with read atomic transactions.";
 
@@ -68,6 +66,8 @@ const SERVE_ABOUT: &str = "Serves sessions over TCP, each connection by a thread
 
 const SERVE_LINES: &str = "Lines of a connection:
   hello TENANT CLIENT               open the client's session; hello TENANT CLIENT BASE sets its counter
+  hello TENANT any                  open that of a client whose number is free; ready COUNTER as CLIENT names it
+  info                              the server's version, the number of its store, and whether its puts are newest
   put KEY=VALUE ..                  write 1 to 16 items, all or none; with a tag KEY#TAG=VALUE
   get KEY ..                        read 1 to 16 items
   find TAG                          read the items that stand under the tag

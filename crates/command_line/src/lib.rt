@@ -11,7 +11,7 @@ mod options;
 mod parsed_words;
 mod server_options;
 
-pub use command::VERSION;
+pub use line_protocol::VERSION;
 pub use load_options::LoadOptions;
 pub use options::{Asked, StoreOptions};
 pub use parsed_words::{help_is_asked_for, read_words, version_is_asked_for};

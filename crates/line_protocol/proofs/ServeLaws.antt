@@ -1,6 +1,6 @@
 -- What is read is spelled so, and what is spelled so is read: for the lines of a session.
 use Rattle.std.proofs.Common.{◌≡◌, ℕ, List, [], ◌∷◌, ◌++◌, Option, Some, None, Result, Ok, Err, refl, sym, ap, subst, ◌∙◌, arith, inl, inr, ◌⊎◌}
-use Rattle.std.specs.Prelude.{decimal, codes, map, IfOk, IfErr}
+use Rattle.std.specs.Prelude.{bytes_eq, decimal, codes, map, IfOk, IfErr, IfSome}
 use Rattle.std.proofs.lemmas.Option.{same_Some, none-some}
 use Rattle.stamps.specs.Bounds.{IsClient}
 use Rattle.stamps.specs.Limits.{max_tag_len, max_name_len, max_counter}
@@ -10,16 +10,16 @@ use Rattle.stamps.specs.declared.record.Item.{Item}
 use Rattle.plain_store.specs.declared.refusal.Refusal.{Refusal}
 use Rattle.plain_store.specs.declared.refusal.Refusal.TheVariants.{BadLine, OutOfMemory}
 use Rattle.line_protocol.specs.declared.request.Request.{Request}
-use Rattle.line_protocol.specs.declared.request.Request.TheVariants.{Hello, Put, Get, Find, Keep, Bye}
+use Rattle.line_protocol.specs.declared.request.Request.TheVariants.{Hello, Put, Get, Find, Keep, Info, Bye}
 use Rattle.line_protocol.specs.Spelling.{same_text}
 use Rattle.line_protocol.specs.Reading.{◌>>=◌, split_first, number_at, key_at, tag_at, part_at, parts_in, each_at}
 use Rattle.line_protocol.specs.StepSpelling.{is_tenant_byte, IsName, IsItem, item_text, words_text}
 use Rattle.line_protocol.specs.StepReading.{name_at, client_at, keep_at, item_at}
-use Rattle.line_protocol.specs.ServeSpelling.{CanBeAsked, request_text, LeavesBaseOut, IsServeLine, IsNoServeLine, CarriesList, RefusesLine}
-use Rattle.line_protocol.specs.ServeReading.{hello_by, hello_at, put_at, get_at, find_at, keep_request_at, plain_request_by, request_by, request_at}
+use Rattle.line_protocol.specs.ServeSpelling.{CanBeAsked, any_client_text, request_text, LeavesBaseOut, IsServeLine, IsNoServeLine, CarriesList, RefusesLine}
+use Rattle.line_protocol.specs.ServeReading.{any_client_at, client_or_any, hello_by, hello_at, put_at, get_at, find_at, keep_request_at, plain_request_by, request_by, request_at}
 use Rattle.line_protocol.proofs.Splits.{Lacks, bind_some, split_first-joined, split_first-parts, split_first-lacks}
 use Rattle.line_protocol.proofs.Numbers.{number_found, number_again}
-use Rattle.line_protocol.proofs.Laws.{Lacks-allowed, text_reader, each_found, written_tag, tag_again, either_command}
+use Rattle.line_protocol.proofs.Laws.{IsReader, Lacks-allowed, text_reader, each_found, written_tag, tag_again, either_command}
 use Rattle.line_protocol.proofs.RecordLaws.{key_is}
 use Rattle.line_protocol.proofs.StepLaws.{client_reader, client_lacks_space, keep_reader, item_reader, item_lacks_space}
 use Rattle.line_protocol.proofs.ActLaws.{spaced, spaced_map, spaced_split, parted, after_first, part-spaced, list_words, key_lacks_space}
@@ -37,20 +37,42 @@ IsAskedBy command words request = IsServeLine request (command ++ 32 ∷ words)
 as_words : (command words : List ℕ) (request : Request) → IsAskedBy command words request → IsAsked command (Some words) request
 as_words command words request = subst (λ (t : List ℕ). IsServeLine request (command ++ t)) (sym (spaced_split words))
 
+-- the number of a client, or `any`
+any_found : (text : List ℕ) (o : Option ℕ) (client : Option ℕ) → client_at text ≡ o → client_or_any text o ≡ Some client → IfSome client IsClient × (text ≡ any_client_text client)
+any_found text (Some n) client read e =
+    let number = client_reader.found text n read in
+    subst (λ (c : Option ℕ). IfSome c IsClient × (text ≡ any_client_text c)) (same_Some (Some n) client e) (number.0, number.1)
+any_found text None client read e =
+    either_command (λ t. IfSome client IsClient × (t ≡ any_client_text client)) text (codes "any") (Some None) None client
+    (λ e. subst (λ (c : Option ℕ). IfSome c IsClient × (codes "any" ≡ any_client_text c)) (same_Some None client e) (tt, refl)) (λ e. absurd cc) e
+
+any_again : (client : Option ℕ) → IfSome client IsClient → any_client_at (any_client_text client) ≡ Some client
+unfolding any_client_at client_at number_at
+any_again None h = refl
+any_again (Some n) h = ap (client_or_any (decimal n)) (client_reader.again n h)
+
+any_lacks_space : (client : Option ℕ) → IfSome client IsClient → Lacks 32 (any_client_text client)
+any_lacks_space None h = (refl, (refl, (refl, tt)))
+any_lacks_space (Some n) h = client_lacks_space n h
+
+any_reader : IsReader any_client_text (λ client. IfSome client IsClient) any_client_at
+unfolding any_client_at
+any_reader = record { found = λ text client e. any_found text (client_at text) client refl e; again = any_again }
+
 hello_by-found : (words name numbers : List ℕ) (o : Option (List ℕ × List ℕ)) (request : Request) → split_first 32 numbers ≡ o → hello_by name numbers o ≡ Some request → IsName name → words ≡ name ++ 32 ∷ numbers
     → IsAskedBy (codes "hello") words request
 hello_by-found words name numbers None request parts e named is =
-    let c = bind_some (client_at numbers) (λ client. Some (Hello name client 0)) request e in
-    let client = client_reader.found numbers c.0 c.1 in
+    let c = bind_some (any_client_at numbers) (λ client. Some (Hello name client 0)) request e in
+    let client = any_reader.found numbers c.0 c.1 in
     subst (IsAskedBy (codes "hello") words) (same_Some (Hello name c.0 0) request c.2)
     (record { in_range = (named, client.0, omega arith); spelled = inr (refl, ap (λ (t : List ℕ). codes "hello" ++ 32 ∷ t) (is ∙ ap (λ (t : List ℕ). name ++ 32 ∷ t) client.1)) })
 hello_by-found words name numbers (Some p) request parts e named is =
-    let c = bind_some (client_at p.0) (λ client. number_at max_counter p.1 >>= λ base. Some (Hello name client base)) request e in
+    let c = bind_some (any_client_at p.0) (λ client. number_at max_counter p.1 >>= λ base. Some (Hello name client base)) request e in
     let b = bind_some (number_at max_counter p.1) (λ base. Some (Hello name c.0 base)) request c.2 in
-    let client = client_reader.found p.0 c.0 c.1 in
+    let client = any_reader.found p.0 c.0 c.1 in
     let base = number_found max_counter p.1 b.0 (omega arith) b.1 in
     let parted = split_first-parts 32 numbers p.0 p.1 parts in
-    let numbered : numbers ≡ decimal c.0 ++ 32 ∷ decimal b.0 = parted.parts ∙ ap (λ (t : List ℕ). t ++ 32 ∷ p.1) client.1 ∙ ap (λ (t : List ℕ). decimal c.0 ++ 32 ∷ t) base.1 in
+    let numbered : numbers ≡ any_client_text c.0 ++ 32 ∷ decimal b.0 = parted.parts ∙ ap (λ (t : List ℕ). t ++ 32 ∷ p.1) client.1 ∙ ap (λ (t : List ℕ). any_client_text c.0 ++ 32 ∷ t) base.1 in
     subst (IsAskedBy (codes "hello") words) (same_Some (Hello name c.0 b.0) request b.2)
     (record { in_range = (named, client.0, omega (arith, base.0)); spelled = inl (ap (λ (t : List ℕ). codes "hello" ++ 32 ∷ t) (is ∙ ap (λ (t : List ℕ). name ++ 32 ∷ t) numbered)) })
 
@@ -91,11 +113,15 @@ get-found words request e =
     subst (IsAsked (codes "get") words) (same_Some (Get l.0) request l.2)
     (record { in_range = list.0; spelled = inl (ap (λ (t : List ℕ). codes "get" ++ t) (ap spaced list.1 ∙ spaced_map same_text l.0)) })
 
+info-found : (request : Request) → Some Info ≡ Some request → IsAsked (codes "info") None request
+info-found request e = subst (IsAsked (codes "info") None) (same_Some Info request e) (record { in_range = tt; spelled = inl refl })
+
 bye-found : (request : Request) → Some Bye ≡ Some request → IsAsked (codes "bye") None request
 bye-found request e = subst (IsAsked (codes "bye") None) (same_Some Bye request e) (record { in_range = tt; spelled = inl refl })
 
 plain-found : (command : List ℕ) (words : Option (List ℕ)) (request : Request) → plain_request_by command words ≡ Some request → IsAsked command words request
-plain-found command None request = either_command (λ c. IsAsked c None request) command (codes "bye") (Some Bye) None request (bye-found request) (λ e. absurd cc)
+plain-found command None request = either_command (λ c. IsAsked c None request) command (codes "bye") (Some Bye) _ request (bye-found request)
+    (either_command (λ c. IsAsked c None request) command (codes "info") (Some Info) None request (info-found request) (λ e. absurd cc))
 plain-found command (Some words) request =
     either_command asked command (codes "hello") (hello_at words) _ request (λ e. as_words (codes "hello") words request (hello-found words request e))
     (either_command asked command (codes "find") (find_at words) _ request (λ e. as_words (codes "find") words request (find-found words request e))
@@ -136,11 +162,11 @@ unfolding request_at hello_at put_at get_at
 text_again (Hello name client base) h =
     let small = h.2 in
     rw (
-      part-joined (codes "hello") (name ++ 32 ∷ (decimal client ++ 32 ∷ decimal base)) hello_lacks_space,
-      split_first-joined 32 name (decimal client ++ 32 ∷ decimal base) (name_lacks_space name h.0),
+      part-joined (codes "hello") (name ++ 32 ∷ (any_client_text client ++ 32 ∷ decimal base)) hello_lacks_space,
+      split_first-joined 32 name (any_client_text client ++ 32 ∷ decimal base) (name_lacks_space name h.0),
       (text_reader is_tenant_byte 1 max_name_len).again name h.0,
-      split_first-joined 32 (decimal client) (decimal base) (client_lacks_space client h.1),
-      client_reader.again client h.1,
+      split_first-joined 32 (any_client_text client) (decimal base) (any_lacks_space client h.1),
+      any_reader.again client h.1,
       number_again max_counter base (omega arith) (omega arith),
     ) refl
 text_again (Put items) h =
@@ -163,17 +189,18 @@ text_again (Keep keep) h =
       part-joined (codes "keep") (decimal keep) (refl, (refl, (refl, (refl, tt)))),
       keep_reader.again keep h,
     ) refl
+text_again Info h = rw (part-spaced (codes "info") [] (refl, (refl, (refl, (refl, tt))))) refl
 text_again Bye h = rw (part-spaced (codes "bye") [] (refl, (refl, (refl, tt)))) refl
 
-short_again : (name : List ℕ) (client : ℕ) → IsName name → IsClient client → request_at (codes "hello " ++ (name ++ 32 ∷ decimal client)) ≡ Some (Hello name client 0)
+short_again : (name : List ℕ) (client : Option ℕ) → IsName name → IfSome client IsClient → request_at (codes "hello " ++ (name ++ 32 ∷ any_client_text client)) ≡ Some (Hello name client 0)
 unfolding request_at hello_at
 short_again name client named h =
     rw (
-      part-joined (codes "hello") (name ++ 32 ∷ decimal client) hello_lacks_space,
-      split_first-joined 32 name (decimal client) (name_lacks_space name named),
+      part-joined (codes "hello") (name ++ 32 ∷ any_client_text client) hello_lacks_space,
+      split_first-joined 32 name (any_client_text client) (name_lacks_space name named),
       (text_reader is_tenant_byte 1 max_name_len).again name named,
-      split_first-lacks 32 (decimal client) (client_lacks_space client h),
-      client_reader.again client h,
+      split_first-lacks 32 (any_client_text client) (any_lacks_space client h),
+      any_reader.again client h,
     ) refl
 
 spelled_again : (line : List ℕ) (request : Request) → CanBeAsked request → (line ≡ request_text request) ⊎ LeavesBaseOut request line → request_at line ≡ Some request
@@ -183,6 +210,7 @@ spelled_again line (Put items) has (inr short) = absurd short
 spelled_again line (Get keys) has (inr short) = absurd short
 spelled_again line (Find tag) has (inr short) = absurd short
 spelled_again line (Keep keep) has (inr short) = absurd short
+spelled_again line Info has (inr short) = absurd short
 spelled_again line Bye has (inr short) = absurd short
 
 request_again : (line : List ℕ) (request : Request) → IsServeLine request line → request_at line ≡ Some request

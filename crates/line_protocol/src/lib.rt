@@ -18,4 +18,6 @@ pub use name::Name;
 pub use request::Request;
 pub use serve_line::read_serve_line;
 pub use step_line::{read_step_line, tenant_number};
-pub use write::{NoRoom, write_bye, write_refusal, write_reply};
+pub use write::{
+    NoRoom, VERSION, write_bye, write_info, write_ready_as, write_refusal, write_reply,
+};

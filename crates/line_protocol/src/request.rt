@@ -7,8 +7,9 @@ use std::fmt;
 /// What a line of a session asks for.
 #[derive(Drop, PartialEq)]
 pub enum Request {
-    /// To open the session of this client, of the tenant of this name. Its counter is no less than this base.
-    Hello(Name, Client, Counter),
+    /// To open the session of this client, or of one whose number is free, of the tenant of this name. Its counter is no less
+    /// than this base.
+    Hello(Name, Option<Client>, Counter),
     /// To write these items.
     Put(Items),
     /// To read these keys.
@@ -17,6 +18,8 @@ pub enum Request {
     Find(Tag),
     /// That a collection keeps so many versions of an item from now on.
     Keep(Keep),
+    /// Which server it is.
+    Info,
     /// To end the session.
     Bye,
 }
@@ -30,6 +33,7 @@ impl fmt::Debug for Request {
             Request::Get(_) => "Get",
             Request::Find(_) => "Find",
             Request::Keep(_) => "Keep",
+            Request::Info => "Info",
             Request::Bye => "Bye",
         })
     }

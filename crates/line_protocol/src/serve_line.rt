@@ -4,13 +4,13 @@ ghost use Rattle.std.specs.Option.{option_map};
 ghost use Rattle.line_protocol.specs.declared.request.Request.{Request};
 ghost use Rattle.plain_store.specs.declared.refusal.Refusal.TheVariants.{BadLine, OutOfMemory};
 ghost use Rattle.line_protocol.specs.ServeSpelling.{IsServeLine, IsNoServeLine, CarriesList, RefusesLine};
-ghost use Rattle.line_protocol.specs.ServeReading.{get_at, hello_at, plain_request_by, put_at, request_at, FindsRequest};
+ghost use Rattle.line_protocol.specs.ServeReading.{get_at, hello_at, plain_request_by, put_at, request_at, any_client_at, FindsRequest};
 
 use crate::Request;
 use crate::step_line::{read_base, read_client, read_each, read_keep, read_name};
 use crate::token::{next_part, read_tag, split_first};
 use plain_store::{Items, Keys, Refusal};
-use stamps::Counter;
+use stamps::{Client, Counter};
 use std::alloc::{AllocError, Global};
 
 /// What a line of a session asks for. The line is handed in without its LF. The tenant of a [`Request::Hello`] is not
@@ -77,8 +77,11 @@ fn read_plain_request(command: &[u8], words: Option<&[u8]>) -> Option<Request>
     ensures { result ≡ plain_request_by command.now (option_map (λ t. t.now) words.entry) }
 {
     let Some(words) = words else {
-        return if command == b"bye".as_slice() {
-            Some(Request::Bye)
+        if command == b"bye".as_slice() {
+            return Some(Request::Bye);
+        }
+        return if command == b"info".as_slice() {
+            Some(Request::Info)
         } else {
             None
         };
@@ -103,9 +106,24 @@ fn read_hello(words: &[u8]) -> Option<Request>
     let (name, numbers) = split_first(words, b' ')?;
     let name = read_name(name)?;
     match split_first(numbers, b' ') {
-        None => Some(Request::Hello(name, read_client(numbers)?, Counter::new(0)?)),
+        None => Some(Request::Hello(name, read_any_client(numbers)?, Counter::new(0)?)),
         Some((client, base)) => {
-            Some(Request::Hello(name, read_client(client)?, read_base(base)?))
+            Some(Request::Hello(name, read_any_client(client)?, read_base(base)?))
         }
+    }
+}
+
+// CLIENT, or `any`.
+#[tactic(auto, unfolding(crate::specs::ServeReading::any_client_at))]
+fn read_any_client(text: &[u8]) -> Option<Option<Client>>
+    ensures { result ≡ any_client_at text.now }
+{
+    match read_client(text) {
+        Some(client) => Some(Some(client)),
+        None => if text == b"any".as_slice() {
+            Some(None)
+        } else {
+            None
+        },
     }
 }

@@ -2,7 +2,7 @@
 ghost use Rattle.std.specs.Prelude.{◌+◌, ◌≤◌, ◌++◌, ◌↔◌, length, decimal, IsTrue, ◌<◌};
 ghost use Rattle.plain_store.specs.Numbers.{number_of};
 ghost use Rattle.line_protocol.specs.Stream.{terminated};
-ghost use Rattle.line_protocol.specs.ServeSpelling.{bye_line};
+ghost use Rattle.line_protocol.specs.ServeSpelling.{bye_line, info_line, ready_as_line};
 ghost use Rattle.line_protocol.specs.Spelling.{stamp_text, tag_text, record_text, keys_text, found_keys_text, prepare_text, discard_text, read_text, reply_text, reply_line, refused_text};
 ghost use Rattle.line_protocol.specs.Room.{Appends, WritesLine, number_room, stamp_room, tag_room, key_room, keys_room, record_room, refusal_room, reply_room, count_room};
 
@@ -10,7 +10,10 @@ use crate::LINE_LIMIT;
 use bytes::BytesMut;
 use itoa::Buffer;
 use plain_store::{DiscardReply, Found, PrepareReply, ReadReply, Refusal, Reply};
-use stamps::{Key, Record, Stamp, Tag, WriteSet};
+use stamps::{Client, Counter, Key, Record, Stamp, Tag, WriteSet};
+
+/// Which version it is, as `ramp --version` and a session's `info` report.
+pub const VERSION: &str = "0.3.0";
 
 /// Fewer than [`LINE_LIMIT`] bytes are spare, so that a line might not fit.
 #[derive(Clone, Copy, Debug, PartialEq, Eq)]
@@ -52,6 +55,43 @@ pub fn write_bye(out: &mut BytesMut) -> Result<(), NoRoom>
         return Err(NoRoom);
     }
     put(out, b"bye\n");
+    Ok(())
+}
+
+/// Appends the line that answers a `hello` for any client, with its LF: the session's counter, and the number that was free. It
+/// succeeds exactly where [`LINE_LIMIT`] bytes are spare, and takes no memory. Otherwise it is [`NoRoom`], and `out` is as it was.
+pub fn write_ready_as(counter: Counter, client: Client, out: &mut BytesMut) -> Result<(), NoRoom>
+    ensures { WritesLine LINE_LIMIT (ready_as_line counter client) out.old out.new result }
+{
+    if has_no_room(out) {
+        return Err(NoRoom);
+    }
+    put(out, b"ready ");
+    put_number(out, counter.get());
+    put(out, b" as ");
+    put_number(out, u64::from(client.get()));
+    put(out, b"\n");
+    Ok(())
+}
+
+/// Appends the line that answers `info`, with its LF: [`VERSION`], the number of this store, which differs from run to run, and
+/// whether each put reads its keys first. It succeeds exactly where [`LINE_LIMIT`] bytes are spare, and takes no memory. Otherwise
+/// it is [`NoRoom`], and `out` is as it was.
+pub fn write_info(store: u64, newest: bool, out: &mut BytesMut) -> Result<(), NoRoom>
+    ensures { WritesLine LINE_LIMIT (info_line store newest) out.old out.new result }
+{
+    if has_no_room(out) {
+        return Err(NoRoom);
+    }
+    put(out, b"info version=");
+    put(out, VERSION.as_bytes());
+    put(out, b" store=");
+    put_number(out, store);
+    if newest {
+        put(out, b" newest=yes\n");
+    } else {
+        put(out, b" newest=no\n");
+    }
     Ok(())
 }
 

@@ -9,7 +9,6 @@ use Rattle.plain_store.specs.declared.refusal.Refusal.TheVariants.{LineTooLong, 
 use Rattle.plain_store.specs.declared.answer.Answer.{Answer}
 use Rattle.hub.specs.Hubs.{ConfigView}
 use Rattle.hub.specs.Seats.{IsNamed, SeatView}
-use Rattle.line_protocol.specs.AnswerSpelling.{answer_line}
 use Rattle.line_protocol.specs.Held.{EndsAs}
 use Rattle.line_protocol.specs.declared.request.Request.{Request}
 use Rattle.line_protocol.specs.Stream.{HasNoLineFeed, IsLine, IsTooLong, lines_of, terminated}
@@ -21,8 +20,9 @@ use Rattle.line_runs.proofs.Steps.{IsTooLong-append}
 use Rattle.server_sessions.specs.declared.session_options.SessionOptions.{SessionOptions}
 use Rattle.server_sessions.specs.declared.line_session.SessionEnd.{SessionEnd}
 use Rattle.server_sessions.specs.declared.line_session.SessionEnd.TheVariants.{Silent, Bye as SaysBye, Unread, Refused as IsRefused}
-use Rattle.server_sessions.specs.Answering.{GoesOnBehind, IsAnsweredAlone, IsAnsweredBy, IsEndOfInput, IsLineAnswered, last_line, refused_as}
+use Rattle.server_sessions.specs.Answering.{GoesOnBehind, IsAnsweredAlone, IsAnsweredBy, IsAnsweredByStore, IsEndOfInput, IsLineAnswered, last_line, refused_as}
 use Rattle.server_sessions.specs.Answered.{AnswersLines, AnswersUpTo, EndsBefore, EndsFor, HasAnswered, IsOfSeat, IsOverBehind, BreaksOffIn, HasAnsweredSome, SessionState, StaysBehind, TakesBytes, TakesInput, state_of}
+use Rattle.server_sessions.specs.Said.{Said, Answers, said_line}
 use Rattle.server_sessions.specs.SeatAnswers.{IsAnsweredAndDrained, IsDrained}
 use Rattle.server_sessions.specs.Telling.{IsLastLine, SessionLeft}
 use Rattle.server_sessions.proofs.SeatsGiven.{drained_name}
@@ -48,14 +48,15 @@ RunsSo options hub names first now held (Some input) (Some left) old new before 
 -- ---- a line
 
 -- a seat answers what it is asked
-pub seat_answers : (options : SessionOptions) (hub : ConfigView) (names : List (List ℕ)) (request : Request) (old : Option SeatView) (seat new : SeatView) (answer : Answer) → old ≡ Some seat
-    → IsAnsweredAndDrained options.newest hub.epoch (length hub.limits) request seat answer new → IsAnsweredBy options hub names request old answer (Some new)
-seat_answers options hub names request old seat new answer is h = subst (λ (s : Option SeatView). IsAnsweredBy options hub names request s answer (Some new)) (sym is) (new, refl, h)
+pub seat_answers : (options : SessionOptions) (hub : ConfigView) (names : List (List ℕ)) (request : Request) (old : Option SeatView) (seat new : SeatView) (said : Said) (answer : Answer) → old ≡ Some seat → said ≡ Answers answer
+    → IsAnsweredAndDrained options.newest hub.epoch (length hub.limits) request seat answer new → IsAnsweredBy options hub names request old said (Some new)
+seat_answers options hub names request old seat new said answer is same h =
+    inr (subst (λ (s : Option SeatView). IsAnsweredByStore options hub names request s said (Some new)) (sym is) (answer, new, same, refl, h))
 
 -- while there is no seat
-pub none_answers : (options : SessionOptions) (hub : ConfigView) (names : List (List ℕ)) (request : Request) (old new : Option SeatView) (answer : Answer) → old ≡ None → IsAnsweredAlone (length hub.limits) names request answer new
-    → IsAnsweredBy options hub names request old answer new
-none_answers options hub names request old new answer is h = subst (λ (s : Option SeatView). IsAnsweredBy options hub names request s answer new) (sym is) h
+pub none_answers : (options : SessionOptions) (hub : ConfigView) (names : List (List ℕ)) (request : Request) (old new : Option SeatView) (said : Said) → old ≡ None → IsAnsweredAlone hub.limits names request said new
+    → IsAnsweredBy options hub names request old said new
+none_answers options hub names request old new said is h = inr (subst (λ (s : Option SeatView). IsAnsweredByStore options hub names request s said new) (sym is) h)
 
 -- a line that was not read for an allocation failure, or since it asks for nothing
 pub refused_same : (seat : Option SeatView) (cause : Refusal) → (cause ≡ OutOfMemory → seat ≡ None → ⊥) → cause ≡ refused_as seat cause
@@ -68,10 +69,10 @@ refused_same None cause not = refl
 pub up_to_none : (options : SessionOptions) (hub : ConfigView) (names : List (List ℕ)) (seat : Option SeatView) (stream : List ℕ) → AnswersUpTo options hub names seat (state_of seat false) stream stream []
 up_to_none options hub names seat stream last = AnswersFront-refl (AnswersLines options hub names last) (state_of seat false) stream
 
-pub up_to_line : (options : SessionOptions) (hub : ConfigView) (names : List (List ℕ)) (old new : Option SeatView) (line : List ℕ) (answer : Answer) (over : Bool) → IsLine line → IsLineAnswered options hub names line old answer new
-    → GoesOnBehind options old line → IsOverBehind over new answer → AnswersUpTo options hub names old (state_of new over) (terminated line) [] (answer_line answer)
+pub up_to_line : (options : SessionOptions) (hub : ConfigView) (names : List (List ℕ)) (old new : Option SeatView) (line : List ℕ) (answer : Said) (over : Bool) → IsLine line → IsLineAnswered options hub names line old answer new
+    → GoesOnBehind options old line → IsOverBehind over new answer → AnswersUpTo options hub names old (state_of new over) (terminated line) [] (said_line answer)
 up_to_line options hub names old new line answer over is answered goes ends last =
-    AnswersFront-line (AnswersLines options hub names last) (state_of old false) (state_of new over) line (answer_line answer) is (λ lines others h. (answer, state_of new over, others, refl, answered, ends, goes, refl, h))
+    AnswersFront-line (AnswersLines options hub names last) (state_of old false) (state_of new over) line (said_line answer) is (λ lines others h. (answer, state_of new over, others, refl, answered, ends, goes, refl, h))
 
 pub up_to_trans : (options : SessionOptions) (hub : ConfigView) (names : List (List ℕ)) (a b : Option SeatView) (c : SessionState) (stream mid held kept after w v : List ℕ) → AnswersUpTo options hub names a (state_of b false) stream mid w
     → AnswersUpTo options hub names b c held kept v → mid ≡ held ++ after → AnswersUpTo options hub names a c stream (kept ++ after) (w ++ v)
@@ -95,11 +96,11 @@ ends_here options seat (IsRefused cause) held open_ended h = (refl, h)
 -- ---- what is taken of bytes that came
 
 -- a line is answered, and the session goes on
-pub goes_on : (options : SessionOptions) (hub : ConfigView) (names : List (List ℕ)) (old new : Option SeatView) (line : List ℕ) (answer : Answer) (over : Bool) (a b : Option (List ℕ)) (x y : List ℕ) → over ≡ false → IsLine line
-    → IsLineAnswered options hub names line old answer new → GoesOnBehind options old line → IsOverBehind over new answer → Gathers a b x y (answer_line answer)
+pub goes_on : (options : SessionOptions) (hub : ConfigView) (names : List (List ℕ)) (old new : Option SeatView) (line : List ℕ) (answer : Said) (over : Bool) (a b : Option (List ℕ)) (x y : List ℕ) → over ≡ false → IsLine line
+    → IsLineAnswered options hub names line old answer new → GoesOnBehind options old line → IsOverBehind over new answer → Gathers a b x y (said_line answer)
     → TakesBytes options hub names None old new (terminated line) [] a b x y
 goes_on options hub names old new line answer over a b x y not is answered goes ends gathers = record {
-  text = answer_line answer;
+  text = said_line answer;
   left = [];
   now = state_of new over;
   gathers = gathers;
@@ -112,11 +113,11 @@ pub gathers_line : (a b : Option (List ℕ)) (x y z line : List ℕ) → y ≡ x
 gathers_line a b x y z line is h = subst (Gathers a b x z) (append-nil line) (Gathers-trans a a b x y z line [] (Gathers-text a x y line is) h)
 
 -- a line is answered by an allocation failure, and the session ends
-pub ends_without_memory : (options : SessionOptions) (hub : ConfigView) (names : List (List ℕ)) (old new : Option SeatView) (line : List ℕ) (answer : Answer) (over : Bool) (a b : Option (List ℕ)) (x y : List ℕ) → over ≡ true → IsLine line
-    → IsLineAnswered options hub names line old answer new → GoesOnBehind options old line → IsOverBehind over new answer → Gathers a b x y (answer_line answer)
+pub ends_without_memory : (options : SessionOptions) (hub : ConfigView) (names : List (List ℕ)) (old new : Option SeatView) (line : List ℕ) (answer : Said) (over : Bool) (a b : Option (List ℕ)) (x y : List ℕ) → over ≡ true → IsLine line
+    → IsLineAnswered options hub names line old answer new → GoesOnBehind options old line → IsOverBehind over new answer → Gathers a b x y (said_line answer)
     → TakesBytes options hub names (Some Silent) old new (terminated line) [] a b x y
 ends_without_memory options hub names old new line answer over a b x y want is answered goes ends gathers = record {
-  text = answer_line answer;
+  text = said_line answer;
   left = [];
   now = state_of new over;
   gathers = gathers;
@@ -345,11 +346,11 @@ session_answered options hub names (Ok done) ending last its (Some input) a b c 
 -- ---- where a session breaks off
 
 -- after a line was answered
-pub breaks_at_line : (options : SessionOptions) (hub : ConfigView) (names : List (List ℕ)) (old new : Option SeatView) (line : List ℕ) (answer : Answer) (over : Bool) (a b : Option (List ℕ)) (x y : List ℕ) (n : ℕ) → IsLine line
-    → IsLineAnswered options hub names line old answer new → GoesOnBehind options old line → IsOverBehind over new answer → y ≡ x ++ answer_line answer → Appends a b (take n y)
+pub breaks_at_line : (options : SessionOptions) (hub : ConfigView) (names : List (List ℕ)) (old new : Option SeatView) (line : List ℕ) (answer : Said) (over : Bool) (a b : Option (List ℕ)) (x y : List ℕ) (n : ℕ) → IsLine line
+    → IsLineAnswered options hub names line old answer new → GoesOnBehind options old line → IsOverBehind over new answer → y ≡ x ++ said_line answer → Appends a b (take n y)
     → BreaksOffIn options hub names old new (terminated line) a b x
 breaks_at_line options hub names old new line answer over a b x y n is answered goes ends same adds = record {
-  text = answer_line answer;
+  text = said_line answer;
   left = [];
   size = n;
   over = over;

@@ -14,7 +14,7 @@ use Rattle.plain_store.specs.declared.refusal.Refusal.TheVariants.{Busy, NoTenan
 use Rattle.plain_store.specs.declared.step.Act.{Act}
 use Rattle.plain_store.specs.declared.step.Act.TheVariants.{Put as PutAct, Get as GetAct, Find as FindAct}
 use Rattle.plain_store.specs.declared.answer.Answer.{Answer}
-use Rattle.plain_store.specs.declared.answer.Answer.TheVariants.{Refused, Ready, Keeps as KeepsMany}
+use Rattle.plain_store.specs.declared.answer.Answer.TheVariants.{Refused, Keeps as KeepsMany}
 use Rattle.entry_list.specs.declared.kinds.Entry.{Entry}
 use Rattle.entry_list.specs.declared.kinds.Entry.TheVariants.{Began}
 use Rattle.plain_store.specs.Writing.{keys_written}
@@ -27,12 +27,13 @@ use Rattle.shard.specs.declared.seat_name.SeatName.{SeatName}
 use Rattle.closed_store.specs.declared.transcript.Transcript.{Transcript}
 use Rattle.line_protocol.specs.AnswerSpelling.{answer_line}
 use Rattle.line_protocol.specs.declared.request.Request.{Request}
-use Rattle.line_protocol.specs.declared.request.Request.TheVariants.{Hello, Put, Get, Find, Keep, Bye}
+use Rattle.line_protocol.specs.declared.request.Request.TheVariants.{Hello, Put, Get, Find, Keep, Info, Bye}
 use Rattle.line_runs.specs.RunAnswers.{Gathers}
 use Rattle.server_sessions.specs.Answered.{IsOfSeat}
 use Rattle.server_sessions.specs.Histories.{IsGivenIn}
-use Rattle.server_sessions.specs.SeatAnswers.{AreGiven, HasCommitted, IsAnswered, IsAnsweredAndDrained, IsDrained, IsFresh, IsPut, IsServedWith, IsToldBySeat, IsToldNext, Nothing, OneMore, ReportsFind, ReportsGet, Returned, refusals_text}
-use Rattle.server_sessions.specs.Telling.{Telling, Entered, Refuses, KeepsSo, answer_told, answer_untold, answers_entered, tellings_text, IsLeftOf, IsReplaced, HasHeard, WasHeard, WasTold, Tells, HasTold, SessionLeft, IsLastLine, IsWritten, IsBegun, BreaksTelling, HasName, IsSeated, seat_tenant}
+use Rattle.server_sessions.specs.Said.{Aside, Declines, Shows, aside_line, asides_text, ready_line}
+use Rattle.server_sessions.specs.SeatAnswers.{AreGiven, HasCommitted, IsAnswered, IsAnsweredAndDrained, IsDrained, IsFresh, IsPut, IsServedWith, IsToldBySeat, IsToldNext, Nothing, OneMore, ReportsFind, ReportsGet, Returned}
+use Rattle.server_sessions.specs.Telling.{Telling, Entered, Refuses, KeepsSo, Informs, telling_line, answer_untold, answers_entered, tellings_text, IsLeftOf, IsReplaced, HasHeard, WasHeard, WasTold, Tells, HasTold, SessionLeft, IsLastLine, IsWritten, IsBegun, BreaksTelling, HasName, IsSeated, seat_tenant}
 use Rattle.server_sessions.proofs.SeatsGiven.{drained_name, given_at_end, given_drained, given_fresh, given_later}
 use Rattle.line_runs.proofs.Fronts.{begins_behind_gathered}
 use Rattle.line_runs.proofs.Gathering.{Gathers-end, Gathers-none, Gathers-text, Gathers-trans, Gathers-written}
@@ -43,33 +44,39 @@ Tells-same newest epoch seat told h = subst (WasTold newest epoch seat) (sym (ap
 pub Tells-trans : (newest : Bool) (epoch : ℕ) (a b c : Option SeatView) (s t : List ℕ) → Tells newest epoch a b s → Tells newest epoch b c t → Tells newest epoch a c (s ++ t)
 Tells-trans newest epoch a b c s t h k told is = subst (WasTold newest epoch c) (append_assoc told s t) (k (told ++ s) (h told is))
 
-refusals-more : (causes : List Refusal) (cause : Refusal) → refusals_text (causes ++ cause ∷ []) ≡ refusals_text causes ++ answer_line (Refused cause)
-refusals-more [] cause = append-nil (answer_line (Refused cause))
-refusals-more (first ∷ causes) cause =
-    ap (λ (t : List ℕ). answer_line (Refused first) ++ t) (refusals-more causes cause)
-    ∙ sym (append_assoc (answer_line (Refused first)) (refusals_text causes) (answer_line (Refused cause)))
+asides-more : (asides : List Aside) (a : Aside) → asides_text (asides ++ a ∷ []) ≡ asides_text asides ++ aside_line a
+asides-more [] a = append-nil (aside_line a)
+asides-more (first ∷ others) a =
+    ap (λ (t : List ℕ). aside_line first ++ t) (asides-more others a)
+    ∙ sym (append_assoc (aside_line first) (asides_text others) (aside_line a))
 
-tellings-more : (tellings : List Telling) (t : Telling) → tellings_text (tellings ++ t ∷ []) ≡ tellings_text tellings ++ answer_line (answer_told t)
-tellings-more [] t = append-nil (answer_line (answer_told t))
+tellings-more : (tellings : List Telling) (t : Telling) → tellings_text (tellings ++ t ∷ []) ≡ tellings_text tellings ++ telling_line t
+tellings-more [] t = append-nil (telling_line t)
 tellings-more (first ∷ others) t =
-    ap (λ (text : List ℕ). answer_line (answer_told first) ++ text) (tellings-more others t)
-    ∙ sym (append_assoc (answer_line (answer_told first)) (tellings_text others) (answer_line (answer_told t)))
+    ap (λ (text : List ℕ). telling_line first ++ text) (tellings-more others t)
+    ∙ sym (append_assoc (telling_line first) (tellings_text others) (telling_line t))
 
 -- ---- while there is no seat
 
+-- what no seat answers
+Tells-aside : (newest : Bool) (epoch : ℕ) (aside : Aside) → Tells newest epoch None None (aside_line aside)
+Tells-aside newest epoch aside told h = (h.0 ++ aside ∷ [], ap (λ (t : List ℕ). t ++ aside_line aside) h.1 ∙ sym (asides-more h.0 aside))
+
 -- a refusal
 pub Tells-refused : (newest : Bool) (epoch : ℕ) (cause : Refusal) → Tells newest epoch None None (answer_line (Refused cause))
-Tells-refused newest epoch cause told h = (h.0 ++ cause ∷ [], ap (λ (t : List ℕ). t ++ answer_line (Refused cause)) h.1 ∙ sym (refusals-more h.0 cause))
+Tells-refused newest epoch cause = Tells-aside newest epoch (Declines cause)
 
--- a seat is opened
-pub Tells-ready : (newest : Bool) (epoch : ℕ) (seat : SeatView) → IsFresh seat → Tells newest epoch None (Some seat) (answer_line (Ready seat.name.counter))
-Tells-ready newest epoch seat fresh told h =
-    let line = answer_line (Ready seat.name.counter) in
-    let spelled : told ++ line ≡ refusals_text h.0 ++ (line ++ []) = ap (λ (t : List ℕ). t ++ line) h.1 ∙ ap (λ (t : List ℕ). refusals_text h.0 ++ t) (sym (append-nil line)) in (
+-- a seat is opened, and its client is told, where that was not asked for
+pub Tells-ready : (newest : Bool) (epoch : ℕ) (seat : SeatView) (told_client : Option ℕ) → IsFresh seat → IfSome told_client (λ client. client ≡ seat.name.client)
+    → Tells newest epoch None (Some seat) (ready_line seat.name.counter told_client)
+Tells-ready newest epoch seat told_client fresh own told h =
+    let line = ready_line seat.name.counter told_client in
+    let spelled : told ++ line ≡ asides_text h.0 ++ (line ++ []) = ap (λ (t : List ℕ). t ++ line) h.1 ∙ ap (λ (t : List ℕ). asides_text h.0 ++ t) (sym (append-nil line)) in (
       (
         None,
         record {
-          causes = h.0;
+          asides = h.0;
+          told_client = told_client;
           tellings = [];
           all = [];
           spelled = spelled;
@@ -81,12 +88,14 @@ Tells-ready newest epoch seat fresh told h =
         λ going. refl,
       ),
       record {
-        causes = h.0;
+        asides = h.0;
         opened = seat;
         fresh = fresh;
         session = refl;
         told = [];
         since = Nothing;
+        told_client = told_client;
+        own = own;
         spelled = spelled;
         given = given_fresh seat fresh.0;
       },
@@ -99,14 +108,14 @@ abbrev Hears : Bool → ℕ → SeatView → SeatView → List ℕ → Type 0
 Hears newest epoch old new text = (told : List ℕ) → WasHeard newest epoch old told → WasHeard newest epoch new (told ++ text)
 
 -- one line more
-spelled_more : (text : List ℕ) (causes : List Refusal) (counter : ℕ) (tellings : List Telling) (t : Telling)
-    → text ≡ refusals_text causes ++ (answer_line (Ready counter) ++ tellings_text tellings)
-    → text ++ answer_line (answer_told t) ≡ refusals_text causes ++ (answer_line (Ready counter) ++ tellings_text (tellings ++ t ∷ []))
-spelled_more text causes counter tellings t is =
-    let first = refusals_text causes in
-    let ready = answer_line (Ready counter) in
+spelled_more : (text : List ℕ) (asides : List Aside) (counter : ℕ) (client : Option ℕ) (tellings : List Telling) (t : Telling)
+    → text ≡ asides_text asides ++ (ready_line counter client ++ tellings_text tellings)
+    → text ++ telling_line t ≡ asides_text asides ++ (ready_line counter client ++ tellings_text (tellings ++ t ∷ []))
+spelled_more text asides counter client tellings t is =
+    let first = asides_text asides in
+    let ready = ready_line counter client in
     let so_far = tellings_text tellings in
-    let line = answer_line (answer_told t) in
+    let line = telling_line t in
     ap (λ (l : List ℕ). l ++ line) is
     ∙ append_assoc first (ready ++ so_far) line
     ∙ ap (λ (l : List ℕ). first ++ l) (append_assoc ready so_far line ∙ ap (λ (l : List ℕ). ready ++ l) (sym (tellings-more tellings t)))
@@ -149,15 +158,16 @@ drained_left epoch old new all drained kept =
 -- an answer that is not entered, and the seat is as it was
 heard_aside : (newest : Bool) (epoch counter other : ℕ) (left rest : List Entry) (unheard : Option Answer) (text : List ℕ) (t : Telling)
     → HasHeard newest epoch counter left unheard text → answers_entered t ≡ [] → answer_untold t ≡ None → other ≡ counter → ((all : List Entry) → IsLeftOf epoch all left → IsLeftOf epoch all rest)
-    → HasHeard newest epoch other rest unheard (text ++ answer_line (answer_told t))
+    → HasHeard newest epoch other rest unheard (text ++ telling_line t)
 heard_aside newest epoch counter other left rest unheard text t h aside told same drained =
     let more = entered_more h.tellings t ∙ ap (λ (l : List Answer). flat_map answers_entered h.tellings ++ l) aside ∙ append-nil (flat_map answers_entered h.tellings) in
     record {
-      causes = h.causes;
+      asides = h.asides;
+      told_client = h.told_client;
       tellings = h.tellings ++ t ∷ [];
       all = h.all;
-      spelled = subst (λ (n : ℕ). text ++ answer_line (answer_told t) ≡ refusals_text h.causes ++ (answer_line (Ready n) ++ tellings_text (h.tellings ++ t ∷ []))) (sym same)
-          (spelled_more text h.causes counter h.tellings t h.spelled);
+      spelled = subst (λ (n : ℕ). text ++ telling_line t ≡ asides_text h.asides ++ (ready_line n h.told_client ++ tellings_text (h.tellings ++ t ∷ []))) (sym same)
+          (spelled_more text h.asides counter h.told_client h.tellings t h.spelled);
       handed = drained h.all h.handed;
       agrees = h.agrees ∙ ap (λ (l : List Answer). l ++ cons_option unheard []) (sym more);
       each = each_more newest h.tellings t h.each (λ plain. told);
@@ -165,7 +175,7 @@ heard_aside newest epoch counter other left rest unheard text t h aside told sam
     }
 
 pub told_aside : (newest : Bool) (epoch : ℕ) (old between new : SeatView) (t : Telling) → answers_entered t ≡ [] → answer_untold t ≡ None → between ≡ old → IsDrained epoch between new
-    → Hears newest epoch old new (answer_line (answer_told t))
+    → Hears newest epoch old new (telling_line t)
 told_aside newest epoch old between new t aside untold same drained told h = (
   h.0,
   heard_aside newest epoch old.name.counter new.name.counter old.entries new.entries h.0 told t h.1 aside untold
@@ -200,15 +210,16 @@ heard_grown : (newest : Bool) (epoch counter other : ℕ) (old between rest : Li
     → ((all : List Entry) → (epoch ≡ 0 → between ≡ all) → IsLeftOf epoch all rest)
     → told ≡ answers_entered t ++ cons_option unheard [] → (newest ≡ false → answer_untold t ≡ None)
     → ((tellings : List Telling) → IsReplaced unheard (tellings ++ t ∷ []))
-    → HasHeard newest epoch other rest unheard (text ++ answer_line (answer_told t))
+    → HasHeard newest epoch other rest unheard (text ++ telling_line t)
 heard_grown newest epoch counter other old between rest told unheard text t h g same drained split plain replaced =
     let so_far = flat_map answers_entered h.tellings in
     record {
-      causes = h.causes;
+      asides = h.asides;
+      told_client = h.told_client;
       tellings = h.tellings ++ t ∷ [];
       all = h.all ++ g.more;
-      spelled = subst (λ (n : ℕ). text ++ answer_line (answer_told t) ≡ refusals_text h.causes ++ (answer_line (Ready n) ++ tellings_text (h.tellings ++ t ∷ []))) (sym same)
-          (spelled_more text h.causes counter h.tellings t h.spelled);
+      spelled = subst (λ (n : ℕ). text ++ telling_line t ≡ asides_text h.asides ++ (ready_line n h.told_client ++ tellings_text (h.tellings ++ t ∷ []))) (sym same)
+          (spelled_more text h.asides counter h.told_client h.tellings t h.spelled);
       handed = drained (h.all ++ g.more) (grown epoch old between told h.all h.handed g);
       agrees = filter_map-append answer_in h.all g.more
           ∙ (λ i. (h.agrees ∙ append-nil so_far) i ++ (g.answers ∙ split) i)
@@ -224,7 +235,7 @@ heard_all newest epoch seat text h going = subst (λ (o : Option Answer). HasHea
 
 -- what a seat reports whose operations entered just this, and that goes on
 told_grown : (newest : Bool) (epoch : ℕ) (old between new : SeatView) (t : Telling) → HasGrown old.entries between.entries (answers_entered t) → (newest ≡ false → answer_untold t ≡ None)
-    → old.stopped ≡ false → between.name.counter ≡ old.name.counter → IsDrained epoch between new → Hears newest epoch old new (answer_line (answer_told t))
+    → old.stopped ≡ false → between.name.counter ≡ old.name.counter → IsDrained epoch between new → Hears newest epoch old new (telling_line t)
 told_grown newest epoch old between new t g plain going name drained told h = (
   None,
   heard_grown newest epoch old.name.counter new.name.counter old.entries between.entries new.entries (answers_entered t) None told t (heard_all newest epoch old told h going) g
@@ -362,15 +373,20 @@ told_answered newest epoch tenants (Get keys) old between new answer h counter d
 told_answered newest epoch tenants (Find tag) old between new answer h counter drained =
     told_served newest epoch old between new (FindAct old.name.client tag) answer (served_by (FindAct old.name.client tag) old between answer h.operated.entered) counter drained
 told_answered newest epoch tenants (Keep keep) old between new answer h counter drained = told_keep newest epoch keep old between new answer (nat_lt old.name.tenant tenants) h.0 h.1 drained
+told_answered newest epoch tenants Info old between new answer h counter drained = absurd h
 told_answered newest epoch tenants Bye old between new answer h counter drained = absurd h
 
--- a refusal that the seat did not enter, and it stays as it was
-told_cause : (newest : Bool) (epoch : ℕ) (seat : SeatView) (cause : Refusal) → Hears newest epoch seat seat (answer_line (Refused cause))
-told_cause newest epoch seat cause told h = (
+-- what the seat did not enter, and it stays as it was
+told_beside : (newest : Bool) (epoch : ℕ) (seat : SeatView) (t : Telling) → answers_entered t ≡ [] → answer_untold t ≡ None → Hears newest epoch seat seat (telling_line t)
+told_beside newest epoch seat t aside untold told h = (
   h.0,
-  heard_aside newest epoch seat.name.counter seat.name.counter seat.entries seat.entries h.0 told (Refuses None cause) h.1 refl refl refl (λ all left. left),
+  heard_aside newest epoch seat.name.counter seat.name.counter seat.entries seat.entries h.0 told t h.1 aside untold refl (λ all left. left),
   h.2,
 )
+
+told_note : (newest : Bool) (epoch : ℕ) (seat : SeatView) (aside : Aside) → Hears newest epoch seat seat (aside_line aside)
+told_note newest epoch seat (Declines cause) = told_beside newest epoch seat (Refuses None cause) refl refl
+told_note newest epoch seat (Shows store is) = told_beside newest epoch seat (Informs store is) refl refl
 
 -- nothing is answered, and entries are returned
 told_drained : (newest : Bool) (epoch : ℕ) (old new : SeatView) → IsDrained epoch old new → Hears newest epoch old new []
@@ -378,10 +394,11 @@ told_drained newest epoch old new drained told h =
     let same = drained_counter epoch old new drained in (
       h.0,
       record {
-        causes = h.1.causes;
+        asides = h.1.asides;
+        told_client = h.1.told_client;
         tellings = h.1.tellings;
         all = h.1.all;
-        spelled = append-nil told ∙ h.1.spelled ∙ ap (λ (n : ℕ). refusals_text h.1.causes ++ (answer_line (Ready n) ++ tellings_text h.1.tellings)) (sym same);
+        spelled = append-nil told ∙ h.1.spelled ∙ ap (λ (n : ℕ). asides_text h.1.asides ++ (ready_line n h.1.told_client ++ tellings_text h.1.tellings)) (sym same);
         handed = drained_left epoch old new h.1.all drained (λ never. h.1.handed.0 never);
         agrees = h.1.agrees;
         each = h.1.each;
@@ -407,37 +424,41 @@ given_answered newest epoch tenants (Put items) old new answer h given = given_p
 given_answered newest epoch tenants (Get keys) old new answer h given = given_later max_calls old new h.operated.later given
 given_answered newest epoch tenants (Find tag) old new answer h given = given_later max_calls old new h.operated.later given
 given_answered newest epoch tenants (Keep keep) old new answer h given = subst AreGiven (sym h.1) given
+given_answered newest epoch tenants Info old new answer h given = absurd h
 given_answered newest epoch tenants Bye old new answer h given = absurd h
 
-given_next : (newest : Bool) (epoch : ℕ) (old new : SeatView) (answer : Answer) → IsToldNext newest epoch old answer new → AreGiven old → AreGiven new
-given_next newest epoch old new answer (inl (tenants, request, (between, answered, named, drained))) given =
+given_next : (newest : Bool) (epoch : ℕ) (old new : SeatView) (line : List ℕ) → IsToldNext newest epoch old line new → AreGiven old → AreGiven new
+given_next newest epoch old new line (inl (tenants, request, answer, (between, answered, named, drained), is)) given =
     given_drained epoch between new drained (given_answered newest epoch tenants request old between answer answered given)
-given_next newest epoch old new answer (inr (cause, is, same)) given = subst AreGiven (sym same) given
+given_next newest epoch old new line (inr (aside, is, same)) given = subst AreGiven (sym same) given
 
-named_next : (newest : Bool) (epoch : ℕ) (old new : SeatView) (answer : Answer) → IsToldNext newest epoch old answer new → new.name ≡ old.name
-named_next newest epoch old new answer (inl (tenants, request, (between, answered, named, drained))) = drained_name epoch between new drained ∙ named
-named_next newest epoch old new answer (inr (cause, is, same)) = ap (λ (s : SeatView). s.name) same
+named_next : (newest : Bool) (epoch : ℕ) (old new : SeatView) (line : List ℕ) → IsToldNext newest epoch old line new → new.name ≡ old.name
+named_next newest epoch old new line (inl (tenants, request, answer, (between, answered, named, drained), is)) = drained_name epoch between new drained ∙ named
+named_next newest epoch old new line (inr (aside, is, same)) = ap (λ (s : SeatView). s.name) same
 
 -- a line more
-says_next : (newest : Bool) (epoch : ℕ) (old new : SeatView) (answer : Answer) → IsToldNext newest epoch old answer new → Says newest epoch old new (answer_line answer)
-says_next newest epoch old new answer next told h =
-    let line = answer_line answer in
-    let ready = answer_line (Ready h.opened.name.counter) in
+says_next : (newest : Bool) (epoch : ℕ) (old new : SeatView) (line : List ℕ) → IsToldNext newest epoch old line new → Says newest epoch old new line
+says_next newest epoch old new line next told h =
+    let ready = ready_line h.opened.name.counter h.told_client in
     record {
-      causes = h.causes;
+      asides = h.asides;
       opened = h.opened;
       fresh = h.fresh;
-      session = named_next newest epoch old new answer next ∙ h.session;
+      session = named_next newest epoch old new line next ∙ h.session;
       told = h.told ++ line;
-      since = OneMore old answer new h.told h.since next;
-      spelled = ap (λ (t : List ℕ). t ++ line) h.spelled ∙ append_assoc (refusals_text h.causes) (ready ++ h.told) line ∙ ap (λ (t : List ℕ). refusals_text h.causes ++ t) (append_assoc ready h.told line);
-      given = given_next newest epoch old new answer next h.given;
+      since = OneMore old line new h.told h.since next;
+      told_client = h.told_client;
+      own = h.own;
+      spelled = ap (λ (t : List ℕ). t ++ line) h.spelled ∙ append_assoc (asides_text h.asides) (ready ++ h.told) line ∙ ap (λ (t : List ℕ). asides_text h.asides ++ t) (append_assoc ready h.told line);
+      given = given_next newest epoch old new line next h.given;
     }
 
 -- entries are returned
 says_drained : (newest : Bool) (epoch : ℕ) (old new : SeatView) → IsDrained epoch old new → Says newest epoch old new []
 says_drained newest epoch old new drained told h = record {
-  causes = h.causes;
+  asides = h.asides;
+  told_client = h.told_client;
+  own = h.own;
   opened = h.opened;
   fresh = h.fresh;
   session = drained_name epoch old new drained ∙ h.session;
@@ -452,11 +473,15 @@ says_drained newest epoch old new drained told h = record {
 tells_both : (newest : Bool) (epoch : ℕ) (old new : SeatView) (text : List ℕ) → Hears newest epoch old new text → Says newest epoch old new text → Tells newest epoch (Some old) (Some new) text
 tells_both newest epoch old new text hears says told h = (hears told h.0, says told h.1)
 
--- a refusal, with a seat or without
+-- what no seat answers, with a seat or without
+pub Tells-note : (newest : Bool) (epoch : ℕ) (seat : Option SeatView) (aside : Aside) → Tells newest epoch seat seat (aside_line aside)
+Tells-note newest epoch None aside = Tells-aside newest epoch aside
+Tells-note newest epoch (Some seat) aside =
+    tells_both newest epoch seat seat (aside_line aside) (told_note newest epoch seat aside) (says_next newest epoch seat seat (aside_line aside) (inr (aside, refl, refl)))
+
+-- a refusal
 pub Tells-cause : (newest : Bool) (epoch : ℕ) (seat : Option SeatView) (cause : Refusal) → Tells newest epoch seat seat (answer_line (Refused cause))
-Tells-cause newest epoch None cause = Tells-refused newest epoch cause
-Tells-cause newest epoch (Some seat) cause =
-    tells_both newest epoch seat seat (answer_line (Refused cause)) (told_cause newest epoch seat cause) (says_next newest epoch seat seat (Refused cause) (inr (cause, refl, refl)))
+Tells-cause newest epoch seat cause = Tells-note newest epoch seat (Declines cause)
 
 -- whatever a connection's seat answers
 pub answered_by : (newest : Bool) (epoch tenants : ℕ) (request : Request) (old : Option SeatView) (seat new : SeatView) (answer : Answer) → old ≡ Some seat
@@ -465,7 +490,7 @@ answered_by newest epoch tenants request old seat new answer is answered =
     subst (λ (s : Option SeatView). Tells newest epoch s (Some new) (answer_line answer)) (sym is)
     (tells_both newest epoch seat new (answer_line answer)
     (told_answered newest epoch tenants request seat answered.0 new answer answered.1 (ap (λ (n : SeatName). n.counter) answered.2) answered.3)
-    (says_next newest epoch seat new answer (inl (tenants, request, answered))))
+    (says_next newest epoch seat new (answer_line answer) (inl (tenants, request, answer, answered, refl))))
 
 pub left_by : (newest : Bool) (epoch : ℕ) (old : Option SeatView) (seat new : SeatView) → old ≡ Some seat → IsDrained epoch seat new → Tells newest epoch old (Some new) []
 left_by newest epoch old seat new is drained =

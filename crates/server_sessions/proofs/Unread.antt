@@ -3,11 +3,9 @@ use Rattle.std.proofs.Common.{◌≡◌, Bool, ℕ, List, [], Option, Some, None
 use Rattle.std.specs.Prelude.{IfNone, IfSome, IsTrue}
 use Rattle.plain_store.specs.declared.refusal.Refusal.{Refusal}
 use Rattle.plain_store.specs.declared.refusal.Refusal.TheVariants.{BadLine}
-use Rattle.plain_store.specs.declared.answer.Answer.{Answer}
 use Rattle.plain_store.specs.declared.answer.Answer.TheVariants.{Refused}
 use Rattle.hub.specs.Hubs.{ConfigView}
 use Rattle.hub.specs.Seats.{SeatView}
-use Rattle.line_protocol.specs.AnswerSpelling.{answer_line}
 use Rattle.line_protocol.specs.ServeSpelling.{IsNoServeLine, RefusesLine}
 use Rattle.server_sessions.specs.declared.session_options.SessionOptions.{SessionOptions}
 use Rattle.server_sessions.specs.declared.line_session.SessionEnd.{SessionEnd}
@@ -15,19 +13,20 @@ use Rattle.server_sessions.specs.declared.line_session.SessionEnd.TheVariants.{U
 use Rattle.server_sessions.specs.Answering.{GoesOnBehind, IsLineAnswered, refused_as}
 use Rattle.server_sessions.specs.Answered.{EndsBefore, StaysBehind}
 use Rattle.server_sessions.specs.Promised.{AnswersLine, EndsAtLine}
+use Rattle.server_sessions.specs.Said.{Said, Answers, said_line}
 use Rattle.server_sessions.specs.Telling.{Tells}
 use Rattle.server_sessions.proofs.ToldOf.{Tells-cause, Tells-same}
 
 -- it is refused
-pub unread_told : (r : Option SessionEnd) (newest : Bool) (epoch : ℕ) (old new : Option SeatView) (answer : Answer) (cause : Refusal) → new ≡ old → IfNone r (answer ≡ Refused cause)
-    → IfNone r (Tells newest epoch old new (answer_line answer))
+pub unread_told : (r : Option SessionEnd) (newest : Bool) (epoch : ℕ) (old new : Option SeatView) (answer : Said) (cause : Refusal) → new ≡ old → IfNone r (answer ≡ Answers (Refused cause))
+    → IfNone r (Tells newest epoch old new (said_line answer))
 unread_told (Some ending) newest epoch old new answer cause same h = tt
 unread_told None newest epoch old new answer cause same h =
-    subst (λ (s : Option SeatView). Tells newest epoch old s (answer_line answer)) (sym same)
-    (subst (λ (a : Answer). Tells newest epoch old old (answer_line a)) (sym h) (Tells-cause newest epoch old cause))
+    subst (λ (s : Option SeatView). Tells newest epoch old s (said_line answer)) (sym same)
+    (subst (λ (a : Said). Tells newest epoch old old (said_line a)) (sym h) (Tells-cause newest epoch old cause))
 
-pub unread_answered : (r : Option SessionEnd) (options : SessionOptions) (hub : ConfigView) (names : List (List ℕ)) (line : List ℕ) (refusal : Refusal) (old new : Option SeatView) (answer : Answer) → RefusesLine line refusal → new ≡ old
-    → IfNone r (answer ≡ Refused (refused_as old refusal)) → IfNone r (IsLineAnswered options hub names line old answer new)
+pub unread_answered : (r : Option SessionEnd) (options : SessionOptions) (hub : ConfigView) (names : List (List ℕ)) (line : List ℕ) (refusal : Refusal) (old new : Option SeatView) (answer : Said) → RefusesLine line refusal → new ≡ old
+    → IfNone r (answer ≡ Answers (Refused (refused_as old refusal))) → IfNone r (IsLineAnswered options hub names line old answer new)
 unread_answered (Some ending) options hub names line refusal old new answer refuses same h = tt
 unread_answered None options hub names line refusal old new answer refuses same h = inr ((refusal, refuses, h), same)
 
@@ -57,8 +56,8 @@ unread_left (Some ending) epoch old new same = inl same
 
 -- ---- all of that
 
-pub unread_line : (r : Option SessionEnd) (options : SessionOptions) (hub : ConfigView) (names : List (List ℕ)) (line : List ℕ) (old : Option SeatView) (answer : Answer) (new : Option SeatView)
-    → IfNone r (Tells options.newest hub.epoch old new (answer_line answer)) → IfNone r (IsLineAnswered options hub names line old answer new) → IfNone r (GoesOnBehind options old line)
+pub unread_line : (r : Option SessionEnd) (options : SessionOptions) (hub : ConfigView) (names : List (List ℕ)) (line : List ℕ) (old : Option SeatView) (answer : Said) (new : Option SeatView)
+    → IfNone r (Tells options.newest hub.epoch old new (said_line answer)) → IfNone r (IsLineAnswered options hub names line old answer new) → IfNone r (GoesOnBehind options old line)
     → IfNone r (AnswersLine options hub names line old answer new)
 unread_line (Some ending) options hub names line old answer new told is goes_on = tt
 unread_line None options hub names line old answer new told is goes_on = record { told = told; line = is; goes_on = goes_on }

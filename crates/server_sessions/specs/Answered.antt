@@ -2,11 +2,9 @@
 use Rattle.std.specs.Prelude.{◌≡◌, ◌⊎◌, ◌↔◌, ℕ, Bool, true, false, List, [], ◌∷◌, ◌++◌, take, Option, Some, None, Err, IsSome, IsTrue}
 use Rattle.std.specs.Io.KnownBytes.{Appends}
 use Rattle.plain_store.specs.declared.refusal.Refusal.TheVariants.{OutOfMemory}
-use Rattle.plain_store.specs.declared.answer.Answer.{Answer}
 use Rattle.plain_store.specs.declared.answer.Answer.TheVariants.{Refused}
 use Rattle.hub.specs.Hubs.{ConfigView}
 use Rattle.hub.specs.Seats.{IsNamed, SeatView}
-use Rattle.line_protocol.specs.AnswerSpelling.{answer_line}
 use Rattle.line_protocol.specs.Held.{EndsAs}
 use Rattle.line_protocol.specs.ServeSpelling.{IsNoServeLine, IsServeLine}
 use Rattle.line_protocol.specs.Stream.{lines_of, terminated}
@@ -18,6 +16,7 @@ use Rattle.server_sessions.specs.declared.line_session.SessionEnd.{SessionEnd}
 use Rattle.server_sessions.specs.declared.line_session.SessionEnd.TheVariants.{Silent, Bye as SaysBye, Unread}
 use Rattle.server_sessions.specs.declared.line_session.SessionEnd.TheVariants.{Refused as IsRefused}
 use Rattle.server_sessions.specs.Answering.{GoesOnBehind, IsLineAnswered, last_line}
+use Rattle.server_sessions.specs.Said.{Said, Answers, said_line}
 use Rattle.server_sessions.specs.SeatAnswers.{IsDrained}
 use Rattle.server_sessions.specs.Telling.{IsLastLine, SessionLeft}
 
@@ -30,8 +29,8 @@ abbrev pub state_of : Option SeatView → Bool → SessionState
 state_of seat over = record { seat = seat; over = over }
 
 -- a session is over once its seat answered that an allocation failed
-abbrev pub IsOverBehind : Bool → Option SeatView → Answer → Type 0
-IsOverBehind over seat answer = IsTrue over ↔ (IsSome seat × (answer ≡ Refused OutOfMemory))
+abbrev pub IsOverBehind : Bool → Option SeatView → Said → Type 0
+IsOverBehind over seat said = IsTrue over ↔ (IsSome seat × (said ≡ Answers (Refused OutOfMemory)))
 
 -- The text answers these lines, one after the other, of a session in this state, and the last one behind them. It goes on behind each
 -- but the last.
@@ -39,10 +38,10 @@ abbrev pub AnswersLines : SessionOptions → ConfigView → List (List ℕ) → 
     → List (List ℕ) → List ℕ → Type 0
 AnswersLines options hub names last now [] text = (now ≡ last) × (text ≡ [])
 AnswersLines options hub names last now (line ∷ lines) text =
-    (answer : Answer) × (next : SessionState) × (rest : List ℕ)
-    × (now.over ≡ false) × IsLineAnswered options hub names line now.seat answer next.seat
-    × IsOverBehind next.over next.seat answer
-    × GoesOnBehind options now.seat line × (text ≡ answer_line answer ++ rest)
+    (said : Said) × (next : SessionState) × (rest : List ℕ)
+    × (now.over ≡ false) × IsLineAnswered options hub names line now.seat said next.seat
+    × IsOverBehind next.over next.seat said
+    × GoesOnBehind options now.seat line × (text ≡ said_line said ++ rest)
     × AnswersLines options hub names last next lines rest
 
 -- a prefix of the stream is answered by the text of a session that has the first seat, and then the rest as from the state on

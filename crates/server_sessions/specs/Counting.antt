@@ -5,6 +5,7 @@ use Rattle.plain_store.specs.Numbers.{number_of}
 use Rattle.plain_store.specs.declared.answer.Answer.{Answer}
 use Rattle.plain_store.specs.declared.answer.Answer.TheVariants as answers
 use Rattle.plain_store.specs.declared.refusal.Refusal.TheVariants.{BadLine}
+use Rattle.server_sessions.specs.Said.{Said, Answers, ReadyAs, Informs}
 use Rattle.server_sessions.specs.declared.line_session.SessionEnd.{SessionEnd}
 use Rattle.server_sessions.specs.declared.line_session.SessionEnd.TheVariants.{Silent, Bye, Unread, Refused}
 use Rattle.server_sessions.specs.declared.answer_counts.Counted.{Counted}
@@ -38,6 +39,12 @@ counted_as answers.Stopped = None
 counted_as (answers.Sent rows) = None
 counted_as (answers.Freed count) = None
 counted_as (answers.Keeps keep) = None
+
+-- of what a line is answered, the store's answers alone are counted
+abbrev pub counted_said : Said → Option CountedAs
+counted_said (Answers answer) = counted_as answer
+counted_said (ReadyAs counter client) = None
+counted_said (Informs store newest) = None
 
 -- the last answer of a session that ended so, where it is a refusal
 abbrev pub counted_last : SessionEnd → Option CountedAs

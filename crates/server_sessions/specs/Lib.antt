@@ -1,3 +1,4 @@
+pub mod Said
 pub mod Counting
 pub mod TenantCounting
 pub mod SeatAnswers

@@ -1,7 +1,5 @@
 -- What the calls that answer the lines of a connection ask for, and what they promise alike.
 use Rattle.std.specs.Prelude.{◌≤◌, ℕ, Bool, List, [], Option, Result, IfOk, IfErr, IfSome, OnOk}
-use Rattle.plain_store.specs.declared.answer.Answer.{Answer}
-use Rattle.line_protocol.specs.AnswerSpelling.{answer_line}
 use Rattle.hub.specs.Hubs.{ConfigView}
 use Rattle.hub.specs.Seats.{SeatView}
 use Rattle.line_runs.specs.RunAnswers.{Gathers}
@@ -11,6 +9,7 @@ use Rattle.server_sessions.specs.declared.line_session.SessionEnd.{SessionEnd}
 use Rattle.server_sessions.specs.Answered.{EndsBefore, HasAnswered, HasAnsweredSome, StaysBehind}
 use Rattle.server_sessions.specs.Answering.{GoesOnBehind, IsLineAnswered}
 use Rattle.server_sessions.specs.Histories.{IsGivenIn}
+use Rattle.server_sessions.specs.Said.{Said, said_line}
 use Rattle.server_sessions.specs.Telling.{BreaksTelling, HasName, IsBegun, IsSeated, IsWritten, SessionLeft, Tells}
 
 -- there is room for so long a line, and the seat, if there is one, is of a tenant that goes by one of these names
@@ -48,9 +47,9 @@ pub record HasRun (options : SessionOptions) (hub : ConfigView) (names : List (L
 
 -- The line was answered with what it asks for, or that it could not be read, and the seat reports so. The session goes on behind it.
 pub record AnswersLine (options : SessionOptions) (hub : ConfigView) (names : List (List ℕ)) (text : List ℕ)
-    (first : Option SeatView) (answer : Answer) (last : Option SeatView) : Type 0 where
-  pub told : Tells options.newest hub.epoch first last (answer_line answer)
-  pub line : IsLineAnswered options hub names text first answer last
+    (first : Option SeatView) (said : Said) (last : Option SeatView) : Type 0 where
+  pub told : Tells options.newest hub.epoch first last (said_line said)
+  pub line : IsLineAnswered options hub names text first said last
   pub goes_on : GoesOnBehind options first text
 
 -- The line ends the session before it is answered, and the seat reports nothing.

@@ -1,14 +1,12 @@
 -- What the seat of a connection answers, by all that its calls promise, and what is written of it so.
-use Rattle.std.specs.Prelude.{◌≡◌, ◌⊎◌, ◌<◌, ◌*◌, ℕ, zero, suc, Bool, List, [], ◌++◌, true, false, cond, nat_lt}
-use Rattle.std.specs.List.{flat_map}
+use Rattle.std.specs.Prelude.{◌≡◌, ◌⊎◌, ◌<◌, ◌*◌, ℕ, zero, suc, Bool, List, [], ◌++◌, Option, IfSome, true, false, cond, nat_lt}
 use Rattle.stamps.specs.declared.record.Item.{Item}
 use Rattle.plain_store.specs.Words.{Key, Tag}
-use Rattle.plain_store.specs.declared.refusal.Refusal.{Refusal}
 use Rattle.plain_store.specs.declared.refusal.Refusal.TheVariants.{NoTenant, Busy}
 use Rattle.plain_store.specs.declared.step.Act.{Act}
 use Rattle.plain_store.specs.declared.step.Act.TheVariants.{Put as PutAct, Get as GetAct, Find as FindAct}
 use Rattle.plain_store.specs.declared.answer.Answer.{Answer}
-use Rattle.plain_store.specs.declared.answer.Answer.TheVariants.{Refused, Ready, Keeps}
+use Rattle.plain_store.specs.declared.answer.Answer.TheVariants.{Refused, Keeps}
 use Rattle.hub.specs.Atomic.{IsReadAtomic}
 use Rattle.hub.specs.Clocks.{PutsByClock}
 use Rattle.hub.specs.Fresh.{AreCommittedIn, IsFreshByEntry}
@@ -19,7 +17,8 @@ use Rattle.hub.specs.Replies.{AreServed, IfDone, IfListed, IfRead, IsDrawn}
 use Rattle.hub.specs.Seats.{SeatView, sight}
 use Rattle.line_protocol.specs.AnswerSpelling.{answer_line}
 use Rattle.line_protocol.specs.declared.request.Request.{Request}
-use Rattle.line_protocol.specs.declared.request.Request.TheVariants.{Hello, Put, Get, Find, Keep, Bye}
+use Rattle.line_protocol.specs.declared.request.Request.TheVariants.{Hello, Put, Get, Find, Keep, Info, Bye}
+use Rattle.server_sessions.specs.Said.{Aside, aside_line, asides_text, ready_line}
 
 -- The seat ran an operation of this act, and the answer reports what it entered meanwhile: each reply has its place in the
 -- history that the seat has seen.
@@ -57,7 +56,7 @@ IsPut true zero items old answer new = IsReadAndWritten items old answer new × 
 IsPut true (suc epoch) items old answer new = PutsByClock items old answer new
 
 -- What a seat of a store of so many tenants answers to a request: `hello` is refused 12; a put, a get and a find are
--- served; `keep` is answered by its number, and refused 10 where the seat's tenant is not there. `bye` is not answered.
+-- served; `keep` is answered by its number, and refused 10 where the seat's tenant is not there. It does not answer `info` and `bye`.
 abbrev pub IsAnswered : Bool → ℕ → ℕ → Request → SeatView → Answer → SeatView → Type 0
 IsAnswered newest epoch tenants (Hello name client base) old answer new = (answer ≡ Refused Busy) × (new ≡ old)
 IsAnswered newest epoch tenants (Put items) old answer new = IsPut newest epoch items old answer new
@@ -67,6 +66,7 @@ IsAnswered newest epoch tenants (Find tag) old answer new =
     IsServedWith (FindAct old.name.client tag) (ReportsFind tag) old answer new
 IsAnswered newest epoch tenants (Keep keep) old answer new =
     (answer ≡ cond (nat_lt old.name.tenant tenants) (Keeps keep) (Refused NoTenant)) × (new ≡ old)
+IsAnswered newest epoch tenants Info old answer new = ⊥
 IsAnswered newest epoch tenants Bye old answer new = ⊥
 
 -- the entries so far are returned where journals are cut, and stay where none is
@@ -79,22 +79,19 @@ IsAnsweredAndDrained newest epoch tenants request old answer new =
     (between : SeatView) × IsAnswered newest epoch tenants request old answer between × (between.name ≡ old.name)
     × IsDrained epoch between new
 
--- what a line is answered where a seat is: what the seat answers to a request; or a refusal, and the seat stays as it was
-abbrev pub IsToldNext : Bool → ℕ → SeatView → Answer → SeatView → Type 0
-IsToldNext newest epoch old answer new =
-    ((tenants : ℕ) × (request : Request) × IsAnsweredAndDrained newest epoch tenants request old answer new)
-    ⊎ ((cause : Refusal) × (answer ≡ Refused cause) × (new ≡ old))
-
--- the lines that refuse for these causes, one after the other
-abbrev pub refusals_text : List Refusal → List ℕ
-refusals_text = flat_map (λ cause. answer_line (Refused cause))
+-- the line that is written where a seat is: what the seat answers to a request; or what no seat answers, and it stays as it was
+abbrev pub IsToldNext : Bool → ℕ → SeatView → List ℕ → SeatView → Type 0
+IsToldNext newest epoch old line new =
+    ((tenants : ℕ) × (request : Request) × (answer : Answer)
+    × IsAnsweredAndDrained newest epoch tenants request old answer new × (line ≡ answer_line answer))
+    ⊎ ((aside : Aside) × (line ≡ aside_line aside) × (new ≡ old))
 
 -- The text is what was written of a seat since it was opened so, line by line, and it has come to this view. Its entries may
 -- have been returned since.
 pub data ToldSince (newest : Bool) (epoch : ℕ) (opened : SeatView) : SeatView → List ℕ → Type 0 where
   Nothing : ToldSince newest epoch opened opened []
-  OneMore : (old : SeatView) (answer : Answer) (new : SeatView) (text : List ℕ) → ToldSince newest epoch opened old text
-      → IsToldNext newest epoch old answer new → ToldSince newest epoch opened new (text ++ answer_line answer)
+  OneMore : (old : SeatView) (line : List ℕ) (new : SeatView) (text : List ℕ) → ToldSince newest epoch opened old text
+      → IsToldNext newest epoch old line new → ToldSince newest epoch opened new (text ++ line)
   Returned : (old : SeatView) (new : SeatView) (text : List ℕ) → ToldSince newest epoch opened old text
       → IsDrained epoch old new → ToldSince newest epoch opened new text
 
@@ -106,14 +103,17 @@ IsFresh seat = (seat.entries ≡ []) × (seat.sent ≡ 0) × (seat.stopped ≡ f
 abbrev pub AreGiven : SeatView → Type 0
 AreGiven seat = AreServed (sight seat) 0 seat.sent [] seat.entries
 
--- What was written of a seat: refusals before it was opened, its counter, and then what it answered. Each reply that is left
--- among its entries was given to a call of it, at its place in the history that it has seen.
+-- What was written of a seat: what no seat answers, before it was opened, its counter, with its client's number where that was not
+-- asked for, and then what it answered. Each reply that is left among its entries was given to a call of it, at its place in the
+-- history that it has seen.
 pub record IsToldBySeat (newest : Bool) (epoch : ℕ) (seat : SeatView) (text : List ℕ) : Type 0 where
-  pub causes : List Refusal
+  pub asides : List Aside
   pub opened : SeatView
   pub fresh : IsFresh opened
   pub session : seat.name ≡ opened.name
   pub told : List ℕ
   pub since : ToldSince newest epoch opened seat told
-  pub spelled : text ≡ refusals_text causes ++ (answer_line (Ready opened.name.counter) ++ told)
+  pub told_client : Option ℕ
+  pub own : IfSome told_client (λ client. client ≡ opened.name.client)
+  pub spelled : text ≡ asides_text asides ++ (ready_line opened.name.counter told_client ++ told)
   pub given : AreGiven seat

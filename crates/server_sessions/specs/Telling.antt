@@ -6,46 +6,52 @@ use Rattle.std.specs.List.{flat_map, filter_map, cons_option}
 use Rattle.std.specs.Io.KnownBytes.{Appends}
 use Rattle.plain_store.specs.declared.refusal.Refusal.{Refusal}
 use Rattle.plain_store.specs.declared.answer.Answer.{Answer}
-use Rattle.plain_store.specs.declared.answer.Answer.TheVariants.{Refused, Ready, Keeps}
+use Rattle.plain_store.specs.declared.answer.Answer.TheVariants.{Refused, Keeps}
 use Rattle.entry_list.specs.declared.kinds.Entry.{Entry}
 use Rattle.closed_store.specs.declared.transcript.Transcript.{Transcript}
 use Rattle.history.specs.declared.entry.HistoryEntry.{HistoryEntry}
 use Rattle.hub.specs.Seats.{SeatView, IsNamed, answer_in, is_of_worker}
 use Rattle.line_protocol.specs.AnswerSpelling.{answer_line}
-use Rattle.line_protocol.specs.ServeSpelling.{bye_line}
+use Rattle.line_protocol.specs.ServeSpelling.{bye_line, info_line}
 use Rattle.line_protocol.specs.StepSpelling.{IsNumberOf}
-use Rattle.server_sessions.specs.SeatAnswers.{IsToldBySeat, refusals_text}
+use Rattle.server_sessions.specs.Said.{Aside, asides_text, ready_line}
+use Rattle.server_sessions.specs.SeatAnswers.{IsToldBySeat}
 
 -- ---- what is reported
 
--- What a line is answered where a seat is: an answer that the seat entered, a refusal that it did not, or how many
--- versions each collection keeps from then on. First: what the seat had entered for the line and did not tell, if
+-- What a line is answered where a seat is: an answer that the seat entered, a refusal that it did not, how many versions each
+-- collection keeps from then on, or which store it is, and whether each put reads its keys first. First: what the seat had entered for the line and did not tell, if
 -- anything: the answer of the read with which a put began.
 pub data Telling : Type 0 where
   Entered : Option Answer → Answer → Telling
   Refuses : Option Answer → Refusal → Telling
   KeepsSo : ℕ → Telling
+  Informs : ℕ → Bool → Telling
 
-abbrev pub answer_told : Telling → Answer
-answer_told (Entered first answer) = answer
-answer_told (Refuses first refusal) = Refused refusal
-answer_told (KeepsSo keep) = Keeps keep
+-- its line
+abbrev pub telling_line : Telling → List ℕ
+telling_line (Entered first answer) = answer_line answer
+telling_line (Refuses first refusal) = answer_line (Refused refusal)
+telling_line (KeepsSo keep) = answer_line (Keeps keep)
+telling_line (Informs store newest) = info_line store newest
 
 -- what was entered and not told
 abbrev pub answer_untold : Telling → Option Answer
 answer_untold (Entered first answer) = first
 answer_untold (Refuses first refusal) = first
 answer_untold (KeepsSo keep) = None
+answer_untold (Informs store newest) = None
 
 -- all that was entered
 abbrev pub answers_entered : Telling → List Answer
 answers_entered (Entered first answer) = cons_option first (answer ∷ [])
 answers_entered (Refuses first refusal) = cons_option first []
 answers_entered (KeepsSo keep) = []
+answers_entered (Informs store newest) = []
 
 -- the lines of these, one after the other
 abbrev pub tellings_text : List Telling → List ℕ
-tellings_text = flat_map (λ telling. answer_line (answer_told telling))
+tellings_text = flat_map telling_line
 
 -- all entries are left, or none where journals are cut: they are returned then
 abbrev pub IsLeftOf : ℕ → List Entry → List Entry → Type 0
@@ -57,16 +63,17 @@ IsReplaced unheard tellings =
     IfSome unheard (λ answer. (first : Option Answer) × (refusal : Refusal) × (before : List Telling)
     × (after : List Telling) × (is_of_worker refusal ≡ true) × (tellings ≡ before ++ Refuses first refusal ∷ after))
 
--- What a client was answered whose seat has this counter and has these entries left: refusals while there was no seat,
--- the counter, and then an answer to each line. Of these the ones that the seat entered are all that it entered, in
+-- What a client was answered whose seat has this counter and has these entries left: what no seat answers while there was none, the
+-- counter, with the client's number where that was not asked for, and then an answer to each line. Of these the ones that the seat entered are all that it entered, in
 -- order; but for one at the end, where a worker's refusal was reported in its place, and, where puts read first, for the
 -- answers of those reads.
 pub record HasHeard (newest : Bool) (epoch counter : ℕ) (left : List Entry) (unheard : Option Answer) (text : List ℕ)
     : Type 0 where
-  pub causes : List Refusal
+  pub asides : List Aside
+  pub told_client : Option ℕ
   pub tellings : List Telling
   pub all : List Entry
-  pub spelled : text ≡ refusals_text causes ++ (answer_line (Ready counter) ++ tellings_text tellings)
+  pub spelled : text ≡ asides_text asides ++ (ready_line counter told_client ++ tellings_text tellings)
   pub handed : IsLeftOf epoch all left
   pub agrees : filter_map answer_in all ≡ flat_map answers_entered tellings ++ cons_option unheard []
   pub each : newest ≡ false → All (λ telling. answer_untold telling ≡ None) tellings
@@ -78,10 +85,10 @@ WasHeard newest epoch seat text =
     (unheard : Option Answer) × HasHeard newest epoch seat.name.counter seat.entries unheard text
     × (seat.stopped ≡ false → unheard ≡ None)
 
--- What was reported so far: refusals alone where no seat was opened; else what the seat has entered, and that is what it
+-- What was reported so far: what no seat answers where none was opened; else what the seat has entered, and that is what it
 -- answered.
 abbrev pub WasTold : Bool → ℕ → Option SeatView → List ℕ → Type 0
-WasTold newest epoch None text = (causes : List Refusal) × (text ≡ refusals_text causes)
+WasTold newest epoch None text = (asides : List Aside) × (text ≡ asides_text asides)
 WasTold newest epoch (Some seat) text = WasHeard newest epoch seat text × IsToldBySeat newest epoch seat text
 
 -- whatever was reported before, this text is reported after it
@@ -106,7 +113,7 @@ pub record IsToldOfSeat (newest : Bool) (epoch : ℕ) (left : SessionLeft) (text
 
 -- what was reported in a session that left this, or opened no seat
 abbrev pub HasTold : Bool → ℕ → Option SessionLeft → List ℕ → Type 0
-HasTold newest epoch None text = (causes : List Refusal) × (text ≡ refusals_text causes)
+HasTold newest epoch None text = (asides : List Aside) × (text ≡ asides_text asides)
 HasTold newest epoch (Some left) text = IsToldOfSeat newest epoch left text
 
 -- what ends a session: nothing, the line of `bye`, or that of a refusal

@@ -1,91 +1,134 @@
 //! What a line was answered. Once a seat has given an answer, nobody changes it.
-ghost use Rattle.std.specs.Prelude.{◌≡◌, ◌+◌, ◌<◌, ◌≤◌, ◌++◌, ◌↔◌, true, false, cond, nat_lt, length, IsTrue};
-ghost use Rattle.plain_store.specs.declared.answer.Answer.TheVariants.{Ignored, Keeps as KeepsSoMany, Ready, Refused};
+ghost use Rattle.std.specs.Prelude.{◌≡◌, ◌≢◌, ◌+◌, ◌<◌, ◌≤◌, ◌++◌, ◌↔◌, true, false, cond, nat_lt, length, IsTrue};
+ghost use Rattle.plain_store.specs.declared.answer.Answer.{Answer as Told};
+ghost use Rattle.plain_store.specs.declared.answer.Answer.TheVariants.{Ignored, Keeps as KeepsSoMany, Refused};
 ghost use Rattle.plain_store.specs.declared.refusal.Refusal.TheVariants.{NoTenant, OutOfMemory};
-ghost use Rattle.line_protocol.specs.declared.request.Request.TheVariants.{Bye};
-ghost use Rattle.line_protocol.specs.AnswerSpelling.{answer_line};
-ghost use Rattle.server_sessions.specs.Counting.{counted_as, kind_of};
+ghost use Rattle.line_protocol.specs.declared.request.Request.TheVariants.{Bye, Info};
+ghost use Rattle.server_sessions.specs.Counting.{counted_said, kind_of};
+ghost use Rattle.server_sessions.specs.Said.{Answers, Informs, said_line, said_ready};
 ghost use Rattle.server_sessions.specs.SeatAnswers.{IsAnswered};
 
 use crate::answer_counts::{AnswerCounts, Counted};
 use bytes::BytesMut;
 use hub::{Gate, Hub, Naming, Seat};
-use line_protocol::{LINE_LIMIT, Request};
+use line_protocol::{LINE_LIMIT, Request, write_info, write_ready_as};
 use plain_store::{Answer, Refusal};
-use stamps::{Counter, Keep};
+use stamps::{Client, Counter, Keep};
 use std::marker::Model;
 use std::sync::Wait;
 
 /// What a line of a connection was answered, and the place for the next answer. What a seat puts there is written as it is, and
-/// is replaced by the next answer alone. Contracts see it as the answer.
+/// is replaced by the next answer alone. Contracts see it as what is said.
 #[derive(Drop)]
 pub(crate) struct Given {
     answer: Answer,
+    // It stands in place of the store's answer.
+    own: Option<OwnAnswer>,
+}
+
+/// An answer of the server's own.
+#[derive(Clone, Copy)]
+pub(crate) enum OwnAnswer {
+    /// A session is open, with this counter, of this client, whose number was free.
+    ReadyAs(Counter, Client),
+    /// Which store it is, and whether each put reads its keys first.
+    Informs(u64, bool),
 }
 
 impl Model for Given {
-    ghost use Rattle.plain_store.specs.declared.answer.Answer.{Answer as Told};
+    ghost use Rattle.server_sessions.specs.Said.{Said, said_of};
 
-    ghost Value = { Told };
+    ghost Value = { Said };
 
-    ghost view = { λ g. g.answer };
+    ghost view = { λ g. said_of g.answer g.own };
 }
 
 impl Given {
     /// Nothing was answered yet.
     pub(crate) fn new() -> Given
-        ensures { result ≡ Ignored }
+        ensures { result ≡ Answers Ignored }
     {
         Given {
             answer: Answer::Ignored,
+            own: None,
         }
     }
 
-    /// A seat was opened, and has this counter.
-    pub(crate) fn ready(&mut self, counter: Counter)
-        ensures { self.new ≡ Ready counter }
+    /// A seat was opened, and has this counter. Its client is said too, where that was not asked for.
+    pub(crate) fn ready(&mut self, counter: Counter, told: Option<Client>)
+        ensures { self.new ≡ said_ready counter told }
     {
         self.answer = Answer::Ready(counter);
+        self.own = match told {
+            Some(client) => Some(OwnAnswer::ReadyAs(counter, client)),
+            None => None,
+        };
+    }
+
+    /// It is said which store it is, and whether each put reads its keys first.
+    pub(crate) fn inform(&mut self, store: u64, newest: bool)
+        ensures { self.new ≡ Informs store newest }
+    {
+        self.own = Some(OwnAnswer::Informs(store, newest));
     }
 
     /// It is refused. A function of its own, so that no caller reserves stack space for a second `Answer`.
     pub(crate) fn refuse(&mut self, refusal: Refusal)
-        ensures { self.new ≡ Refused refusal }
+        ensures { self.new ≡ Answers (Refused refusal) }
     {
         self.answer = Answer::Refused(refusal);
+        self.own = None;
     }
 
     /// Counts it for the tenant of its session.
     pub(crate) fn count_for(&self, counts: &AnswerCounts, tenant: u32) {
-        counts.count_for(tenant, &self.answer);
+        match self.own {
+            None | Some(OwnAnswer::ReadyAs(..)) => counts.count_for(tenant, &self.answer),
+            Some(OwnAnswer::Informs(..)) => {}
+        }
     }
 
     /// Counts it, and answers the receipt; none where it is neither a refusal nor a restart.
     pub(crate) fn count(&self, counts: &AnswerCounts) -> Option<Counted>
-        ensures { kind_of result ≡ counted_as self.now }
+        ensures { kind_of result ≡ counted_said self.now }
     {
-        counts.count(&self.answer)
+        match self.own {
+            None => counts.count(&self.answer),
+            Some(_) => None,
+        }
     }
 
     /// Whether it is an allocation failure.
     pub(crate) fn is_want_of_memory(&self) -> bool
-        ensures { IsTrue result ↔ (self.now ≡ Refused OutOfMemory) }
+        ensures { IsTrue result ↔ (self.now ≡ Answers (Refused OutOfMemory)) }
     {
-        matches!(&self.answer, Answer::Refused(Refusal::OutOfMemory))
+        self.own.is_none() && matches!(&self.answer, Answer::Refused(Refusal::OutOfMemory))
     }
 }
 
 /// Appends the line of an answer, for which there is room.
 pub(crate) fn put_answer(answer: &Given, out: &mut BytesMut)
     requires { LINE_LIMIT ≤ out.old.spare }
-    ensures text { out.new.items ≡ out.old.items ++ answer_line answer.now }
+    ensures text { out.new.items ≡ out.old.items ++ said_line answer.now }
     ensures room { length out.old.items + out.old.spare ≤ length out.new.items + out.new.spare }
 {
-    line_runs::put_answer(&answer.answer, out);
+    match answer.own {
+        None => line_runs::put_answer(&answer.answer, out),
+        Some(OwnAnswer::ReadyAs(counter, client)) => {
+            if write_ready_as(counter, client, out).is_err() {
+                unreachable!();
+            }
+        }
+        Some(OwnAnswer::Informs(store, newest)) => {
+            if write_info(store, newest, out).is_err() {
+                unreachable!();
+            }
+        }
+    }
 }
 
-/// Answers a request by a seat, and says whether it is answered. Newest: whether a put is above what is there, by the clock; where no
-/// journal is cut it reads its keys for that, so that transcripts can be settled.
+/// Answers a request by a seat, and says whether it is answered: neither an `info` nor a `bye` is. Newest: whether a put is above what
+/// is there, by the clock; where no journal is cut it reads its keys for that, so that transcripts can be settled.
 pub(crate) fn ask_seat<G: Gate + Naming, H: Wait>(
     rt: &H,
     hub: &Hub<G>,
@@ -94,12 +137,13 @@ pub(crate) fn ask_seat<G: Gate + Naming, H: Wait>(
     request: &Request,
     answer: &mut Given,
 ) -> bool
-    ensures answered { result ≡ true
-        → IsAnswered newest hub.now.epoch (length hub.now.limits) request.now seat.old answer.new
+    ensures answered { result ≡ true → (told : Told) × (answer.new ≡ Answers told)
+        × IsAnswered newest hub.now.epoch (length hub.now.limits) request.now seat.old told
         seat.new }
-    ensures bye { result ≡ false → (request.now ≡ Bye) × (seat.new ≡ seat.old) }
-    ensures name { seat.new.name ≡ seat.old.name }
+    ensures stays { (seat.new.name ≡ seat.old.name) × (result ≡ false
+        → ((request.now ≢ Info) → request.now ≡ Bye) × (seat.new ≡ seat.old)) }
 {
+    answer.own = None;
     match request {
         Request::Hello(..) => {
             answer.refuse(Refusal::Busy);
@@ -130,7 +174,7 @@ pub(crate) fn ask_seat<G: Gate + Naming, H: Wait>(
             set_keep(rt, hub, seat.tenant(), *keep, answer);
             true
         }
-        Request::Bye => false,
+        Request::Info | Request::Bye => false,
     }
 }
 
@@ -144,9 +188,10 @@ fn set_keep<G: Gate + Naming, H: Wait>(
     keep: Keep,
     answer: &mut Given,
 )
-    ensures { answer.new
-        ≡ cond (nat_lt tenant (length hub.now.limits)) (KeepsSoMany keep) (Refused NoTenant) }
+    ensures { answer.new ≡ Answers
+        (cond (nat_lt tenant (length hub.now.limits)) (KeepsSoMany keep) (Refused NoTenant)) }
 {
+    answer.own = None;
     match hub.set_keep(rt, tenant, keep) {
         Ok(()) => answer.answer = Answer::Keeps(keep),
         Err(refusal) => answer.answer = Answer::Refused(refusal),

@@ -20,6 +20,7 @@ mod kept_transcripts;
 mod line_session;
 mod line_times;
 mod listener;
+mod open_seat;
 mod peer;
 mod served;
 mod server;

@@ -2,23 +2,25 @@
 ghost use Rattle.std.specs.Prelude.{◌≡◌, ◌+◌, ◌<◌, ◌≤◌, ◌++◌, true, false, length, take, ℕ, List, [], ◌↔◌, Option, Some, None, IfSome, IfNone, IsSome, IsTrue, IfOk, IfErr, OnOk};
 ghost use Rattle.std.specs.Option.{option_map};
 ghost use Rattle.std.specs.Io.KnownBytes.{Appends, Keeps};
-ghost use Rattle.plain_store.specs.declared.answer.Answer.TheVariants.{Ready, Refused};
+ghost use Rattle.plain_store.specs.declared.answer.Answer.TheVariants.{Refused};
 ghost use Rattle.plain_store.specs.declared.refusal.Refusal.TheVariants.{BadLine, NoTenant, OutOfMemory};
 ghost use Rattle.line_protocol.specs.declared.request.Request.TheVariants.{Bye};
 ghost use Rattle.line_protocol.specs.AnswerSpelling.{answer_line};
+ghost use Rattle.server_sessions.specs.Said.{Answers, said_line};
 ghost use Rattle.line_protocol.specs.Stream.{HasNoLineFeed, IsLine, terminated};
 ghost use Rattle.line_runs.specs.RunAnswers.{Gathers};
 ghost use Rattle.line_runs.specs.declared.fault.RunFault.TheVariants.{Write as IsWrite};
 ghost use Rattle.server_sessions.specs.Answered.{BreaksOffIn, IsOfSeat, StaysBehind, TakesBytes, TakesInput};
 ghost use Rattle.server_sessions.specs.declared.line_session.SessionEnd.TheVariants.{Unread};
-ghost use Rattle.server_sessions.specs.Answering.{IsAnsweredBy, IsEndOfInput, IsGreeted, last_line, no_options, refused_as};
-ghost use Rattle.server_sessions.specs.Counting.{counted_as, counted_last, if_counts, kind_of};
+ghost use Rattle.server_sessions.specs.Answering.{Greets, IsAnsweredBy, IsEndOfInput, IsGreeted, last_line, no_options, refused_as};
+ghost use Rattle.server_sessions.specs.Counting.{counted_last, counted_said, if_counts, kind_of};
 ghost use Rattle.server_sessions.specs.Promised.{AnswersLine, EndsAtLine, HasRun, KeepsTelling, MayAnswer};
 ghost use Rattle.server_sessions.specs.SeatAnswers.{IsDrained};
 ghost use Rattle.server_sessions.specs.Telling.{IsLastLine, IsSeated, SessionLeft as LeftBehind, Tells};
 
 use crate::answer_counts::{AnswerCounts, Counted};
 use crate::given::{Given, ask_seat, put_answer};
+use crate::open_seat::open_seat;
 use crate::session_options::SessionOptions;
 use bytes::BytesMut;
 use hub::{Front, Gate, Hub, Naming, Seat, Transcript};
@@ -83,6 +85,7 @@ pub fn run_session<'s, G: Gate + Naming, H: Wait, R: Read, W: Write>(
     let options = SessionOptions {
         strict: false,
         newest: false,
+        store: 0,
     };
     let (left, ended, _) = run_session_as(rt, alloc, hub, names, options, None, reader, writer);
     (transcript_of(left), ended)
@@ -103,9 +106,10 @@ fn transcript_of<G: Naming>(left: Option<SessionLeft<G>>) -> Option<Transcript>
 /// the writer is flushed before a line is answered: one that fails there has nobody who would take the answer, and no more
 /// lines are answered.
 ///
-/// `hello` opens a seat of the hub, and `put`, `get` and `find` are answered by it. With `newest` each put first reads its keys
-/// (`Seat::put_newest`); the client is not sent that read. `keep` sets how many versions a collection of its tenant keeps. Before the seat is there these
-/// four are refused 11. A `hello` where the connection has a seat is refused 12, and changes nothing. A line that is none of a session's is
+/// `hello` opens a seat of the hub, of the client that it names, or of one whose number is free, which `ready` then names. `info` is
+/// answered by the number of the store and by whether puts are to be newest, with a seat or without. `put`, `get` and `find` are answered by
+/// the seat. With `newest` each put first reads its keys (`Seat::put_newest`), where no journal is cut; the client is not sent that read.
+/// `keep` sets how many versions a collection of its tenant keeps. Before the seat is there these four are refused 11. A `hello` where the connection has a seat is refused 12, and changes nothing. A line that is none of a session's is
 /// refused 40, and the session goes on; but where it is strict and has no seat, that ends it. `bye` ends it too, and so do a line that is
 /// too long (41), an input that ends within a line (42) and an allocation failure (30), but as the answer to `hello`. However it ends, its
 /// seat is ended, and that before the last of these answers is written.
@@ -475,10 +479,9 @@ impl<'s, G: Gate + Naming> Connection<'s, G> {
 
     // Answers a line that could not be read. Where it ends the session, it is still to be answered.
     fn answer_unread(&mut self, refusal: Refusal) -> Option<SessionEnd>
-        ensures terms { self.new.terms ≡ self.old.terms }
-        ensures seat { self.new.seat ≡ self.old.seat }
+        ensures kept { (self.new.terms ≡ self.old.terms) × (self.new.seat ≡ self.old.seat) }
         ensures answered { IfNone result (self.new.answer
-            ≡ Refused (refused_as self.old.seat refusal)) }
+            ≡ Answers (Refused (refused_as self.old.seat refusal))) }
         ensures goes_on { IfNone result (IsTrue self.old.terms.options.strict → self.old.seat ≡ None
             → refusal ≡ BadLine → ⊥) }
         ensures ends { IfSome result (λ ending. (ending ≡ Unread)
@@ -505,7 +508,7 @@ impl<'s, G: Gate + Naming> Connection<'s, G> {
 
     // Counts the answer, where answers are counted, and answers the receipt; none where it is neither a refusal nor a restart.
     fn count(&self) -> Option<Counted>
-        ensures { kind_of result ≡ if_counts self.now.terms.counts (counted_as self.now.answer) }
+        ensures { kind_of result ≡ if_counts self.now.terms.counts (counted_said self.now.answer) }
     {
         match self.terms.counts {
             Some(counts) => {
@@ -522,8 +525,8 @@ impl<'s, G: Gate + Naming> Connection<'s, G> {
     fn put_answer(&self, _counted: Option<Counted>, out: &mut BytesMut)
         requires space { LINE_LIMIT ≤ out.old.spare }
         requires counted { kind_of _counted
-            ≡ if_counts self.now.terms.counts (counted_as self.now.answer) }
-        ensures text { out.new.items ≡ out.old.items ++ answer_line self.now.answer }
+            ≡ if_counts self.now.terms.counts (counted_said self.now.answer) }
+        ensures text { out.new.items ≡ out.old.items ++ said_line self.now.answer }
         ensures room { length out.old.items + out.old.spare
             ≤ length out.new.items + out.new.spare }
     {
@@ -532,7 +535,8 @@ impl<'s, G: Gate + Naming> Connection<'s, G> {
 
     // An allocation failure ends the session, but as the answer to the `hello` that would have opened its seat.
     fn ends(&self) -> bool
-        ensures { IsTrue result ↔ (IsSome self.now.seat × (self.now.answer ≡ Refused OutOfMemory)) }
+        ensures { IsTrue result ↔ (IsSome self.now.seat
+            × (self.now.answer ≡ Answers (Refused OutOfMemory))) }
     {
         self.seat.is_some() && self.answer.is_want_of_memory()
     }
@@ -543,7 +547,7 @@ impl<'s, G: Gate + Naming> Connection<'s, G> {
         ensures tenant { IsSeated self.new.seat self.new.terms.names.now }
         ensures told { result ≡ true
             → Tells self.old.terms.options.newest hub.now.epoch self.old.seat self.new.seat
-            (answer_line self.new.answer) }
+            (said_line self.new.answer) }
         ensures bye { result ≡ false
             → Tells self.old.terms.options.newest hub.now.epoch self.old.seat self.new.seat [] }
         ensures answered { let terms = self.old.terms in
@@ -552,7 +556,11 @@ impl<'s, G: Gate + Naming> Connection<'s, G> {
         ensures said_bye { result ≡ false → request.now ≡ Bye }
         ensures left { result ≡ false → StaysBehind hub.now.epoch self.old.seat self.new.seat }
     {
-        let newest = self.terms.options.newest;
+        let SessionOptions { newest, store, .. } = self.terms.options;
+        if matches!(request, Request::Info) {
+            self.answer.inform(store, newest);
+            return true;
+        }
         if let Some(seat) = &mut self.seat {
             let is_answered = ask_seat(rt, hub, newest, seat, request, &mut self.answer);
             drain_seat(hub, seat);
@@ -567,7 +575,7 @@ impl<'s, G: Gate + Naming> Connection<'s, G> {
                 self.answer.refuse(Refusal::NoSession);
                 true
             }
-            Request::Bye => false,
+            Request::Info | Request::Bye => false,
         }
     }
 
@@ -579,37 +587,36 @@ impl<'s, G: Gate + Naming> Connection<'s, G> {
         rt: &H,
         hub: &'s Hub<G>,
         name: &Name,
-        client: Client,
+        client: Option<Client>,
         base: Counter,
     )
         requires { self.old.seat ≡ None }
         ensures terms { self.new.terms ≡ self.old.terms }
         ensures tenant { IsSeated self.new.seat self.new.terms.names.now }
         ensures told { Tells self.old.terms.options.newest hub.now.epoch None self.new.seat
-            (answer_line self.new.answer) }
-        ensures greeted { IsGreeted (length hub.now.limits) self.old.terms.names.now
+            (said_line self.new.answer) }
+        ensures greeted { IsGreeted hub.now.limits self.old.terms.names.now
             name.now client base self.new.answer self.new.seat }
     {
         let Some(tenant) = tenant_number(self.terms.names, name) else {
             self.answer.refuse(Refusal::NoTenant);
             return;
         };
-        self.greet(hub.seat(rt, tenant, client, base));
+        let (opened, told) = open_seat(rt, hub, tenant, client, base);
+        self.greet(opened, told);
     }
 
-    // Answers `ready` and the counter of a seat that was opened, which is the connection's from then on; or why none was.
-    fn greet(&mut self, opened: Result<Seat<'s, G>, Refusal>)
-        ensures terms { self.new.terms ≡ self.old.terms }
-        ensures ready { IfOk opened.entry (λ seat. (self.new.answer ≡ Ready seat.name.counter)
-            × (self.new.seat ≡ Some seat)) }
-        ensures refused { IfErr opened.entry (λ cause. (self.new.answer ≡ Refused cause)
-            × (self.new.seat ≡ self.old.seat)) }
+    // Answers `ready` and the counter of a seat that was opened, which is the connection's from then on, and this client, if one is to be
+    // told; or why none was opened.
+    fn greet(&mut self, opened: Result<Seat<'s, G>, Refusal>, told: Option<Client>)
+        ensures { (self.new.terms ≡ self.old.terms)
+            × Greets opened.entry told self.new.answer self.old.seat self.new.seat }
     {
         match opened {
             Ok(seat) => {
                 let counter = seat.counter();
                 self.seat = Some(seat);
-                self.answer.ready(counter);
+                self.answer.ready(counter, told);
             }
             Err(refusal) => self.answer.refuse(refusal),
         }

@@ -98,6 +98,7 @@ impl<L, G: Naming> Server<L, G> {
             options: SessionOptions {
                 strict: false,
                 newest: false,
+                store: 0,
             },
             answers,
             times,
@@ -109,7 +110,7 @@ impl<L, G: Naming> Server<L, G> {
         })
     }
 
-    /// The same server, whose sessions have these options. Else they have none: they are not strict, and no put reads first.
+    /// The same server, whose sessions have these options. Else they have none: they are not strict, no put reads first, and the store's number is 0.
     pub fn with_options(self, options: SessionOptions) -> Server<L, G>
         ensures listener { listener_of result ≡ listener_of self }
         ensures connections { (most_of result ≡ most_of self) × (stays_of result ≡ stays_of self) }

@@ -5,6 +5,8 @@
 pub struct SessionOptions {
     /// Whether a line that can't be read ends a session that has no seat yet.
     pub strict: bool,
-    /// Whether each put reads its keys first.
+    /// Whether each put is to be newest, as `info` says.
     pub newest: bool,
+    /// The number of the store, which differs from run to run, as `info` says.
+    pub store: u64,
 }

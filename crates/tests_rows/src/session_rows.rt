@@ -17,6 +17,9 @@ use workload::{Open, SessionLeft, SessionOptions, run_session_as, tell_verdicts}
 /// What is no longer than this is cut at each place.
 const SHORT: usize = 200;
 
+/// The number that a store of a row has.
+const STORE: u64 = 7;
+
 /// How what is typed comes.
 #[derive(Clone, Copy)]
 enum Way {
@@ -87,6 +90,7 @@ fn is_new_store_right<J: Naming + Send + Sync + Drop + 'static, H: Handles>(
     let manner = SessionOptions {
         strict: options.strict,
         newest: options.newest,
+        store: STORE,
     };
     let mut writer = Taken::new(alloc);
     let mut transcripts = Vec::new(alloc);

@@ -35,7 +35,7 @@ fn are_read(alloc: Global) -> Option<bool> {
     let is_call = call == Ok(Call::Get(key("x")?, Some(stamp(1)?)));
     let Step { tenant, act } = step.ok()?;
     let is_step = tenant == 0 && act == Act::Deliver(3);
-    Some(is_call && is_step && number_of_request(&request.ok()?) == 5)
+    Some(is_call && is_step && number_of_request(&request.ok()?) == 6)
 }
 
 fn number_of_request(request: &Request) -> u8 {
@@ -45,7 +45,8 @@ fn number_of_request(request: &Request) -> u8 {
         Request::Get(_) => 2,
         Request::Find(_) => 3,
         Request::Keep(_) => 4,
-        Request::Bye => 5,
+        Request::Info => 5,
+        Request::Bye => 6,
     }
 }
 

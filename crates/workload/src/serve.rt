@@ -117,22 +117,28 @@ fn bind_status<H: Net<Listener = TcpListener, Stream = TcpStream>>(
     }
 }
 
-// A server of these connections, counted or not as the options say, strict or not, and with puts that read first or not.
+// A server of these connections, counted or not as the options say, strict or not, with newest puts or not, and whose store has this
+// number.
 fn server_of<G: Naming>(
     alloc: Global,
     listener: Listener,
     options: ServerOptions,
+    store: u64,
 ) -> Result<Server<Listener, G>, AllocError>
     ensures listener { IfOk result (λ server. listener_of server ≡ listener) }
     ensures connections { IfOk result (λ server. (most_of server ≡ options.sessions)
         × (stays_of server ≡ options.stay)) }
-    ensures strict { IfOk result (λ server. (options_of server).strict ≡ options.strict) }
-    ensures newest { IfOk result (λ server. (options_of server).newest ≡ options.newest) }
+    ensures options { IfOk result (λ server. options_of server
+        ≡ record { strict = options.strict; newest = options.newest; store = store }) }
 {
     let strict = options.strict;
     let newest = options.newest;
     let server = plain_server_of(alloc, listener, options)?;
-    Ok(server.with_options(SessionOptions { strict, newest }))
+    Ok(server.with_options(SessionOptions {
+        strict,
+        newest,
+        store,
+    }))
 }
 
 // The same server, whose sessions have no options.
@@ -173,7 +179,7 @@ fn serve_and_settle<
         (W.contents writer.old) (W.contents writer.new) result }
 {
     let Ports { listener, status } = ports;
-    let server = server_of(alloc, listener, options)?;
+    let server = server_of(alloc, listener, options, store_number(rt))?;
     let hub = open_hub::<J, (), H>(rt, alloc, store, ())?;
     let reporting = Reporting {
         port: status.as_ref(),
@@ -214,7 +220,7 @@ fn serve_and_check<
         (W.contents writer.old) (W.contents writer.new) result }
 {
     let Ports { listener, status } = ports;
-    let server = server_of(alloc, listener, options)?;
+    let server = server_of(alloc, listener, options, store_number(rt))?;
     let (hub, checking) = open_checked::<J, H>(rt, alloc, store)?;
     let reporting = Reporting {
         port: status.as_ref(),
@@ -255,7 +261,7 @@ fn serve_unrecorded<
         (W.contents writer.old) (W.contents writer.new) result }
 {
     let Ports { listener, status } = ports;
-    let server = server_of(alloc, listener, options)?;
+    let server = server_of(alloc, listener, options, store_number(rt))?;
     let hub = open_hub::<J, (), H>(rt, alloc, store, ())?;
     let reporting = Reporting {
         port: status.as_ref(),
@@ -392,6 +398,18 @@ fn serve_all<J: Naming + Send + Sync, H: Threads + Wait + Clock + Sync, R: Read,
     };
     serve_and_report(rt, alloc, &watched, port, reader);
     Ok(())
+}
+
+// The number by which clients tell the store of a server from that of another run: the microseconds since 1970 at its start, or 0 where
+// the clock can't be read.
+fn store_number<H: Clock>(rt: &H) -> u64 {
+    let Ok(now) = SystemTime::now(rt) else {
+        return 0;
+    };
+    match now.duration_since(UNIX_EPOCH) {
+        Ok(since) => u64::try_from(since.as_micros()).unwrap_or(0),
+        Err(_) => 0,
+    }
 }
 
 // The seconds since 1970, or 0 where the clock can't be read.

@@ -1,6 +1,6 @@
 use Rattle.std.proofs.Common.{[], rules}
 use Rattle.line_runs.proofs.Gathering.{Gathers-none}
-use Rattle.line_protocol.specs.AnswerSpelling.{answer_line}
+use Rattle.server_sessions.specs.Said.{said_line}
 use Rattle.server_sessions.specs.Telling.{BreaksTelling}
 use Rattle.line_runs.proofs.Faults.{at_any}
 use Rattle.line_protocol.specs.Stream.{IsLine, terminated}
@@ -14,7 +14,7 @@ returns-then-ends-clause-keeps g c = record {
   ready = search rules;
   tenant = search rules;
   told =
-      told_line c.args.connection.now.terms.options.newest c.args.hub.now.epoch (g.W.Write.contents c.args.writer.now) (g.W.Write.contents c.make_room.new.writer) c.args.out.now.items c.put_answer.new.out.items c.make_room.new.out.items (answer_line c.answer.new.self.answer)
+      told_line c.args.connection.now.terms.options.newest c.args.hub.now.epoch (g.W.Write.contents c.args.writer.now) (g.W.Write.contents c.make_room.new.writer) c.args.out.now.items c.put_answer.new.out.items c.make_room.new.out.items (said_line c.answer.new.self.answer)
       c.args.connection.now.seat c.answer.new.self.seat c.put_answer.ensures.text c.in_default.ensures.answered.told c.in_ok-make_room.ensures.gathered;
   begun = search rules;
 }
@@ -24,7 +24,7 @@ returns-else-ends-clause-keeps g c = record {
   ready = search rules;
   tenant = search rules;
   told =
-      told_line c.args.connection.now.terms.options.newest c.args.hub.now.epoch (g.W.Write.contents c.args.writer.now) (g.W.Write.contents c.make_room.new.writer) c.args.out.now.items c.put_answer.new.out.items c.make_room.new.out.items (answer_line c.answer.new.self.answer)
+      told_line c.args.connection.now.terms.options.newest c.args.hub.now.epoch (g.W.Write.contents c.args.writer.now) (g.W.Write.contents c.make_room.new.writer) c.args.out.now.items c.put_answer.new.out.items c.make_room.new.out.items (said_line c.answer.new.self.answer)
       c.args.connection.now.seat c.answer.new.self.seat c.put_answer.ensures.text c.in_default.ensures.answered.told c.in_ok-make_room.ensures.gathered;
   begun = search rules;
 }
@@ -41,7 +41,7 @@ returns-in_err-make_room-clause-keeps g c = record {
       let new = g.W.Write.contents c.make_room.new.writer in
       let begun = c.in_err-make_room.ensures.begun in
       at_any c.from_residual.result (λ fault. BreaksTelling c.args.connection.now.terms.options.newest c.args.hub.now.epoch first last old new c.args.out.now.items)
-      (λ fault. breaks_line c.args.connection.now.terms.options.newest c.args.hub.now.epoch old new c.args.out.now.items c.put_answer.new.out.items (answer_line c.answer.new.self.answer) first last begun.1 c.put_answer.ensures.text c.in_default.ensures.answered.told begun.2);
+      (λ fault. breaks_line c.args.connection.now.terms.options.newest c.args.hub.now.epoch old new c.args.out.now.items c.put_answer.new.out.items (said_line c.answer.new.self.answer) first last begun.1 c.put_answer.ensures.text c.in_default.ensures.answered.told begun.2);
 }
 
 -- nothing is reported
@@ -59,7 +59,7 @@ returns-then-ends-clause-answered g c = λ is.
     let answer = c.answer.new.self.answer in
     ends_without_memory c.args.connection.now.terms.options c.args.hub.now c.args.connection.now.terms.names.now c.args.connection.now.seat c.answer.new.self.seat c.args.line.now answer c.ends-ends.result (g.W.Write.contents c.args.writer.now) (g.W.Write.contents c.make_room.new.writer)
     c.args.out.now.items c.make_room.new.out.items c.if-ends.true is c.in_default.ensures.answered.line c.in_default.ensures.answered.goes_on c.ends-ends.ensures
-    (gathers_line (g.W.Write.contents c.args.writer.now) (g.W.Write.contents c.make_room.new.writer) c.args.out.now.items c.put_answer.new.out.items c.make_room.new.out.items (answer_line answer)
+    (gathers_line (g.W.Write.contents c.args.writer.now) (g.W.Write.contents c.make_room.new.writer) c.args.out.now.items c.put_answer.new.out.items c.make_room.new.out.items (said_line answer)
     c.put_answer.ensures.text c.in_ok-make_room.ensures.gathered)
 
 pub returns-else-ends-clause-answered : goal.returns-else-ends-clause-answered
@@ -67,7 +67,7 @@ returns-else-ends-clause-answered g c = λ is.
     let answer = c.answer.new.self.answer in
     goes_on c.args.connection.now.terms.options c.args.hub.now c.args.connection.now.terms.names.now c.args.connection.now.seat c.answer.new.self.seat c.args.line.now answer c.ends-ends.result (g.W.Write.contents c.args.writer.now) (g.W.Write.contents c.make_room.new.writer)
     c.args.out.now.items c.make_room.new.out.items c.if-ends.false is c.in_default.ensures.answered.line c.in_default.ensures.answered.goes_on c.ends-ends.ensures
-    (gathers_line (g.W.Write.contents c.args.writer.now) (g.W.Write.contents c.make_room.new.writer) c.args.out.now.items c.put_answer.new.out.items c.make_room.new.out.items (answer_line answer)
+    (gathers_line (g.W.Write.contents c.args.writer.now) (g.W.Write.contents c.make_room.new.writer) c.args.out.now.items c.put_answer.new.out.items c.make_room.new.out.items (said_line answer)
     c.put_answer.ensures.text c.in_ok-make_room.ensures.gathered)
 
 pub returns-in-Some-clause-answered : goal.returns-in-Some-clause-answered

@@ -13,8 +13,8 @@ returns-clause-answered g c =
     let last = c.answer_unread.new.self.seat in
     let answer = c.answer_unread.new.self.answer in
     unread_line r options hub names c.args.line.now first answer last
-    (unread_told r options.newest hub.epoch first last answer (refused_as first refusal) c.answer_unread.ensures.seat c.answer_unread.ensures.answered)
-    (unread_answered r options hub names c.args.line.now refusal first last answer c.in-Err.ensures.error c.answer_unread.ensures.seat c.answer_unread.ensures.answered)
+    (unread_told r options.newest hub.epoch first last answer (refused_as first refusal) c.answer_unread.ensures.kept.1 c.answer_unread.ensures.answered)
+    (unread_answered r options hub names c.args.line.now refusal first last answer c.in-Err.ensures.error c.answer_unread.ensures.kept.1 c.answer_unread.ensures.answered)
     (unread_goes_on r options first c.args.line.now refusal c.in-Err.ensures.bad_line c.answer_unread.ensures.goes_on)
 
 pub returns-clause-ended : goal.returns-clause-ended
@@ -25,6 +25,6 @@ returns-clause-ended g c =
     let first = c.args.self.now.seat in
     let last = c.answer_unread.new.self.seat in
     unread_at r options hub c.args.line.now first last
-    (unread_untold r options.newest hub.epoch first last c.answer_unread.ensures.seat)
+    (unread_untold r options.newest hub.epoch first last c.answer_unread.ensures.kept.1)
     (unread_ends r options first c.args.line.now c.in-Err.refusal c.in-Err.ensures.error c.answer_unread.ensures.ends)
-    (unread_left r hub.epoch first last c.answer_unread.ensures.seat)
+    (unread_left r hub.epoch first last c.answer_unread.ensures.kept.1)

@@ -12,16 +12,10 @@ returns-in_default-clause-greeted g c = rw c.requires (NoTenant, c.refuse.ensure
 
 pub returns-clause-tenant : goal.returns-clause-tenant
 returns-clause-tenant g c =
-    rw c.greet.ensures.terms (greeting_seated _ c.in-Some.tenant _ _ _ _ c.args.name.now c.seat.result _ _ _ c.in-Some.ensures.some c.requires
-    (record { fresh = c.seat.ensures.fresh; name = c.seat.ensures.name; no_tenant = c.seat.ensures.no_tenant; refusals = c.seat.ensures.refusals })
-    (record { ready = c.greet.ensures.ready; refused = c.greet.ensures.refused }))
+    rw c.greet.ensures.0 (greeting_seated _ c.in-Some.tenant _ _ _ c.args.name.now c.open_seat-opened.result.0 c.open_seat-opened.result.1 _ _ _ c.in-Some.ensures.some c.requires c.open_seat-opened.ensures c.greet.ensures.1)
 
 pub returns-clause-told : goal.returns-clause-told
-returns-clause-told g c = greeting_told c.args.self.now.terms.options.newest c.args.hub.now.epoch _ _ _ _ _ c.seat.result _ _ _ c.requires
-    (record { fresh = c.seat.ensures.fresh; name = c.seat.ensures.name; no_tenant = c.seat.ensures.no_tenant; refusals = c.seat.ensures.refusals })
-    (record { ready = c.greet.ensures.ready; refused = c.greet.ensures.refused })
+returns-clause-told g c = greeting_told c.args.self.now.terms.options.newest c.args.hub.now.epoch _ _ _ _ c.open_seat-opened.result.0 c.open_seat-opened.result.1 _ _ _ c.requires c.open_seat-opened.ensures c.greet.ensures.1
 
 pub returns-clause-greeted : goal.returns-clause-greeted
-returns-clause-greeted g c = greeted _ c.in-Some.tenant _ _ _ _ c.args.name.now c.seat.result _ _ _ c.in-Some.ensures.some c.requires
-    (record { fresh = c.seat.ensures.fresh; name = c.seat.ensures.name; no_tenant = c.seat.ensures.no_tenant; refusals = c.seat.ensures.refusals })
-    (record { ready = c.greet.ensures.ready; refused = c.greet.ensures.refused })
+returns-clause-greeted g c = greeted _ c.in-Some.tenant _ _ _ c.args.name.now c.open_seat-opened.result.0 c.open_seat-opened.result.1 _ _ _ c.in-Some.ensures.some c.requires c.open_seat-opened.ensures c.greet.ensures.1
