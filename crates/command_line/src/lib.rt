@@ -14,5 +14,5 @@ mod server_options;
 pub use line_protocol::VERSION;
 pub use load_options::LoadOptions;
 pub use options::{Asked, StoreOptions};
-pub use parsed_words::{help_is_asked_for, read_words, version_is_asked_for};
+pub use parsed_words::{explain, help_is_asked_for, read_words, version_is_asked_for};
 pub use server_options::ServerOptions;

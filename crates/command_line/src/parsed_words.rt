@@ -9,6 +9,7 @@ use crate::options::{Asked, read_matches};
 use clap::error::ErrorKind;
 use line_runs::ProgramFault;
 use std::alloc::Global;
+use std::io::Write;
 
 /// A law: these words ask for help, and for nothing else.
 pub fn help_is_asked_for()
@@ -35,6 +36,24 @@ pub fn read_words(alloc: Global, words: &[String]) -> Result<Asked, ProgramFault
         Ok(matches) => read_matches(alloc, &matches),
         Err(error) => Ok(Asked::Text(text_of(alloc, &error)?)),
     }
+}
+
+// What clap does not look at.
+const RULES: &str =
+    "error: wrong tenants, or options that exclude each other: there are 1 to 64 tenants, none named twice, each name 1 to 16 bytes of
+a-z, 0-9 and _; ramp load has no more --seats than --clients; and --unrecorded excludes an --epoch above 0
+";
+
+/// Writes what is wrong with words that ask for nothing. A write that fails changes nothing, and nothing is written where an
+/// allocation fails.
+pub fn explain<E: Write>(alloc: Global, words: &[String], errors: &mut E) {
+    let Ok(command) = command(alloc) else {
+        return;
+    };
+    let _ = match command.try_get_matches_from(words) {
+        Ok(_) => errors.write_all(RULES.as_bytes()),
+        Err(error) => write!(errors, "{error}"),
+    };
 }
 
 // Help is an answer, and so is the version, and any other text of clap's is not.

@@ -37,11 +37,20 @@ fn ends_so(rt: &impl Print, row: &Row<'_>, status: u8, errors: &[u8]) -> io::Res
         println!(rt; "{}: an error that is no text", row.name)?;
         return Ok(false);
     };
-    let is_so = status == row.status && error.strip_suffix("\n").unwrap_or("") == row.error;
+    let is_so = status == row.status && is_told(error.strip_suffix("\n").unwrap_or(""), row.error);
     if !is_so {
         println!(rt; "{}: status {status}, error {error:?}", row.name)?;
     }
     Ok(is_so)
+}
+
+// Whether the error is what the row says. What is wrong with words stands before that.
+fn is_told(error: &str, told: &str) -> bool {
+    match error.strip_suffix(told) {
+        Some("") => true,
+        Some(before) => told == "ramp: Options" && before.ends_with('\n'),
+        None => false,
+    }
 }
 
 fn holds_all(rt: &impl Print, row: &Row<'_>, output: &[u8]) -> io::Result<bool> {

@@ -11,7 +11,7 @@ ghost use Rattle.hub.specs.Hubs.{config_view};
 
 use crate::load::run_load;
 use crate::serve::run_server;
-use command_line::{Asked, LoadOptions, ServerOptions, StoreOptions, read_words};
+use command_line::{Asked, LoadOptions, ServerOptions, StoreOptions, explain, read_words};
 use hub::Config;
 use line_protocol::Name;
 use line_runs::{End, ProgramFault, run_cell, run_sim, write_text};
@@ -40,7 +40,7 @@ use std::time::Clock;
 ///
 /// The range and the default of each option stand in its row of `command_line/src/options.rt`, and in the help.
 ///
-/// The result is the exit status: 0, or that of a fault of which `errors` got one line. A write to
+/// The result is the exit status: 0, or that of a fault of which `errors` got one line. Wrong words are explained before it. A write to
 /// `errors` that fails changes nothing.
 pub fn run_words<
     H: Threads
@@ -71,6 +71,10 @@ pub fn run_words<
 {
     match run_program(rt, alloc, words, reader, writer) {
         Ok(()) => 0,
+        Err(ProgramFault::Options) => {
+            explain(alloc, words, errors);
+            ProgramFault::Options.report(errors)
+        }
         Err(fault) => fault.report(errors),
     }
 }
