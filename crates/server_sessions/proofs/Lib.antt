@@ -5,3 +5,4 @@ mod Unread
 pub mod Freed
 pub mod KeptGiven
 pub mod Greeting
+pub mod Received

@@ -13,3 +13,4 @@ pub mod Peers
 pub mod LineTiming
 pub mod Passing
 pub mod Promised
+pub mod Receipts

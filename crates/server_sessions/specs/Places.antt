@@ -6,6 +6,7 @@ use Rattle.closed_store.specs.declared.transcript.Transcript.{Transcript}
 use Rattle.history.specs.declared.rule.Naming.{Ghosts}
 use Rattle.server_sessions.specs.declared.served.Left.{Left}
 use Rattle.server_sessions.specs.declared.served.ServedConnections.{ServedConnections}
+use Rattle.server_sessions.specs.declared.session_options.SessionOptions.{SessionOptions}
 
 -- each place has a connection
 abbrev pub AreTaken : {X : Type 0} → List (Option X) → Type 0
@@ -50,8 +51,11 @@ pub record ServesNone {G : Type 0} {naming : Ghosts G} (count : ℕ) (more : Opt
   pub transcripts : served.kept.transcripts ≡ before
   pub well : (served.has_failed ≡ false) × (served.has_refused ≡ false) × (served.has_lost ≡ false)
 
--- what a server left whose connections were these
-pub record IsLeftOf {G : Type 0} {naming : Ghosts G} (served : ServedConnections G naming) (left : Left G naming) : Type 0 where
+-- what a server left whose connections were these, and whose sessions were answered by these names and with these options
+pub record IsLeftOf {G N : Type 0} {naming : Ghosts G} (tenants : N) (options : SessionOptions)
+    (served : ServedConnections G naming) (left : Left G N naming) : Type 0 where
+  pub names : left.tenants ≡ tenants
+  pub manner : left.options ≡ options
   pub transcripts : left.kept.transcripts ≡ served.kept.transcripts
   pub failed : left.has_failed ≡ served.has_failed
   pub refused : left.has_refused ≡ served.has_refused

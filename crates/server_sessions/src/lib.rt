@@ -28,10 +28,11 @@ mod serving;
 mod session_count;
 mod session_options;
 mod tenant_counts;
+mod tenants;
 
 pub use answer_counts::AnswerCounts;
 pub use kept_transcripts::KeptTranscripts;
-pub use line_session::{SessionLeft, run_session, run_session_as};
+pub use line_session::{SessionLeft, SessionRun, run_session, run_session_as};
 pub use line_times::LineTimes;
 pub use listener::{Accept, Listener};
 pub use served::{Connections, Left};
@@ -39,3 +40,4 @@ pub use server::Server;
 pub use serving::{Open, OpenHub, OpenSeat, serve_connections};
 pub use session_options::SessionOptions;
 pub use tenant_counts::{ServedCounts, TenantCount};
+pub use tenants::Tenants;

@@ -15,6 +15,7 @@ ghost use Rattle.server_sessions.specs.declared.line_session.SessionEnd.TheVaria
 ghost use Rattle.server_sessions.specs.Answering.{Greets, IsAnsweredBy, IsEndOfInput, IsGreeted, last_line, no_options, refused_as};
 ghost use Rattle.server_sessions.specs.Counting.{counted_last, counted_said, if_counts, kind_of};
 ghost use Rattle.server_sessions.specs.Promised.{AnswersLine, EndsAtLine, HasRun, KeepsTelling, MayAnswer};
+ghost use Rattle.server_sessions.specs.Receipts.{IsRunBy, kept_of};
 ghost use Rattle.server_sessions.specs.SeatAnswers.{IsDrained};
 ghost use Rattle.server_sessions.specs.Telling.{IsLastLine, IsSeated, SessionLeft as LeftBehind, Tells};
 
@@ -43,6 +44,35 @@ struct Terms<'s> {
     names: &'s [Name],
     options: SessionOptions,
     counts: Option<&'s AnswerCounts>,
+}
+
+/// The receipt of a session that was run, and what it left: by which store its lines were answered, and on which terms. `run_session_as`
+/// alone makes one.
+#[derive(Drop)]
+pub struct SessionRun<'s, G: Naming> {
+    hub: &'s Hub<G>,
+    terms: Terms<'s>,
+    left: Option<SessionLeft<G>>,
+}
+
+impl<G: Naming> SessionRun<'_, G> {
+    /// What it left, if it opened a seat.
+    pub fn into_left(self) -> Option<SessionLeft<G>>
+        ensures { result ≡ self.entry.left }
+    {
+        self.left
+    }
+
+    /// What is kept of it: nothing where journals are cut, since nothing is settled at the end.
+    pub(crate) fn into_kept(self) -> Option<SessionLeft<G>>
+        ensures { result ≡ kept_of self.entry.hub.now.epoch self.entry.left }
+    {
+        if self.hub.epoch() == 0 {
+            self.left
+        } else {
+            None
+        }
+    }
 }
 
 /// What answers the lines of one connection.
@@ -87,8 +117,8 @@ pub fn run_session<'s, G: Gate + Naming, H: Wait, R: Read, W: Write>(
         newest: false,
         store: 0,
     };
-    let (left, ended, _) = run_session_as(rt, alloc, hub, names, options, None, reader, writer);
-    (transcript_of(left), ended)
+    let (run, ended) = run_session_as(rt, alloc, hub, names, options, None, reader, writer);
+    (transcript_of(run.into_left()), ended)
 }
 
 // The transcript of a session's seat, if it opened one.
@@ -116,9 +146,9 @@ fn transcript_of<G: Naming>(left: Option<SessionLeft<G>>) -> Option<Transcript>
 ///
 /// Where counts are given, each answer is counted there before it is written.
 ///
-/// Beside what the session came to stands the transcript of its seat with what that has seen of the store's history, and `None`
-/// where none was opened; and behind both, where its answers were counted. What was written is what the seat answered: each
-/// reply that it took has its place in that history, whether journals are cut or not. The fault is
+/// Beside what the session came to stands its receipt: the store, the names, the options and the counts that were given; with the transcript
+/// of its seat and what that has seen of the store's history, or nothing where none was opened. What was written is what the seat
+/// answered: each reply that it took has its place in that history, whether journals are cut or not. The fault is
 /// `Read` where a read failed, `ReadsUsed` after 2^62 reads, and `Write` where a write or a flush failed or a write took no
 /// byte: nothing is read or written then, and no line is answered. `OutOfMemory` comes before anything is read.
 pub fn run_session_as<'s, G: Gate + Naming, H: Wait, R: Read, W: Write>(
@@ -130,38 +160,36 @@ pub fn run_session_as<'s, G: Gate + Naming, H: Wait, R: Read, W: Write>(
     counts: Option<&'s AnswerCounts>,
     reader: &mut R,
     writer: &mut W,
-) -> (
-    Option<SessionLeft<G>>,
-    Result<(), RunFault>,
-    Option<&'s AnswerCounts>,
-)
+) -> (SessionRun<'s, G>, Result<(), RunFault>)
     ensures run { HasRun options hub.now names.now (R.remaining reader.old)
-        (W.contents writer.old) (W.contents writer.new) result.0 result.1 }
-    ensures counts { result.2 ≡ counts.entry }
+        (W.contents writer.old) (W.contents writer.new) result.0.left result.1 }
+    ensures receipt { IsRunBy hub.now names.now options counts.entry result.0 }
 {
+    let terms = Terms {
+        names,
+        options,
+        counts,
+    };
     let Ok(mut out) = BytesMut::with_capacity(alloc, GATHERED) else {
-        return (None, Err(RunFault::OutOfMemory), counts);
+        let left = None;
+        return (SessionRun { hub, terms, left }, Err(RunFault::OutOfMemory));
     };
     let mut connection = Connection {
         alloc,
-        terms: Terms {
-            names,
-            options,
-            counts,
-        },
+        terms,
         seat: None,
         answer: Given::new(),
     };
     let ended = answer_lines(rt, hub, &mut connection, &mut out, reader, writer);
-    let counts = connection.terms.counts;
-    let left = end_seat(rt, connection.seat, counts);
+    let terms = connection.terms;
+    let left = end_seat(rt, connection.seat, terms.counts);
     match ended {
         Ok(ending) => {
-            let counted = count_last(ending, counts);
-            let ended = finish(ending, counts, counted, &mut out, writer);
-            (left, ended, counts)
+            let counted = count_last(ending, terms.counts);
+            let ended = finish(ending, terms.counts, counted, &mut out, writer);
+            (SessionRun { hub, terms, left }, ended)
         }
-        Err(fault) => (left, Err(fault), counts),
+        Err(fault) => (SessionRun { hub, terms, left }, Err(fault)),
     }
 }
 

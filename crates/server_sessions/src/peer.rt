@@ -1,8 +1,8 @@
 //! The other side of a connection, as a session reads it and writes to it.
-ghost use Rattle.std.specs.Prelude.{◌≡◌, ◌==◌, ◌-◌, ◌↔◌, None, IfSome, OnOk, IsTrue};
+ghost use Rattle.std.specs.Prelude.{◌≡◌, ◌==◌, ◌-◌, ◌↔◌, MatchOption, OnOk, IsTrue};
 ghost use Rattle.std.specs.Io.{ReadsAtMost, WritesAtMost};
 ghost use Rattle.std.specs.Io.KnownBytes.{Keeps, ReadConsumes, WriteAppends};
-ghost use Rattle.server_sessions.specs.Peers.{flushes_left};
+ghost use Rattle.server_sessions.specs.Peers.{HasRead, flushes_left};
 
 use crate::line_times::LineClock;
 use crate::session_count::SessionCount;
@@ -24,12 +24,38 @@ const MUCH: usize = 256;
 /// How many reads pass over what a peer sent that is not read: of 4 KiB each, they are more than a connection holds.
 const PASSED: u32 = 2048;
 
-/// The peer of a connection. A read fails once sessions are to end: no line is cut by that, and none is answered so. A flush fails
-/// once the peer is known to be gone, or is waited for no longer. A look is a call of the system, so not each flush takes one: the first one behind
-/// a write does, and then one of 16.
+/// What a peer's bytes come from and go to, beside its reads and writes.
+pub(crate) trait PeerStream {
+    /// Whether reads wait for bytes from now on.
+    fn set_waits(&self, waits: bool) -> io::Result<()>;
+
+    /// The error that it met since it was asked last, if any.
+    fn met_error(&self) -> io::Result<Option<io::Error>>;
+
+    /// Sends the end: nothing is written any more.
+    fn send_end(&self) -> io::Result<()>;
+}
+
+impl PeerStream for &TcpStream {
+    fn set_waits(&self, waits: bool) -> io::Result<()> {
+        self.set_nonblocking(!waits)
+    }
+
+    fn met_error(&self) -> io::Result<Option<io::Error>> {
+        self.take_error()
+    }
+
+    fn send_end(&self) -> io::Result<()> {
+        self.shutdown(Shutdown::Write)
+    }
+}
+
+/// The peer of a connection: what is read is what its stream gave, and what is written is handed to its stream, byte by byte. A read fails
+/// once sessions are to end: no line is cut by that, and none is answered so. A flush fails once the peer is known to be gone, or is waited
+/// for no longer. A look is a call of the system, so not each flush takes one: the first one behind a write does, and then one of 16.
 #[derive(Drop)]
-pub(crate) struct Peer<'s, H> {
-    pub(crate) stream: &'s TcpStream,
+pub(crate) struct Peer<'s, S, H> {
+    pub(crate) stream: S,
     /// Whether nothing more is read.
     pub(crate) is_last: &'s AtomicBool,
     /// Whether no more lines are answered.
@@ -42,11 +68,12 @@ pub(crate) struct Peer<'s, H> {
     pub(crate) clock: &'s LineClock<'s, H>,
 }
 
-impl<H: Clock> Peer<'_, H> {
+impl<S, H> Peer<'_, S, H> {
     /// Whether this flush takes a look.
     fn is_look(&mut self) -> bool
         ensures look { IsTrue result ↔ (self.old.unlooked ≡ 0) }
         ensures next { self.new.unlooked ≡ flushes_left self.old.unlooked }
+        ensures stream { self.new.stream ≡ self.old.stream }
     {
         if self.unlooked > 0 {
             self.unlooked -= 1;
@@ -55,36 +82,16 @@ impl<H: Clock> Peer<'_, H> {
         self.unlooked = FLUSHES_A_LOOK - 1;
         true
     }
+}
 
-    /// Takes what comes. It looks for a while before it sleeps, where there are few sessions. Where much came at once, others run
-    /// first: its own turn then begins anew, and does not end while it holds a partition that they would wait for.
-    fn receive(&self, buf: &mut [u8]) -> io::Result<usize>
-        ensures bound { ReadsAtMost result buf.new }
-        ensures bytes { ReadConsumes None None result buf.new }
-    {
-        if self.count.are_few()
-            && let Some(taken) = look(self.stream, buf)
-        {
-            self.clock.came();
-            return taken;
-        }
-        let mut stream = self.stream;
-        let taken = stream.read(buf)?;
-        self.clock.came();
-        if taken >= MUCH {
-            thread::yield_now();
-        }
-        Ok(taken)
-    }
-
+impl<S: PeerStream + Read, H> Peer<'_, S, H> {
     /// Parts from a peer whose connection is shut down for reads: it is sent the end, and what it sent is passed over. A close
     /// behind unread bytes would reset the connection, and its last answers might be lost.
-    pub(crate) fn part(&self) {
-        let mut stream = self.stream;
-        let _ = stream.shutdown(Shutdown::Write);
+    pub(crate) fn part(&mut self) {
+        let _ = self.stream.send_end();
         let mut piece = [0; 4096];
         for _ in 0..PASSED {
-            match stream.read(&mut piece) {
+            match self.stream.read(&mut piece) {
                 Ok(taken) if taken > 0 => {}
                 _ => return,
             }
@@ -92,27 +99,79 @@ impl<H: Clock> Peer<'_, H> {
     }
 }
 
-/// What came within some looks, if anything did. Reads of the stream wait again when it returns; where that can't be set, the read fails.
-fn look(stream: &TcpStream, buf: &mut [u8]) -> Option<io::Result<usize>>
-    ensures bound { IfSome result (λ taken. ReadsAtMost taken buf.new) }
-    ensures bytes { IfSome result (λ taken. ReadConsumes None None taken buf.new) }
+/// Takes what comes. It looks for a while before it sleeps, where there are few sessions.
+fn receive<S: PeerStream + Read, H: Clock>(
+    stream: &mut S,
+    count: &SessionCount,
+    clock: &LineClock<'_, H>,
+    buf: &mut [u8],
+) -> io::Result<usize>
+    ensures { HasRead (S.remaining stream.old) (S.remaining stream.new) buf.new result }
 {
-    if stream.set_nonblocking(true).is_err() {
+    if count.are_few() {
+        return look_and_wait(stream, clock, buf);
+    }
+    wait(stream, clock, buf)
+}
+
+/// Takes what comes within some looks, or else waits for it.
+fn look_and_wait<S: PeerStream + Read, H: Clock>(
+    stream: &mut S,
+    clock: &LineClock<'_, H>,
+    buf: &mut [u8],
+) -> io::Result<usize>
+    ensures { HasRead (S.remaining stream.old) (S.remaining stream.new) buf.new result }
+{
+    match look(stream, buf) {
+        Some(taken) => {
+            clock.came();
+            taken
+        }
+        None => wait(stream, clock, buf),
+    }
+}
+
+/// Waits for what comes. Where much came at once, others run first: its own turn then begins anew, and does not end while it holds a
+/// partition that they would wait for.
+fn wait<S: Read, H: Clock>(
+    stream: &mut S,
+    clock: &LineClock<'_, H>,
+    buf: &mut [u8],
+) -> io::Result<usize>
+    ensures { HasRead (S.remaining stream.old) (S.remaining stream.new) buf.new result }
+{
+    let taken = stream.read(buf);
+    clock.came();
+    if matches!(&taken, Ok(count) if *count >= MUCH) {
+        thread::yield_now();
+    }
+    taken
+}
+
+/// What came within some looks, if anything did. Reads of the stream wait again when it returns. Where that can't be set, what came is
+/// given all the same; where nothing did, the read fails.
+fn look<S: PeerStream + Read>(stream: &mut S, buf: &mut [u8]) -> Option<io::Result<usize>>
+    ensures { MatchOption result (Keeps (S.remaining stream.old) (S.remaining stream.new))
+        (HasRead (S.remaining stream.old) (S.remaining stream.new) buf.new) }
+{
+    if stream.set_waits(false).is_err() {
         return None;
     }
     let taken = look_often(stream, buf);
-    match stream.set_nonblocking(false) {
+    match stream.set_waits(true) {
         Ok(()) => taken,
-        Err(error) => Some(Err(error)),
+        Err(error) => match taken {
+            Some(taken) => Some(taken),
+            None => Some(Err(error)),
+        },
     }
 }
 
 /// What the first read took that did not find the stream empty, of some reads that do not wait; a failure too.
-fn look_often(stream: &TcpStream, buf: &mut [u8]) -> Option<io::Result<usize>>
-    ensures bound { IfSome result (λ taken. ReadsAtMost taken buf.new) }
-    ensures bytes { IfSome result (λ taken. ReadConsumes None None taken buf.new) }
+fn look_often<S: Read>(stream: &mut S, buf: &mut [u8]) -> Option<io::Result<usize>>
+    ensures { MatchOption result (Keeps (S.remaining stream.old) (S.remaining stream.new))
+        (HasRead (S.remaining stream.old) (S.remaining stream.new) buf.new) }
 {
-    let mut stream = stream;
     for _look in 0..LOOKS {
         match stream.read(buf) {
             Err(error) if error.kind() == ErrorKind::WouldBlock => {}
@@ -122,40 +181,47 @@ fn look_often(stream: &TcpStream, buf: &mut [u8]) -> Option<io::Result<usize>>
     None
 }
 
-impl<H: Clock> Read for Peer<'_, H> {
+impl<S: PeerStream + Read, H: Clock> Read for Peer<'_, S, H> {
+    ghost remaining = { λ p. S.remaining p.stream };
+
     fn read(&mut self, buf: &mut [u8]) -> io::Result<usize>
         ensures bound { ReadsAtMost result buf.new }
-        ensures bytes { ReadConsumes None None result buf.new }
+        ensures bytes { ReadConsumes (S.remaining self.old.stream) (S.remaining self.new.stream)
+            result buf.new }
         // A read changes nothing of when the next look is.
         ensures looks { self.new.unlooked ≡ self.old.unlooked }
     {
-        if !self.is_last.load(Ordering::SeqCst) {
-            let taken = self.receive(buf)?;
-            // One that waits when sessions are to end takes nothing: the connection is shut down.
-            if taken > 0 || !self.is_last.load(Ordering::SeqCst) {
-                return Ok(taken);
-            }
+        if self.is_last.load(Ordering::SeqCst) {
+            return Err(io::Error::from(ErrorKind::ConnectionAborted));
         }
-        Err(io::Error::from(io::ErrorKind::ConnectionAborted))
+        match receive(&mut self.stream, self.count, self.clock, buf) {
+            // One that waits when sessions are to end takes nothing: the connection is shut down.
+            Ok(0) if self.is_last.load(Ordering::SeqCst) => {
+                Err(io::Error::from(ErrorKind::ConnectionAborted))
+            }
+            taken => taken,
+        }
     }
 }
 
-impl<H: Clock> Write for Peer<'_, H> {
+impl<S: PeerStream + Write, H: Clock> Write for Peer<'_, S, H> {
+    ghost contents = { λ p. S.contents p.stream };
+
     fn write(&mut self, buf: &[u8]) -> io::Result<usize>
         ensures bound { WritesAtMost result buf.now }
-        ensures bytes { WriteAppends None None result buf.now }
+        ensures bytes { WriteAppends (S.contents self.old.stream) (S.contents self.new.stream)
+            result buf.now }
         // The first flush behind it takes a look.
         ensures looks { self.new.unlooked ≡ 0 }
     {
         self.unlooked = 0;
-        let mut stream = self.stream;
-        let taken = stream.write(buf)?;
+        let taken = self.stream.write(buf)?;
         self.clock.wrote(&buf[..taken]);
         Ok(taken)
     }
 
     fn flush(&mut self) -> io::Result<()>
-        ensures bytes { Keeps None None }
+        ensures bytes { Keeps (S.contents self.old.stream) (S.contents self.new.stream) }
         ensures looks { OnOk result (self.new.unlooked ≡ flushes_left self.old.unlooked) }
     {
         if self.is_cut.load(Ordering::SeqCst) {
@@ -164,7 +230,7 @@ impl<H: Clock> Write for Peer<'_, H> {
         if !self.is_look() {
             return Ok(());
         }
-        match self.stream.take_error() {
+        match self.stream.met_error() {
             Ok(None) => Ok(()),
             Ok(Some(error)) => Err(error),
             Err(error) => Err(error),

@@ -2,9 +2,11 @@
 ghost use Rattle.std.specs.Prelude.{◌≡◌, ◌≢◌, ◌⊎◌, ◌↔◌, ◌+◌, ◌-◌, ◌^◌, false, true, min, slice_get, slice_set, vec_len, IfNone, IfOk, IfSome, IsTrue, MatchOption, None, Some};
 ghost use Rattle.server_sessions.specs.Histories.{IsGivenIn};
 ghost use Rattle.server_sessions.specs.Places.{AreFree, AreTaken, IsKeptOrLost, IsLeftOf, LeavesTheSame, ServesNone, StaysServed, one_less, one_more, taken_count};
+ghost use Rattle.server_sessions.specs.Receipts.{kept_of};
 
 use crate::kept_transcripts::KeptTranscripts;
-use crate::line_session::SessionLeft;
+use crate::line_session::{SessionLeft, SessionRun};
+use crate::session_options::SessionOptions;
 use hub::Naming;
 use std::alloc::{AllocError, Global};
 use std::net::{Shutdown, TcpStream};
@@ -57,7 +59,11 @@ pub struct Connections {
 
 /// What a server left.
 #[derive(Drop)]
-pub struct Left<G: Naming> {
+pub struct Left<G: Naming, N> {
+    /// By which names the tenants of its sessions went.
+    pub tenants: N,
+    /// How their lines were answered.
+    pub options: SessionOptions,
     /// The transcripts of the seats of its sessions, but for those that found no memory, and what these seats have seen.
     pub kept: KeptTranscripts<G>,
     /// Whether a connection could not be accepted, a thread could not be started, or the input could not be read.
@@ -90,9 +96,9 @@ impl<G: Naming> ServedConnections<G> {
         })
     }
 
-    /// What it left.
-    pub(crate) fn leave(self) -> Left<G>
-        ensures { IsLeftOf self result }
+    /// What it left, whose sessions were answered by these names and with these options.
+    pub(crate) fn leave<N>(self, tenants: N, options: SessionOptions) -> Left<G, N>
+        ensures { IsLeftOf tenants options self result }
     {
         let ServedConnections {
             places: _,
@@ -104,6 +110,8 @@ impl<G: Naming> ServedConnections<G> {
             has_lost,
         } = self;
         Left {
+            tenants,
+            options,
             kept,
             has_failed,
             has_refused,
@@ -139,8 +147,7 @@ impl<G: Naming> ServedConnections<G> {
 
     /// How many connections are served, and how many were begun.
     pub(crate) fn counts(&self) -> (usize, u64)
-        ensures open { result.0 ≡ taken_count self.now.places.items }
-        ensures begun { result.1 ≡ self.now.begun }
+        ensures { (result.0 ≡ taken_count self.now.places.items) × (result.1 ≡ self.now.begun) }
     {
         (taken_count(&self.places), self.begun)
     }
@@ -150,8 +157,8 @@ impl<G: Naming> ServedConnections<G> {
         ensures receipt { result.change ≡ Change.Begun place }
         ensures places { self.new.places.items
             ≡ slice_set self.old.places.items place (Some stream) }
-        ensures left { self.new.left ≡ one_less self.old.left }
-        ensures begun { self.new.begun ≡ min (self.old.begun + 1) (2 ^ 64 - 1) }
+        ensures left { (self.new.left ≡ one_less self.old.left)
+            × (self.new.begun ≡ min (self.old.begun + 1) (2 ^ 64 - 1)) }
         ensures others { LeavesTheSame self.old self.new }
     {
         self.left = self.left.map(|left| left.saturating_sub(1));
@@ -162,20 +169,21 @@ impl<G: Naming> ServedConnections<G> {
         }
     }
 
-    /// The connection at this place is served no longer. The transcript that it left, if any, is kept behind those before, or is
-    /// lost where it finds no memory.
-    pub(crate) fn end(&mut self, place: usize, session: Option<SessionLeft<G>>) -> Receipt
-        requires { IfSome session (λ its. IsGivenIn its.1 its.0) }
+    /// The connection at this place is served no longer. The transcript that its session left, if any, is kept behind those before,
+    /// unless journals are cut, or is lost where it finds no memory.
+    pub(crate) fn end(&mut self, place: usize, session: SessionRun<'_, G>) -> Receipt
+        requires { IfSome session.left (λ its. IsGivenIn its.1 its.0) }
         ensures receipt { result.change ≡ Change.Ended place }
         ensures places { self.new.places.items ≡ slice_set self.old.places.items place None }
-        ensures left { (self.new.left ≡ self.old.left) × (self.new.begun ≡ self.old.begun) }
-        ensures kept { MatchOption session (LeavesTheSame self.old self.new)
-            (λ its. IsKeptOrLost its.0 self.old self.new) }
-        ensures others { (self.new.has_failed ≡ self.old.has_failed)
+        ensures kept { MatchOption
+            (kept_of session.entry.hub.now.epoch session.entry.left)
+            (LeavesTheSame self.old self.new) (λ its. IsKeptOrLost its.0 self.old self.new) }
+        ensures others { (self.new.left ≡ self.old.left) × (self.new.begun ≡ self.old.begun)
+            × (self.new.has_failed ≡ self.old.has_failed)
             × (self.new.has_refused ≡ self.old.has_refused) }
     {
-        if let Some(session) = session {
-            self.keep(session);
+        if let Some(left) = session.into_kept() {
+            self.keep(left);
         }
         self.put(place, None);
         Receipt {
@@ -230,9 +238,8 @@ impl<G: Naming> ServedConnections<G> {
     fn keep(&mut self, session: SessionLeft<G>)
         requires { IsGivenIn session.1 session.0 }
         ensures kept { IsKeptOrLost session.0 self.old self.new }
-        ensures places { (self.new.places ≡ self.old.places) × (self.new.left ≡ self.old.left)
-            × (self.new.begun ≡ self.old.begun) }
-        ensures others { (self.new.has_failed ≡ self.old.has_failed)
+        ensures others { (self.new.places ≡ self.old.places) × (self.new.left ≡ self.old.left)
+            × (self.new.begun ≡ self.old.begun) × (self.new.has_failed ≡ self.old.has_failed)
             × (self.new.has_refused ≡ self.old.has_refused) }
     {
         if !self.kept.keep(session) {

@@ -1,22 +1,25 @@
 //! A server's connections: those that it serves, and what those that ended left.
-ghost use Rattle.std.specs.Prelude.{◌≡◌, false, true, is_none, IfOk, IfSome, IsSomeAnd, IsTrue};
+ghost use Rattle.std.specs.Prelude.{◌≡◌, false, true, is_none, IfOk, IfSome, IsTrue};
 ghost use Rattle.std.specs.Arc.{arc_value};
 ghost use Rattle.server_sessions.specs.declared.served.Change.TheVariants.{Begun, Ended, Failed, GivenUp};
 ghost use Rattle.std.specs.IoError.{raw_os_error};
 ghost use Rattle.server_sessions.specs.Histories.{IsGivenIn};
 ghost use Rattle.server_sessions.specs.Passing.{is_passing};
-ghost use Rattle.server_sessions.specs.Ports.{IsServerOf, answers_of, count_of, listener_of, most_of, options_of, stays_of};
+ghost use Rattle.server_sessions.specs.Ports.{IsServerOf, answers_of, count_of, listener_of, most_of, options_of, stays_of, tenants_of};
+ghost use Rattle.server_sessions.specs.Receipts.{IsRunFor};
 
 use crate::answer_counts::AnswerCounts;
 use crate::kept_transcripts::KeptTranscripts;
-use crate::line_session::SessionLeft;
+use crate::line_session::SessionRun;
 use crate::line_times::{LineClock, LineTimes};
 use crate::listener::{Accept, passes};
 use crate::peer::Peer;
 use crate::served::{Connections, Left, Receipt, ServedConnections};
 use crate::session_count::SessionCount;
 use crate::session_options::SessionOptions;
-use hub::{Naming, Transcript};
+use crate::tenants::Tenants;
+use hub::Naming;
+use line_protocol::Name;
 use std::alloc::{AllocError, Global};
 use std::io;
 use std::net::{Shutdown, TcpStream};
@@ -32,9 +35,11 @@ const GRACE: u64 = 5;
 
 /// A server: where its connections come from, and those that it serves. Any thread may hold a `&` to it.
 #[derive(Drop)]
-pub struct Server<L, G: Naming> {
+pub struct Server<L, G: Naming, N> {
     alloc: Global,
     listener: L,
+    /// By which names its tenants go.
+    tenants: N,
     /// How many connections it serves at a time.
     sessions: u32,
     stays: bool,
@@ -51,40 +56,62 @@ pub struct Server<L, G: Naming> {
     count: SessionCount,
 }
 
-impl<L, G: Naming> Server<L, G> {
-    /// A server of as many connections as these, and then no more. Memory for their places and their transcripts is asked
-    /// for now.
-    pub fn counted(alloc: Global, listener: L, sessions: u32) -> Result<Server<L, G>, AllocError>
+/// A connection that has a place of a server. Who serves it gives its place back.
+#[derive(Drop)]
+pub(crate) struct Entered {
+    pub(crate) place: usize,
+    pub(crate) stream: Arc<TcpStream>,
+    begun: Receipt,
+}
+
+impl<L, G: Naming, N> Server<L, G, N> {
+    /// A server of as many connections as these, and then no more, over tenants of these names. Memory for their places and their
+    /// transcripts is asked for now.
+    pub fn counted(
+        alloc: Global,
+        listener: L,
+        tenants: N,
+        sessions: u32,
+    ) -> Result<Server<L, G, N>, AllocError>
     where
         L: Drop,
-        ensures { IfOk result (IsServerOf listener sessions false) }
+        N: Drop,
+        ensures { IfOk result (IsServerOf listener tenants sessions false) }
     {
         let transcripts = Vec::with_capacity(alloc, sessions as usize)?;
         let kept = KeptTranscripts::new(transcripts);
-        Server::of(alloc, listener, sessions, Some(sessions), kept)
+        Server::of(alloc, listener, tenants, sessions, Some(sessions), kept)
     }
 
-    /// A server of all connections that come until it is ended, as many as these at a time. Memory for their places is asked
-    /// for now, and for transcripts as they come.
-    pub fn staying(alloc: Global, listener: L, sessions: u32) -> Result<Server<L, G>, AllocError>
+    /// A server of all connections that come until it is ended, as many as these at a time, over tenants of these names. Memory for
+    /// their places is asked for now, and for transcripts as they come.
+    pub fn staying(
+        alloc: Global,
+        listener: L,
+        tenants: N,
+        sessions: u32,
+    ) -> Result<Server<L, G, N>, AllocError>
     where
         L: Drop,
-        ensures { IfOk result (IsServerOf listener sessions true) }
+        N: Drop,
+        ensures { IfOk result (IsServerOf listener tenants sessions true) }
     {
         let kept = KeptTranscripts::new(Vec::new(alloc));
-        Server::of(alloc, listener, sessions, None, kept)
+        Server::of(alloc, listener, tenants, sessions, None, kept)
     }
 
     fn of(
         alloc: Global,
         listener: L,
+        tenants: N,
         sessions: u32,
         left: Option<u32>,
         kept: KeptTranscripts<G>,
-    ) -> Result<Server<L, G>, AllocError>
+    ) -> Result<Server<L, G, N>, AllocError>
     where
         L: Drop,
-        ensures { IfOk result (IsServerOf listener sessions (is_none left)) }
+        N: Drop,
+        ensures { IfOk result (IsServerOf listener tenants sessions (is_none left)) }
     {
         let stays = left.is_none();
         let served = ServedConnections::new(alloc, sessions, left, kept)?;
@@ -93,6 +120,7 @@ impl<L, G: Naming> Server<L, G> {
         Ok(Server {
             alloc,
             listener,
+            tenants,
             sessions,
             stays,
             options: SessionOptions {
@@ -111,8 +139,9 @@ impl<L, G: Naming> Server<L, G> {
     }
 
     /// The same server, whose sessions have these options. Else they have none: they are not strict, no put reads first, and the store's number is 0.
-    pub fn with_options(self, options: SessionOptions) -> Server<L, G>
-        ensures listener { listener_of result ≡ listener_of self }
+    pub fn with_options(self, options: SessionOptions) -> Server<L, G, N>
+        ensures listener { (listener_of result ≡ listener_of self)
+            × (tenants_of result ≡ tenants_of self) }
         ensures connections { (most_of result ≡ most_of self) × (stays_of result ≡ stays_of self) }
         ensures options { options_of result ≡ options }
     {
@@ -122,26 +151,30 @@ impl<L, G: Naming> Server<L, G> {
     }
 
     /// What it left, once all its sessions have ended.
-    pub fn left(self) -> Left<G>
+    pub fn left(self) -> Left<G, N>
     where
         L: Drop,
+        ensures { (result.tenants ≡ tenants_of self) × (result.options ≡ options_of self) }
     {
         let (left, _answers) = self.left_and_answers();
         left
     }
 
     /// What it left, once all its sessions have ended, and how their lines were answered.
-    pub fn left_and_answers(self) -> (Left<G>, AnswerCounts)
+    pub fn left_and_answers(self) -> (Left<G, N>, AnswerCounts)
     where
         L: Drop,
-        ensures { result.1 ≡ answers_of self }
+        ensures manner { (result.0.tenants ≡ tenants_of self)
+            × (result.0.options ≡ options_of self) }
+        ensures answers { result.1 ≡ answers_of self }
     {
         let Server {
             alloc: _,
             listener: _,
+            tenants,
             sessions: _,
             stays: _,
-            options: _,
+            options,
             answers,
             times: _,
             served,
@@ -150,7 +183,7 @@ impl<L, G: Naming> Server<L, G> {
             is_cut: _,
             count: _,
         } = self;
-        (served.into_inner().leave(), answers)
+        (served.into_inner().leave(tenants, options), answers)
     }
 
     /// Where its connections come from.
@@ -187,12 +220,8 @@ impl<L, G: Naming> Server<L, G> {
     }
 
     /// The peer of a connection that it serves, whose lines' times are noted by this clock.
-    pub(crate) fn peer<'s, H>(
-        &'s self,
-        stream: &'s TcpStream,
-        clock: &'s LineClock<'s, H>,
-    ) -> Peer<'s, H>
-        ensures { (result.stream.now ≡ stream.now) × (result.unlooked ≡ 0)
+    pub(crate) fn peer<'s, S, H>(&'s self, stream: S, clock: &'s LineClock<'s, H>) -> Peer<'s, S, H>
+        ensures { (result.stream ≡ stream) × (result.unlooked ≡ 0)
             × (result.count.now ≡ count_of self.now) × (result.clock.now ≡ clock.now) }
     {
         Peer {
@@ -231,24 +260,6 @@ impl<L, G: Naming> Server<L, G> {
         self.served.lock(rt).fail()
     }
 
-    /// The connection at this place is served no longer, and its session left this, if it is to be kept: each reply in its
-    /// transcript has its place in what was seen. Its answers were counted by this server.
-    pub(crate) fn leave<R: Wait>(
-        &self,
-        rt: &R,
-        place: usize,
-        _counted: Option<&AnswerCounts>,
-        session: Option<SessionLeft<G>>,
-    ) -> Receipt
-        requires counted { IsSomeAnd _counted (λ counts. counts.now ≡ answers_of self.now) }
-        requires given { IfSome session (λ its. IsGivenIn its.1 its.0) }
-        ensures { result.change ≡ Ended place }
-    {
-        let ended = self.served.lock(rt).end(place, session);
-        self.changed.notify_all();
-        ended
-    }
-
     /// The connection at this place can't be served, since no thread could be started.
     pub(crate) fn give_up<R: Wait>(&self, rt: &R, place: usize) -> Receipt
         ensures { result.change ≡ GivenUp place }
@@ -276,14 +287,10 @@ impl<L, G: Naming> Server<L, G> {
 
     /// Gives a connection this place. None where it is to end by now, and where it found no memory: then it is closed, and the
     /// program reports so at its end.
-    fn enter<R: Wait>(
-        &self,
-        rt: &R,
-        place: usize,
-        stream: TcpStream,
-    ) -> Option<(Arc<TcpStream>, Receipt)>
-        ensures stream { IfSome result (λ entered. arc_value entered.0 ≡ stream) }
-        ensures begun { IfSome result (λ entered. entered.1.change ≡ Begun place) }
+    fn enter<R: Wait>(&self, rt: &R, place: usize, stream: TcpStream) -> Option<Entered>
+        ensures stream { IfSome result (λ entered. arc_value entered.stream ≡ stream) }
+        ensures begun { IfSome result
+            (λ entered. (entered.begun.change ≡ Begun place) × (entered.place ≡ place)) }
     {
         let Ok((stream, same)) = shared(self.alloc, stream) else {
             self.served.lock(rt).refuse();
@@ -294,7 +301,11 @@ impl<L, G: Naming> Server<L, G> {
             return None;
         }
         let begun = served.begin(place, same);
-        Some((stream, begun))
+        Some(Entered {
+            place,
+            stream,
+            begun,
+        })
     }
 }
 
@@ -307,21 +318,56 @@ fn shared(alloc: Global, stream: TcpStream) -> Result<(Arc<TcpStream>, Arc<TcpSt
     Ok((stream, same))
 }
 
-impl<L: Accept, G: Naming> Server<L, G> {
-    /// The next connection, the place that it has, and the receipt that it began there. None where no more are accepted. An
+impl<L, G: Naming, N: Tenants> Server<L, G, N> {
+    /// By which names its tenants go.
+    pub(crate) fn names(&self) -> &[Name]
+        ensures { result.now ≡ N.listed (tenants_of self.now) }
+    {
+        self.tenants.names()
+    }
+
+    /// The connection is served no longer. Its session was run for this server: by the names of its tenants and with its options, and its
+    /// answers were counted here. Each reply in its transcript has its place in what was seen. The connection is closed, if nobody
+    /// else has it, before another gets its place.
+    pub(crate) fn leave<R: Wait>(
+        &self,
+        rt: &R,
+        entered: Entered,
+        session: SessionRun<'_, G>,
+    ) -> Receipt
+        requires run { IsRunFor (N.listed (tenants_of self.now)) (options_of self.now)
+            (answers_of self.now) session }
+        requires given { IfSome session.left (λ its. IsGivenIn its.1 its.0) }
+        ensures { result.change ≡ Ended entered.place }
+    {
+        let Entered {
+            place,
+            stream,
+            begun: _,
+        } = entered;
+        drop(stream);
+        let ended = self.served.lock(rt).end(place, session);
+        self.changed.notify_all();
+        ended
+    }
+}
+
+impl<L: Accept, G: Naming, N> Server<L, G, N> {
+    /// The next connection, with the place that it has, and the receipt that it began there. None where no more are accepted. An
     /// `accept` that failed is made again once a session has ended or a moment has passed, where its error passes; one that does
     /// not pass ends the server.
-    pub(crate) fn next<R: Wait + Clock>(&self, rt: &R) -> Option<(usize, Arc<TcpStream>, Receipt)>
+    pub(crate) fn next<R: Wait + Clock>(&self, rt: &R) -> Option<Entered>
         ensures given { IfSome result
-            (λ next. L.has_given (listener_of self.now) (arc_value next.1)) }
-        ensures begun { IfSome result (λ next. next.2.change ≡ Begun next.0) }
+            (λ next. L.has_given (listener_of self.now) (arc_value next.stream)) }
+        ensures begun { IfSome result (λ next. next.begun.change ≡ Begun next.place) }
     {
         for _ in rt.forever() {
             let place = self.free_place(rt)?;
             match self.listener.accept() {
                 Ok(stream) => {
-                    if let Some((stream, begun)) = self.enter(rt, place, stream) {
-                        return Some((place, stream, begun));
+                    let entered = self.enter(rt, place, stream);
+                    if entered.is_some() {
+                        return entered;
                     }
                 }
                 Err(error) => {

@@ -24,7 +24,7 @@ pub struct Watched<'s, G: Naming, C = Mutex<Checked>> {
     /// The names of its tenants.
     pub names: &'s [Name],
     /// What serves its sessions.
-    pub server: &'s Server<Listener, G>,
+    pub server: &'s Server<Listener, G, &'s [Name]>,
     /// What is known of its journals, where epochs are checked.
     pub known: Option<&'s Vec<Vec<C>>>,
     /// When the server started, in seconds since 1970.

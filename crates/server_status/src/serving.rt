@@ -76,14 +76,7 @@ pub fn serve_and_report<
             if !answers {
                 port.close();
             }
-            serve_connections(
-                rt,
-                alloc,
-                watched.hub,
-                watched.names,
-                watched.server,
-                reader,
-            );
+            serve_connections(rt, alloc, watched.hub, watched.server, reader);
             port.close();
         },
     );

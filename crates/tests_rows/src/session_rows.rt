@@ -131,8 +131,8 @@ fn run<'s, G: Gate + Naming, H: Handles, R: Read>(
     reader: &mut R,
     writer: &mut Taken,
 ) -> (Option<Transcript>, bool) {
-    let (left, ended, _) = run_session_as(rt, alloc, hub, names, manner, None, reader, writer);
-    (transcript_of(left), ended.is_ok())
+    let (session, ended) = run_session_as(rt, alloc, hub, names, manner, None, reader, writer);
+    (transcript_of(session.into_left()), ended.is_ok())
 }
 
 /// The transcript of a session's seat, if it opened one.

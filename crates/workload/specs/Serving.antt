@@ -20,6 +20,7 @@ use Rattle.server_verdicts.specs.Judged.{AreLeft, TellsChecks}
 use Rattle.server_verdicts.specs.Verdicts.{TellsVerdicts}
 use Rattle.command_line.specs.Words.{AreTenants, AsksForServer}
 use Rattle.server_sessions.specs.Ports.{IsPortFor}
+use Rattle.server_sessions.specs.declared.session_options.SessionOptions.{SessionOptions}
 use Rattle.workload.specs.Unrecorded.{TellsServed}
 
 -- the line that reports at which port a server listens
@@ -73,6 +74,12 @@ HasChecked view closed names old new ended =
     ((ended ≡ Err OutOfMemory) × Keeps old new)
     ⊎ ((endings : LastEpochs) × (endings.limits.items ≡ view.limits) × (length endings.rows.items ≡ view.parts)
     × AreLeft closed.journals.items endings.rows.items × TellsChecks endings names old new ended)
+
+-- these names are the ones that are asked for, and so are a session's options
+pub record IsAskedFor (names : List (List ℕ)) (options : ServerOptions) (its : List (List ℕ)) (manner : SessionOptions) : Type 0 where
+  pub tenants : its ≡ names
+  pub strict : manner.strict ≡ options.strict
+  pub newest : manner.newest ≡ options.newest
 
 -- what may have kept a server from some of its connections: nothing, an allocation failure or a device
 abbrev pub IsFaultBefore : Result (Unit {0}) ProgramFault → Type 0

@@ -18,7 +18,7 @@ pub use load::run_load;
 pub use serve::run_server;
 pub use server_sessions::{
     Accept, KeptTranscripts, Left, Listener, Open, OpenHub, Server, SessionLeft, SessionOptions,
-    run_session, run_session_as, serve_connections,
+    SessionRun, Tenants, run_session, run_session_as, serve_connections,
 };
 pub use server_verdicts::{Checked, Ending, LastEpochs, Standing, tell_checks, tell_verdicts};
 pub use words::run_words;

@@ -2,9 +2,9 @@
 ghost use Rattle.std.specs.Prelude.{◌≡◌, ◌<◌, ◌≤◌, ◌⊎◌, cond, false, true, Ok, Err, IfOk, IfErr, string_bytes};
 ghost use Rattle.line_runs.specs.declared.fault.ProgramFault.TheVariants.{Device, OutOfMemory as NoMemory};
 ghost use Rattle.hub.specs.Hubs.{config_view};
-ghost use Rattle.workload.specs.Serving.{DoneOrRefused, IsClosed, IsFaultBefore, ServesAndTells, TellsOfPort, TellsPortFirst, TellsPortFor, greater_fault, listening_line};
+ghost use Rattle.workload.specs.Serving.{DoneOrRefused, IsAskedFor, IsClosed, IsFaultBefore, ServesAndTells, TellsOfPort, TellsPortFirst, TellsPortFor, greater_fault, listening_line};
 ghost use Rattle.server_sessions.specs.Histories.{IsOfHistory};
-ghost use Rattle.server_sessions.specs.Ports.{IsServerOf, listener_of, most_of, options_of, port_of, stays_of, transcripts_of};
+ghost use Rattle.server_sessions.specs.Ports.{IsServerOf, listener_of, most_of, options_of, port_of, stays_of, tenants_of, transcripts_of};
 
 use crate::served_lines::tell_served;
 use command_line::{ServerOptions, VERSION};
@@ -117,23 +117,25 @@ fn bind_status<H: Net<Listener = TcpListener, Stream = TcpStream>>(
     }
 }
 
-// A server of these connections, counted or not as the options say, strict or not, with newest puts or not, and whose store has this
-// number.
+// A server of these connections over tenants of these names, counted or not as the options say, strict or not, with newest puts or not,
+// and whose store has this number.
 fn server_of<G: Naming>(
     alloc: Global,
     listener: Listener,
+    names: &[Name],
     options: ServerOptions,
     store: u64,
-) -> Result<Server<Listener, G>, AllocError>
+) -> Result<Server<Listener, G, &[Name]>, AllocError>
     ensures listener { IfOk result (λ server. listener_of server ≡ listener) }
     ensures connections { IfOk result (λ server. (most_of server ≡ options.sessions)
         × (stays_of server ≡ options.stay)) }
-    ensures options { IfOk result (λ server. options_of server
-        ≡ record { strict = options.strict; newest = options.newest; store = store }) }
+    ensures asked { IfOk result
+        (λ server. IsAskedFor names.now options (tenants_of server).now (options_of server)) }
+    ensures store { IfOk result (λ server. (options_of server).store ≡ store) }
 {
     let strict = options.strict;
     let newest = options.newest;
-    let server = plain_server_of(alloc, listener, options)?;
+    let server = plain_server_of(alloc, listener, names, options)?;
     Ok(server.with_options(SessionOptions {
         strict,
         newest,
@@ -145,14 +147,15 @@ fn server_of<G: Naming>(
 fn plain_server_of<G: Naming>(
     alloc: Global,
     listener: Listener,
+    names: &[Name],
     options: ServerOptions,
-) -> Result<Server<Listener, G>, AllocError>
-    ensures { IfOk result (IsServerOf listener options.sessions options.stay) }
+) -> Result<Server<Listener, G, &[Name]>, AllocError>
+    ensures { IfOk result (IsServerOf listener names options.sessions options.stay) }
 {
     if options.stay {
-        Server::staying(alloc, listener, options.sessions)
+        Server::staying(alloc, listener, names, options.sessions)
     } else {
-        Server::counted(alloc, listener, options.sessions)
+        Server::counted(alloc, listener, names, options.sessions)
     }
 }
 
@@ -179,7 +182,7 @@ fn serve_and_settle<
         (W.contents writer.old) (W.contents writer.new) result }
 {
     let Ports { listener, status } = ports;
-    let server = server_of(alloc, listener, options, store_number(rt))?;
+    let server = server_of(alloc, listener, names, options, store_number(rt))?;
     let hub = open_hub::<J, (), H>(rt, alloc, store, ())?;
     let reporting = Reporting {
         port: status.as_ref(),
@@ -187,7 +190,7 @@ fn serve_and_settle<
     };
     let told = serve_all(rt, alloc, &hub, names, &server, reporting, reader, writer);
     let left = server.left();
-    let before = fault_of(&left);
+    let before = fault_of(&left, names, options);
     let (closed, _seen) = close_store(rt, hub, left.kept);
     told?;
     if left.has_lost {
@@ -220,7 +223,7 @@ fn serve_and_check<
         (W.contents writer.old) (W.contents writer.new) result }
 {
     let Ports { listener, status } = ports;
-    let server = server_of(alloc, listener, options, store_number(rt))?;
+    let server = server_of(alloc, listener, names, options, store_number(rt))?;
     let (hub, checking) = open_checked::<J, H>(rt, alloc, store)?;
     let reporting = Reporting {
         port: status.as_ref(),
@@ -228,7 +231,7 @@ fn serve_and_check<
     };
     let told = serve_all(rt, alloc, &hub, names, &server, reporting, reader, writer);
     let left = server.left();
-    let before = fault_of(&left);
+    let before = fault_of(&left, names, options);
     let (closed, _seen) = close_store(rt, hub, left.kept);
     let known = checking.end(rt, alloc);
     told?;
@@ -261,7 +264,7 @@ fn serve_unrecorded<
         (W.contents writer.old) (W.contents writer.new) result }
 {
     let Ports { listener, status } = ports;
-    let server = server_of(alloc, listener, options, store_number(rt))?;
+    let server = server_of(alloc, listener, names, options, store_number(rt))?;
     let hub = open_hub::<J, (), H>(rt, alloc, store, ())?;
     let reporting = Reporting {
         port: status.as_ref(),
@@ -269,7 +272,7 @@ fn serve_unrecorded<
     };
     let told = serve_all(rt, alloc, &hub, names, &server, reporting, reader, writer);
     let (left, answers) = server.left_and_answers();
-    let before = fault_of(&left);
+    let before = fault_of(&left, names, options);
     let (closed, _seen) = close_store(rt, hub, left.kept);
     told?;
     let tenants = closed.config.limits.len();
@@ -277,8 +280,13 @@ fn serve_unrecorded<
     ended_after(before, ended)
 }
 
-// What kept a server from some of its connections, if anything did.
-fn fault_of<G: Naming>(left: &Left<G>) -> Result<(), ProgramFault>
+// What kept a server from some of its connections, if anything did. Its sessions were answered by the names and options that are asked for.
+fn fault_of<G: Naming>(
+    left: &Left<G, &[Name]>,
+    _names: &[Name],
+    _options: ServerOptions,
+) -> Result<(), ProgramFault>
+    requires asked { IsAskedFor _names.now _options left.now.tenants.now left.now.options }
     ensures before { IsFaultBefore result }
     ensures exact { result
         ≡ cond left.now.has_refused (Err NoMemory) (cond left.now.has_failed (Err Device) (Ok tt)) }
@@ -375,7 +383,7 @@ fn serve_all<J: Naming + Send + Sync, H: Threads + Wait + Clock + Sync, R: Read,
     alloc: Global,
     hub: &OpenHub<J>,
     names: &[Name],
-    server: &Server<Listener, Named<J, Open>>,
+    server: &Server<Listener, Named<J, Open>, &[Name]>,
     reporting: Reporting<'_>,
     reader: &mut R,
     writer: &mut W,
@@ -385,7 +393,7 @@ fn serve_all<J: Naming + Send + Sync, H: Threads + Wait + Clock + Sync, R: Read,
 {
     tell_port(alloc, server.listener().port(), writer)?;
     let Some(port) = reporting.port else {
-        serve_connections(rt, alloc, hub, names, server, reader);
+        serve_connections(rt, alloc, hub, server, reader);
         return Ok(());
     };
     let watched = Watched {
