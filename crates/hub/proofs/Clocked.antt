@@ -19,13 +19,15 @@ use Rattle.history.proofs.Lists.{prefix_has, prefix_join, prefix_of_itself}
 use Rattle.tenant_sessions.specs.declared.session.ClientSession.{ClientSession}
 use Rattle.shard.specs.declared.seat_name.SeatName.{SeatName}
 use Rattle.plain_store.proofs.Members.{in_right}
-use Rattle.hub.specs.Clocks.{HasLooked, IsStampedBehind}
-use Rattle.hub.specs.Limits.{max_calls}
-use Rattle.hub.specs.Operations.{IsLater, ReportsWrite}
+use Rattle.hub.specs.Clocks.{HasLooked, IsStampedBehind, PutsByClock}
+use Rattle.hub.specs.Fresh.{AreCommittedIn}
+use Rattle.hub.specs.Limits.{last_call, max_calls}
+use Rattle.hub.specs.Operations.{IsLater, IsOperation, ReportsWrite}
 use Rattle.hub.specs.ReadsFirst.{IsWrittenBy}
 use Rattle.hub.specs.Replies.{IfDone, IsDrawn}
 use Rattle.hub.specs.Seats.{SeatView, is_unbegun}
 use Rattle.hub.proofs.Operations.{unbegun-entered}
+use Rattle.hub.proofs.Replies.{if_done}
 
 -- it saw no more
 pub looked_same : (seat : SeatView) → HasLooked seat seat
@@ -105,6 +107,24 @@ stamped_behind old between new name client counter after own same pre drawn is =
   stamped = is.0 ∙ ap (stamp (counter + 1)) same;
   drawn = drawn_later old between new (record { tenant = name.tenant; counter = counter + 1 }) pre drawn;
 }
+
+-- a seat that drew, and then wrote, put by the clock
+pub put_drawn : (items : List Item) (old drawn new : SeatView) (answer : Answer) → HasLooked old drawn → IsDrawnBehind old.seen drawn.seen (record { tenant = old.name.tenant; counter = drawn.counter + 1 })
+    → IsOperation (Put drawn.name.client items) drawn answer new → IfDone answer (IsDrawn drawn.name.client drawn.counter new.counter) → ReportsWrite items drawn answer new
+    → IfDone answer (AreCommittedIn new.seen new.name.tenant items) → PutsByClock items old answer new
+put_drawn items old drawn new answer looked draw done stamped written committed =
+    let stops : drawn.stopped ≡ old.stopped = ap (λ (s : SeatView). s.stopped) looked.rest in
+    record {
+      between = drawn;
+      looked = looked;
+      written = record { entered = done.entered; stamp = stamped; written = written };
+      later = later_looked old drawn new looked done.later;
+      stopped = (λ same. sym stops ∙ done.stopped.0 same, λ at. done.stopped.1 (stops ∙ at));
+      used_up = λ used. done.past.1 (stops ∙ used.0, subst (λ (n : ℕ). last_call < n) (sym (ap (λ (s : SeatView). s.sent) looked.rest)) used.1);
+      drawn = if_done answer (IsDrawn drawn.name.client drawn.counter new.counter) (IsStampedBehind old.seen new.seen old.name)
+          (λ own is. stamped_behind old.seen drawn.seen new.seen old.name drawn.name.client drawn.counter new.counter own (ap (λ (s : SeatView). s.name.client) looked.rest) done.later.seen draw is) stamped;
+      committed = committed;
+    }
 
 -- the stamp of a put that began behind what another's seat had seen at its end is above the other's
 pub stamps_rise : (first between seen now : List HistoryEntry) (name other : SeatName) (own later : Stamp) → name.client < 65536 → name.tenant ≡ other.tenant → IsStampedBehind first between name own

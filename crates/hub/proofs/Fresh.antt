@@ -159,7 +159,7 @@ first_≤_read keys replies key stamps readable k = go (is_late keys replies key
 -- ---- the replies stand behind what had been committed
 
 -- what a legal history begins with is one, where it has the opening
-legal_before : (v log : List HistoryEntry) (parts : ℕ) → HasParts v parts → IsPrefix v log → IsLegal log → IsLegal v
+pub legal_before : (v log : List HistoryEntry) (parts : ℕ) → HasParts v parts → IsPrefix v log → IsLegal log → IsLegal v
 legal_before [] log parts has pre legal = absurd has
 legal_before (Opened setting ∷ rest) log parts has pre legal = record {
   setting = setting;

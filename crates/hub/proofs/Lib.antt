@@ -14,5 +14,6 @@ mod Behind
 mod Started
 mod Taking
 pub mod Evidence
+mod Reported
 mod Fresh
 mod Done

@@ -145,28 +145,32 @@ none_done (says.Sent rows) P is = tt
 none_done (says.Freed count) P is = tt
 none_done (says.Keeps keep) P is = tt
 
+-- what a write that is done reports is said of the answer that it is
+pub if_done_as : (answer : Answer) (P Q : Stamp → Type 0) → ((told : Stamp) → answer ≡ says.Done told → P told → Q told) → IfDone answer P → IfDone answer Q
+if_done_as (says.Refused refusal) P Q so is = tt
+if_done_as (says.Ready counter) P Q so is = tt
+if_done_as (says.PutBegun stamp rows) P Q so is = tt
+if_done_as (says.GetBegun rows) P Q so is = tt
+if_done_as (says.FindBegun rows) P Q so is = tt
+if_done_as (says.Replied row reply) P Q so is = tt
+if_done_as says.Ignored P Q so is = tt
+if_done_as says.Wait P Q so is = tt
+if_done_as (says.Decided stamp rows) P Q so is = tt
+if_done_as (says.Done stamp) P Q so is = so stamp refl is
+if_done_as (says.Ask rows) P Q so is = tt
+if_done_as (says.BeginsRead rows) P Q so is = tt
+if_done_as (says.Read told) P Q so is = is
+if_done_as (says.Listed told) P Q so is = is
+if_done_as (says.Restart key floor) P Q so is = tt
+if_done_as (says.Ended refusal rows) P Q so is = tt
+if_done_as says.Lost P Q so is = tt
+if_done_as says.Stopped P Q so is = tt
+if_done_as (says.Sent rows) P Q so is = tt
+if_done_as (says.Freed count) P Q so is = tt
+if_done_as (says.Keeps keep) P Q so is = tt
+
 pub if_done : (answer : Answer) (P Q : Stamp → Type 0) → ((told : Stamp) → P told → Q told) → IfDone answer P → IfDone answer Q
-if_done (says.Refused refusal) P Q so is = tt
-if_done (says.Ready counter) P Q so is = tt
-if_done (says.PutBegun stamp rows) P Q so is = tt
-if_done (says.GetBegun rows) P Q so is = tt
-if_done (says.FindBegun rows) P Q so is = tt
-if_done (says.Replied row reply) P Q so is = tt
-if_done says.Ignored P Q so is = tt
-if_done says.Wait P Q so is = tt
-if_done (says.Decided stamp rows) P Q so is = tt
-if_done (says.Done stamp) P Q so is = so stamp is
-if_done (says.Ask rows) P Q so is = tt
-if_done (says.BeginsRead rows) P Q so is = tt
-if_done (says.Read told) P Q so is = is
-if_done (says.Listed told) P Q so is = is
-if_done (says.Restart key floor) P Q so is = tt
-if_done (says.Ended refusal rows) P Q so is = tt
-if_done says.Lost P Q so is = tt
-if_done says.Stopped P Q so is = tt
-if_done (says.Sent rows) P Q so is = tt
-if_done (says.Freed count) P Q so is = tt
-if_done (says.Keeps keep) P Q so is = tt
+if_done answer P Q so is = if_done_as answer P Q (λ told same. so told) is
 
 if_says : (asked : Asked) (answer : Answer) (P Q : List Reading → Type 0) → ((told : List Reading) → P told → Q told) → IfSays asked answer P → IfSays asked answer Q
 if_says (Writes stamp items) answer P Q so is = if_done answer _ _ (λ told says. (says.0, so [] says.1)) is
@@ -466,7 +470,7 @@ among-later old new asked (m ∷ ms) [] later is = absurd is
 among-later old new asked (m ∷ ms) (x ∷ xs) later (inl is) = inl (in-later old new asked m x later is.0, among-later old new asked ms xs later is.1)
 among-later old new asked (m ∷ ms) (x ∷ xs) later (inr is) = inr (among-later old new asked (m ∷ ms) xs later is)
 
-from-later : (old new : OperationSight) (asked : Asked) (start entries : List Entry) (Answers : List Message → Message → Type 0) → IsLaterOperation old new
+pub from-later : (old new : OperationSight) (asked : Asked) (start entries : List Entry) (Answers : List Message → Message → Type 0) → IsLaterOperation old new
     → IsFromReplies old asked start entries Answers → IsFromReplies new asked start entries Answers
 from-later old new asked start entries Answers later from = record {
   more = from.more;

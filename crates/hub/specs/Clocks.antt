@@ -1,14 +1,15 @@
--- What a put does whose stamp the clock of its tenant gives.
-use Rattle.std.specs.Prelude.{◌≡◌, ◌↔◌, ◌<◌, ◌≤◌, ℕ, true, false, List}
+-- What a put does whose stamp the clock of its tenant gives, and which is reported to that clock.
+use Rattle.std.specs.Prelude.{◌≡◌, ◌↔◌, ◌<◌, ◌≤◌, ℕ, Bool, true, false, List, Option, None, Some}
 use mathlib.Core.List.{IsPrefix}
 use Rattle.stamps.specs.Stamp.{stamp}
 use Rattle.stamps.specs.declared.record.Item.{Item}
 use Rattle.plain_store.specs.declared.answer.Answer.{Answer}
-use Rattle.plain_store.specs.declared.answer.Answer.TheVariants.{Refused}
+use Rattle.plain_store.specs.declared.answer.Answer.TheVariants.{Done, Refused}
 use Rattle.plain_store.specs.declared.refusal.Refusal.TheVariants.{RowsUsed, Stopped}
 use Rattle.plain_store.specs.Words.{Stamp}
 use Rattle.history.specs.declared.entry.HistoryEntry.{HistoryEntry}
-use Rattle.history.specs.Clock.{IsDrawnBehind}
+use Rattle.history.specs.Clock.{IsDrawnBehind, IsOverrun, IsToldAt}
+use Rattle.history.specs.Entries.{clock_of}
 use Rattle.shard.specs.declared.seat_name.SeatName.{SeatName}
 use Rattle.hub.specs.Fresh.{AreCommittedIn}
 use Rattle.hub.specs.Limits.{last_call, max_calls}
@@ -41,3 +42,37 @@ pub record PutsByClock (items : List Item) (old : SeatView) (answer : Answer) (n
   pub used_up : (old.stopped ≡ false) × (last_call < old.sent) → answer ≡ Refused RowsUsed
   pub drawn : IfDone answer (IsStampedBehind old.seen new.seen old.name)
   pub committed : IfDone answer (AreCommittedIn new.seen new.name.tenant items)
+
+-- the seat has seen more of the history, and is as it was else
+pub record HasSeenMore (old new : SeatView) : Type 0 where
+  pub seen : IsPrefix old.seen new.seen
+  pub rest : new ≡ record old { seen = new.seen }
+
+-- ---- puts that are reported
+
+-- A report has this number in the tenant's clock, and stands behind all that was seen before. Without a number the clock was overrun.
+abbrev pub IsReported : Option ℕ → (old seen : List HistoryEntry) → ℕ → Type 0
+IsReported (Some place) old seen tenant = IsToldAt old seen tenant place
+IsReported None old seen tenant = IsOverrun (clock_of tenant) old seen
+
+-- The put of these items under this stamp was reported to its tenant's clock under this number, behind a history in which each of its keys
+-- is committed.
+pub record WasReported (items : List Item) (seen : List HistoryEntry) (tenant place : ℕ) (own : Stamp) : Type 0 where
+  pub evidence : List HistoryEntry
+  pub committed : AreCommittedIn evidence tenant items own
+  pub reported : IsToldAt evidence seen tenant place
+
+-- a write is done, under a stamp of which this is said
+abbrev pub IsDoneAs : Answer → (Stamp → Type 0) → Type 0
+IsDoneAs (Done own) P = P own
+IsDoneAs answer P = ⊥
+
+-- whether a write is done
+abbrev pub is_written : Answer → Bool
+is_written (Done own) = true
+is_written answer = false
+
+-- A put with a number is done, and was reported under it. One that is done without a number overran the clock.
+abbrev pub ReportsDone : Option ℕ → List Item → SeatView → Answer → SeatView → Type 0
+ReportsDone (Some place) items old answer new = IsDoneAs answer (WasReported items new.seen new.name.tenant place)
+ReportsDone None items old answer new = IfDone answer (λ own. IsOverrun (clock_of old.name.tenant) old.seen new.seen)

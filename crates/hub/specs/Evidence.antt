@@ -1,5 +1,6 @@
 -- What shows that the calls of a seat's operation may be served.
 use Rattle.std.specs.Prelude.{◌≡◌, ℕ, All, List, Option, Some, None}
+use mathlib.Core.List.{IsPrefix}
 use Rattle.plain_store.specs.declared.answer.Answer.{Answer}
 use Rattle.plain_store.specs.History.{Intent as Asked, Writes, Gets, Finds}
 use Rattle.plain_store.specs.Words.{◌∈◌, Setup, Stamp}
@@ -7,6 +8,7 @@ use Rattle.plain_store.specs.Writing.{Outgoing}
 use Rattle.entry_list.specs.declared.kinds.Entry.{Entry}
 use Rattle.history.specs.declared.entry.HistoryEntry.{HistoryEntry}
 use Rattle.history.specs.declared.entry.HistoryEntry.TheVariants.{Began, Joined}
+use Rattle.history.specs.Entries.{clock_of, count}
 use Rattle.history.specs.Legal.{IsOfPut, MayDecide}
 use Rattle.tenant_sessions.specs.Running.{MayBegin}
 use Rattle.tenant_sessions.specs.declared.running.Running.{Running}
@@ -49,6 +51,19 @@ abbrev pub IsMarkedSince : SeatName → SeatRequest → Mark → (seen before : 
 IsMarkedSince name (Put items) mark seen before = Unit {0}
 IsMarkedSince name (Get keys) mark seen before = HasOwnReadEntry name mark seen before
 IsMarkedSince name (Find tag) mark seen before = HasOwnReadEntry name mark seen before
+
+-- a read or a search found that its tenant's clock has so many entries; nothing is said of a put
+abbrev pub IsLookedAt : SeatRequest → (number tenant : ℕ) → List HistoryEntry → Type 0
+IsLookedAt (Put items) number tenant found = Unit {0}
+IsLookedAt (Get keys) number tenant found = number ≡ count (clock_of tenant) found
+IsLookedAt (Find tag) number tenant found = number ≡ count (clock_of tenant) found
+
+-- it has its entry behind what it found, and found all that was seen before
+pub record HasEntryAt (number : ℕ) (name : SeatName) (mark : Mark) (seen before : List HistoryEntry) : Type 0 where
+  pub found : List HistoryEntry
+  pub behind : IsPrefix before found
+  pub number_is : number ≡ count (clock_of name.tenant) found
+  pub entry : HasOwnReadEntry name mark seen found
 
 abbrev pub tenant_or : ℕ → Option ClientTrace → ℕ
 tenant_or tenant None = tenant

@@ -6,6 +6,7 @@ use Rattle.plain_store.specs.Words.{◌∈◌, Item, Key, Stamp}
 use Rattle.plain_store.specs.Writing.{keys_written}
 use Rattle.history.specs.declared.entry.HistoryEntry.{HistoryEntry}
 use Rattle.history.specs.declared.entry.HistoryEntry.TheVariants.{Joined, ReadBegan}
+use Rattle.history.specs.Entries.{clock_of, count}
 use Rattle.history.specs.Fresh.{IsCommittedIn}
 use Rattle.shard.specs.declared.seat_name.SeatName.{SeatName}
 
@@ -24,6 +25,13 @@ pub record IsFreshByEntry (old seen : List HistoryEntry) (name : SeatName) (read
   pub stands : seen ≡ before ++ ReadBegan word ∷ after
   pub behind : IsPrefix old before
   pub fresh : IsReadFresh before name.tenant readings
+
+-- The read looked at its tenant's clock, and found so many entries there, and all that its seat had seen. It is fresh by all that it found.
+pub record IsFreshAt (number : ℕ) (old seen : List HistoryEntry) (name : SeatName) (readings : List Reading) : Type 0 where
+  pub found : List HistoryEntry
+  pub behind : IsPrefix old found
+  pub number_is : number ≡ count (clock_of name.tenant) found
+  pub fresh : IsFreshByEntry found seen name readings
 
 -- what a put wrote to each of its keys, under this stamp, is committed at the home of the key
 abbrev pub AreCommittedIn : List HistoryEntry → ℕ → List Item → Stamp → Type 0

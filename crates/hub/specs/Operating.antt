@@ -63,6 +63,26 @@ pub record KeepsSession {G : Type 0} {naming : Ghosts G} (old new : RunningOpera
   pub seen : new.seen ≡ old.seen
   pub mark : new.mark ≡ old.mark
 
+-- so of one that begins, which may have seen more
+pub record BeginsAs {G : Type 0} {naming : Ghosts G} (old new : RunningOperation G naming) : Type 0 where
+  pub name : new.name ≡ old.name
+  pub session : new.session ≡ old.session
+  pub seen : IsPrefix old.seen new.seen
+  pub mark : new.mark ≡ old.mark
+
+-- all is the same, but more may have been seen of the history
+pub record SeesMore {G : Type 0} {naming : Ghosts G} (old new : RunningOperation G naming) : Type 0 where
+  pub name : new.name ≡ old.name
+  pub dispatcher : new.dispatcher ≡ old.dispatcher
+  pub session : new.session ≡ old.session
+  pub first : new.first ≡ old.first
+  pub place : new.place ≡ old.place
+  pub fault : new.fault ≡ old.fault
+  pub readings : new.readings ≡ old.readings
+  pub entries : new.entries ≡ old.entries
+  pub mark : new.mark ≡ old.mark
+  pub seen : IsPrefix old.seen new.seen
+
 -- all is the same but the entries and the room for the answer
 pub record OnlyEnters {G : Type 0} {naming : Ghosts G} (old new : RunningOperation G naming) : Type 0 where
   pub name : new.name ≡ old.name

@@ -2,7 +2,6 @@
 ghost use mathlib.Core.List.{IsPrefix};
 ghost use Rattle.stamps.specs.Bounds.{IsParts};
 ghost use Rattle.hub.specs.Hubs.{config_view, AllTraced, IsLeftBy};
-ghost use Rattle.history.specs.Rules.{IsClockOf};
 ghost use Rattle.hub.specs.Registered.{IsDeparture, is_unopened};
 ghost use Rattle.shard.specs.Queues.{unsent};
 ghost use Rattle.shard.specs.UsedAt.{AreUsagesAt, WasElsewhere};
@@ -17,7 +16,7 @@ use crate::seal::Sealed;
 use crate::seat::{Ends, Seat};
 use crate::start::{HubFault, PartitionLists, Worker, collector_of, join_all, share, start_all};
 use closed_store::{Closed, Config, Transcript};
-use history::{Front, Naming, Tally};
+use history::{Front, Naming};
 use partition::{Counts, Journal};
 use plain_store::{Reading, Readings, Refusal};
 use shard::{Collector, Gate, JobSender, SeatName, Shard, Sink, TenantUsage};
@@ -195,13 +194,6 @@ impl<G: Naming> Hub<G> {
         self.config.epoch
     }
 
-    /// The clock of a tenant. None past the last one.
-    pub(crate) fn clock(&self, tenant: u32) -> Option<&Tally<G>>
-        ensures { IfSome result (λ clock. IsClockOf clock.now.key tenant) }
-    {
-        self.clocks.of(tenant)
-    }
-
     /// How many partitions it has, 1 to `MAX_PARTS`.
     pub fn parts(&self) -> u32
         ensures value { result ≡ self.now.parts }
@@ -279,7 +271,7 @@ impl<G: Gate + Naming> Hub<G> {
 
     /// Opens a session of a client. The tests come first, in the order of the refusals' numbers, and then memory: 10 where
     /// there is no such tenant, 12 where the client has a session, 24 where the tenant has as many clients as it may have,
-    /// 26 where seats, tickets or the words of clients are used up, 30 where an allocation failed. A refusal changes nothing.
+    /// 26 where seats, tickets or the words of clients and clocks are used up, 30 where an allocation failed. A refusal changes nothing.
     pub fn seat<R: Wait>(
         &self,
         rt: &R,
@@ -303,6 +295,9 @@ impl<G: Gate + Naming> Hub<G> {
         let mut guard = self.clients.lock(rt);
         let clients = &mut *guard;
         let admission = clients.register.offer(tenant, client, base, limits)?;
+        let Some(clock) = self.clocks.of(tenant) else {
+            return Err(Refusal::RowsUsed);
+        };
         let ends = match self.ends(rt, client, admission.counter) {
             Ok(ends) => ends,
             Err(_) => return Err(Refusal::OutOfMemory),
@@ -319,7 +314,7 @@ impl<G: Gate + Naming> Hub<G> {
         };
         let mut seen = self.seen.again();
         seen.learn(&word.seen());
-        Ok(Seat::new(self, name, admission.ticket, ends, seen, word))
+        Ok(Seat::new(self, name, admission.ticket, ends, seen, word, clock))
     }
 
     /// From now on each collection of this tenant keeps so many committed versions of an item. It begins with as many as its

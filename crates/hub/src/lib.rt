@@ -9,6 +9,8 @@
 //!   home's.
 //! - A COMMIT takes its partition's lock anew, also where the last Prepared came under it: no difference was
 //!   measured.
+//! - Draws and reports share a clock's one word, so what is drawn behind a report is above it. Reads look at it in
+//!   every mode, for one load each: a store without reports answers and records as before.
 //! - `Seat::learn` is for programs that pass on what a seat has seen; a server's sessions need none.
 //! - A close looks at every partition's word before it takes a book. What is known of one partition ends at the
 //!   last look, and a later one may show more. The numbers go into a list reserved at opening, since a close takes
@@ -44,6 +46,7 @@ pub use partition::Usage;
 pub use read_laws::{
     puts_by_clock_rise, seat_lists_are_atomic, seat_lists_are_fresh, seat_puts_are_committed,
     seat_reads_are_atomic, seat_reads_are_fresh, seat_reads_miss_no_put_that_was_done,
+    seat_reads_miss_no_put_that_was_reported,
 };
 pub use seat::Seat;
 pub use shard::{Gate, Named, Sink, TenantUsage};

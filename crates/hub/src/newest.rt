@@ -59,7 +59,9 @@ impl<'a, G: Gate + Naming> Seat<'a, G> {
         }
         let hub = self.hub;
         match keys_of(hub.alloc, items) {
-            Ok(keys) => self.get_all_into(rt, keys.as_slice(), answer),
+            Ok(keys) => {
+                self.get_all_into(rt, keys.as_slice(), answer);
+            }
             Err(AllocError) => tell_refusal(Refusal::OutOfMemory, answer),
         }
     }

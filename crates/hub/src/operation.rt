@@ -54,6 +54,8 @@ pub(crate) struct RunningOperation<'a, G: Naming> {
     pub(crate) mark: Mark,
     /// Its client's word, until the session has ended.
     pub(crate) client: Option<TracedClient<G>>,
+    /// Its tenant's clock.
+    clock: &'a Tally<G>,
     /// How many calls were sent before this operation: its own are numbered on from there.
     pub(crate) first: u64,
     /// The room in which its answer is entered, until it is.
@@ -65,6 +67,7 @@ pub(crate) struct RunningOperation<'a, G: Naming> {
     ghost numbers: { first ≤ 2 ^ 62 },
     ghost opened: { session.is_open ≡ true },
     ghost whose: { IsOfClient name client },
+    ghost clocked: { IsClockOf clock.now.key name.tenant },
     ghost legal: { ∥ IsLegal seen ∥₁ },
     ghost marked: { HasMark seen mark },
 }
@@ -236,7 +239,7 @@ fn enter_given_up<G: Naming>(
 }
 
 impl<'a, G: Gate + Naming> RunningOperation<'a, G> {
-    ghost use Rattle.std.specs.Prelude.{◌≡◌, ◌<◌, ◌≤◌, ◌+◌, ◌^◌, ℕ, [], ◌∷◌, ◌++◌, List, Option, true, false, None, Some, Ok, Err, OnOk, OnErr, IsSome, IsNone, IsTrue, ◌↔◌, length, map, slice_get};
+    ghost use Rattle.std.specs.Prelude.{◌≡◌, ◌<◌, ◌≤◌, ◌+◌, ◌^◌, ℕ, [], ◌∷◌, ◌++◌, List, Option, true, false, None, Some, Ok, Err, IfOk, OnOk, OnErr, IsSome, IsNone, IsTrue, ◌↔◌, length, map, slice_get};
     ghost use Rattle.stamps.specs.Bounds.{IsParts};
     ghost use Rattle.plain_store.specs.declared.calls.Reply.{Reply as Served};
     ghost use Rattle.plain_store.specs.declared.answer.Answer.{Answer as Said};
@@ -246,7 +249,7 @@ impl<'a, G: Gate + Naming> RunningOperation<'a, G> {
     ghost use Rattle.entry_list.specs.declared.kinds.Entry.{Entry as Entered};
     ghost use Rattle.shard.specs.declared.jobs.Fault.{Fault as Broken};
     ghost use Rattle.hub.specs.Limits.{max_calls};
-    ghost use Rattle.hub.specs.Operating.{GoesOnAs, IsSameSeat, IsUnderWayAt, KeepsSession, OnlyEnters, OnlySends, ReadsAt, StillFollows, StillServed};
+    ghost use Rattle.hub.specs.Operating.{BeginsAs, GoesOnAs, IsSameSeat, IsUnderWayAt, KeepsSession, OnlyEnters, OnlySends, ReadsAt, SeesMore, StillFollows, StillServed};
     ghost use Rattle.hub.specs.Rooms.{HasPlaces, HasRoom, awaited};
     ghost use Rattle.tenant_sessions.specs.CallsLeft.{calls_left, calls_waiting, calls_sent};
     ghost use Rattle.plain_store.specs.declared.refusal.Refusal.{Refusal as Why};
@@ -257,7 +260,8 @@ impl<'a, G: Gate + Naming> RunningOperation<'a, G> {
     ghost use Rattle.hub.specs.Sights.{OperationSight, operation_of, sight_of};
     ghost use mathlib.Core.List.{IsPrefix};
     ghost use Rattle.hub.specs.Replies.{AreServed, IsDrawn, IsStampOf, IfShows, IsToldFor, IsToldOf, IsUnder};
-    ghost use Rattle.hub.specs.Evidence.{HasOwnReadEntry};
+    ghost use Rattle.hub.specs.Evidence.{HasOwnReadEntry, IsLookedAt};
+    ghost use Rattle.hub.specs.Clocks.{IsReported};
     ghost use Rattle.hub.specs.Evidence.{no_mark};
     ghost use Rattle.stamps.specs.Stamp.{stamp};
     ghost use Rattle.hub.specs.Seats.{at_seat, is_final, is_unrecorded, outcome_of, spare, EndsSo, Follows, Extends};
@@ -283,9 +287,11 @@ impl<'a, G: Gate + Naming> RunningOperation<'a, G> {
         readings: Box<Readings>,
         seen: Front<G>,
         client: TracedClient<G>,
+        clock: &'a Tally<G>,
     ) -> RunningOperation<'a, G>
         requires open { session.is_open ≡ true }
         requires whose { IsOfClient name (Some client) }
+        requires clock { IsClockOf clock.now.key name.tenant }
         requires legal { ∥ IsLegal seen ∥₁ }
         ensures given { (result.name ≡ name) × (result.dispatcher ≡ dispatcher.entry)
             × (result.session ≡ session) × (result.readings ≡ readings) × (result.seen ≡ seen) }
@@ -300,6 +306,7 @@ impl<'a, G: Gate + Naming> RunningOperation<'a, G> {
             seen,
             mark: NO_MARK,
             client: Some(client),
+            clock,
             first: 0,
             place: None,
             fault: None,
@@ -307,24 +314,27 @@ impl<'a, G: Gate + Naming> RunningOperation<'a, G> {
         }
     }
 
-    /// Makes room for an operation in a store of so many partitions, for every call that it can send, whatever replies come, and
-    /// enters that it began. Where an allocation failed, nothing was entered.
+    /// Makes room for an operation in a store of so many partitions, for every call that it can send, whatever replies come, enters
+    /// that it began, and looks at its tenant's clock, as `look` does. Where an allocation failed, nothing was entered.
     pub(crate) fn prepare(
         &mut self,
         parts: u32,
         request: &SeatRequest<'_>,
-    ) -> Result<(), AllocError>
+    ) -> Result<u64, AllocError>
         requires { IsParts parts }
         ensures began { OnOk result (self.new.entries.items
             ≡ self.old.entries.items
             ++ Entry.Began (act_of self.old.name.client request.now) ∷ []) }
-        ensures refused { OnErr result (self.new.entries.items ≡ self.old.entries.items) }
+        ensures refused { OnErr result ((self.new.entries.items ≡ self.old.entries.items)
+            × (self.new.seen ≡ self.old.seen)) }
+        ensures looked { IfOk result
+            (λ number. IsLookedAt request.now number self.new.name.tenant self.new.seen) }
         ensures room { OnOk result (max_calls + 5 ≤ self.new.entries.room) }
         ensures calls { OnOk result (HasRoom (calls_for parts request.now) self.new.dispatcher) }
         ensures place { OnOk result (IsSome self.new.place) }
         ensures fault { OnOk result (IsNone self.new.fault) }
         ensures awaited { awaited self.new.dispatcher ≡ awaited self.old.dispatcher }
-        ensures keeps { KeepsSession self.old self.new }
+        ensures keeps { BeginsAs self.old self.new }
         ensures first { self.new.first ≡ self.old.first }
     {
         self.dispatcher.reserve(request.most_calls(parts))?;
@@ -332,7 +342,30 @@ impl<'a, G: Gate + Naming> RunningOperation<'a, G> {
             .push_began(&request.lent(self.name.client), MOST_ROOM)?;
         self.place = Some(AnswerRoom);
         self.fault = None;
-        Ok(())
+        Ok(self.look(request))
+    }
+
+    /// Looks at its tenant's clock before a read or a search, and answers how many entries that has: of each put that was reported under
+    /// this number or a lower one, it has seen then all that the put's seat had seen. Before a put it does nothing.
+    pub(crate) fn look(&mut self, request: &SeatRequest<'_>) -> u64
+        ensures looked { IsLookedAt request.now result self.new.name.tenant self.new.seen }
+        ensures more { SeesMore self.old self.new }
+    {
+        match request {
+            SeatRequest::Put(_) => 0,
+            _ => self.seen.look(self.clock),
+        }
+    }
+
+    /// Reports to its tenant's clock, behind all that it has seen, and answers the number of that entry. None where the clock was overrun.
+    pub(crate) fn report(&mut self) -> Option<u64>
+        ensures reported { IsReported result self.old.seen self.new.seen self.old.name.tenant }
+        ensures more { SeesMore self.old self.new }
+    {
+        let mut front = self.seen.again();
+        let place = front.tell(self.clock, &self.seen, self.name.tenant);
+        self.learn(&front);
+        place
     }
 
     /// Runs the operation that was prepared, and writes its answer into the caller's buffer. It takes at most so many
@@ -413,21 +446,14 @@ impl<'a, G: Gate + Naming> RunningOperation<'a, G> {
     /// From now on it has seen what the other has.
     pub(crate) fn learn(&mut self, other: &Front<G>)
         ensures learned { IsPrefix other.now self.new.seen }
-        ensures later { IsPrefix self.old.seen self.new.seen }
-        ensures rest { (self.new.name ≡ self.old.name)
-            × (self.new.dispatcher ≡ self.old.dispatcher)
-            × (self.new.session ≡ self.old.session) × (self.new.first ≡ self.old.first)
-            × (self.new.place ≡ self.old.place) × (self.new.fault ≡ self.old.fault)
-            × (self.new.readings ≡ self.old.readings) × (self.new.entries ≡ self.old.entries)
-            × (self.new.mark ≡ self.old.mark) }
+        ensures more { SeesMore self.old self.new }
     {
         self.seen.learn(other);
     }
 
-    /// Draws from a clock above the session's counter, and raises that to one below what was drawn. Says whether it did; nothing has
-    /// changed where it did not.
-    pub(crate) fn draw(&mut self, clock: &Tally<G>) -> bool
-        requires clock { IsClockOf clock.now.key self.old.name.tenant }
+    /// Draws from its tenant's clock above the session's counter, and raises that to one below what was drawn. Says whether it did;
+    /// nothing has changed where it did not.
+    pub(crate) fn draw(&mut self) -> bool
         ensures drawn { IsTrue result → IsDrawnBehind self.old.seen self.new.seen
             (record { tenant = self.old.name.tenant; counter = self.new.session.counter + 1 }) }
         ensures later { IsPrefix self.old.seen self.new.seen }
@@ -440,7 +466,7 @@ impl<'a, G: Gate + Naming> RunningOperation<'a, G> {
     {
         let floor = self.session.counter().get();
         let mut front = self.seen.again();
-        let drawn = front.draw_next(clock, &self.seen, self.name.tenant, floor);
+        let drawn = front.draw_next(self.clock, &self.seen, self.name.tenant, floor);
         let Some(base) = counter_below(drawn) else {
             return false;
         };

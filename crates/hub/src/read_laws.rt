@@ -1,5 +1,5 @@
 //! What holds of each read and of each put of a seat. Each law is the contract of a function that does nothing.
-ghost use Rattle.std.specs.Prelude.{◌≡◌, ◌<◌, ℕ, List};
+ghost use Rattle.std.specs.Prelude.{◌≡◌, ◌<◌, ◌≤◌, ℕ, List};
 ghost use mathlib.Core.List.{IsPrefix};
 ghost use Rattle.entry_list.specs.declared.kinds.Entry.{Entry};
 ghost use Rattle.plain_store.specs.declared.reading.Reading.{Reading};
@@ -9,8 +9,8 @@ ghost use Rattle.history.specs.declared.entry.HistoryEntry.{HistoryEntry};
 ghost use Rattle.traced_client.specs.Clients.{HasWith};
 ghost use Rattle.hub.specs.Atomic.{IsReadAtomic};
 ghost use Rattle.shard.specs.declared.seat_name.SeatName.{SeatName};
-ghost use Rattle.hub.specs.Clocks.{IsStampedBehind};
-ghost use Rattle.hub.specs.Fresh.{AreCommittedIn, IsNotMissed, IsReadFresh};
+ghost use Rattle.hub.specs.Clocks.{IsStampedBehind, WasReported};
+ghost use Rattle.hub.specs.Fresh.{AreCommittedIn, IsFreshAt, IsNotMissed, IsReadFresh};
 ghost use Rattle.hub.specs.Replies.{IsListOf, IsReadOf, IsWriteOf};
 ghost use Rattle.hub.specs.Sights.{OperationSight};
 
@@ -74,4 +74,14 @@ pub fn seat_reads_miss_no_put_that_was_done()
         (told : List Reading)
         → IsLegal seen → IsPrefix seen before → AreCommittedIn seen tenant items own
         → IsReadFresh before tenant told → IsNotMissed items own told }
+{}
+
+/// A read misses no put that was reported to its tenant's clock under the number that the read found there, or under a lower one,
+/// whichever session wrote it. Here `log` is the history of both: the put's seat had seen `put` of it at its end, and the reader's `seen`.
+pub fn seat_reads_miss_no_put_that_was_reported()
+    ensures { (log put old seen : List HistoryEntry) (name : SeatName) (items : List Item)
+        (own : Stamp) (place number : ℕ) (told : List Reading)
+        → IsLegal log → IsPrefix put log → IsPrefix seen log
+        → WasReported items put name.tenant place own → IsFreshAt number old seen name told
+        → place ≤ number → IsNotMissed items own told }
 {}

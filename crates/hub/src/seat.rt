@@ -3,12 +3,14 @@ ghost use Rattle.std.specs.Prelude.{◌≡◌, ◌<◌, ◌≤◌, ◌+◌, ◌�
 ghost use Rattle.plain_store.specs.declared.step.Act.TheVariants.{Put, Get as GetAll, Find};
 ghost use mathlib.Core.List.{IsPrefix};
 ghost use Rattle.history.specs.Legal.{HasParts, IsLegal};
+ghost use Rattle.history.specs.Rules.{IsClockOf};
 ghost use Rattle.hub.specs.Rooms.{awaited};
 ghost use Rattle.hub.specs.Limits.{last_call, max_calls};
 ghost use Rattle.hub.specs.Operations.{IsLater, IsOperation, ReportsList, ReportsRead, ReportsWrite};
 ghost use Rattle.hub.specs.Atomic.{IsReadAtomic};
-ghost use Rattle.hub.specs.Fresh.{AreCommittedIn, IsFreshByEntry};
-ghost use Rattle.hub.specs.Evidence.{HasOwnReadEntry, IsOfClient, no_mark};
+ghost use Rattle.hub.specs.Clocks.{HasSeenMore};
+ghost use Rattle.hub.specs.Fresh.{AreCommittedIn, IsFreshAt, IsFreshByEntry};
+ghost use Rattle.hub.specs.Evidence.{HasEntryAt, IsOfClient, no_mark};
 ghost use Rattle.hub.specs.Replies.{IfDone, IfListed, IfRead, IfShows, IsDrawn, IsToldFor};
 ghost use Rattle.hub.specs.Requests.{act_of};
 ghost use Rattle.hub.specs.Seats.{SeatView, Extends, IsEntered, IsNamed, begun_entries, is_unbegun, last_operation};
@@ -21,7 +23,7 @@ use crate::operation::{RunningOperation, tell_refusal};
 use crate::register::Departure;
 use crate::seat_request::SeatRequest;
 use closed_store::{Entry, EntryList, Transcript};
-use history::{Front, Naming};
+use history::{Front, Naming, Tally};
 use plain_store::{Answer, Readings, Refusal};
 use shard::{Fault, Gate, SeatName};
 use stamps::{Counter, Item, Key, Tag};
@@ -75,8 +77,10 @@ impl<'a, G: Gate + Naming> Seat<'a, G> {
         ends: Ends<'a, G>,
         seen: Front<G>,
         client: TracedClient<G>,
+        clock: &'a Tally<G>,
     ) -> Seat<'a, G>
         requires whose { IsOfClient name (Some client) }
+        requires clock { IsClockOf clock.now.key name.tenant }
         requires legal { ∥ IsLegal seen ∥₁ }
         requires of_store { ∥ HasParts seen hub.now.parts ∥₁ }
         ensures seen { result.seen ≡ seen }
@@ -92,7 +96,7 @@ impl<'a, G: Gate + Naming> Seat<'a, G> {
         Seat {
             hub,
             operation: RunningOperation::new(
-                hub.alloc, name, dispatcher, session, readings, seen, client,
+                hub.alloc, name, dispatcher, session, readings, seen, client, clock,
             ),
             ticket,
             stopped: false,
@@ -125,8 +129,7 @@ impl<'a, G: Gate + Naming> Seat<'a, G> {
     /// committed by that.
     pub fn learn(&mut self, other: &Front<G>)
         ensures learned { IsPrefix other.now self.new.seen }
-        ensures later { IsPrefix self.old.seen self.new.seen }
-        ensures rest { self.new ≡ record self.old { seen = self.new.seen } }
+        ensures more { HasSeenMore self.old self.new }
     {
         self.operation.learn(other);
     }
@@ -205,7 +208,11 @@ impl<'a, G: Gate + Naming> Seat<'a, G> {
     }
 
     /// As `get_all`, with the answer written into the caller's buffer.
-    pub fn get_all_into<R: Wait>(&mut self, rt: &R, keys: &[Key], answer: &mut Answer)
+    ///
+    /// It looks at its tenant's clock as it begins, and returns how many entries that had. A put by the clock that was reported under
+    /// this number or a lower one is not missed: what is read of its keys is of that put, or of a greater stamp. The number says nothing
+    /// where nothing is read.
+    pub fn get_all_into<R: Wait>(&mut self, rt: &R, keys: &[Key], answer: &mut Answer) -> u64
         ensures operated { IsOperation
             (GetAll self.old.name.client keys.now) self.old answer.new self.new }
         ensures read { ReportsRead keys.now self.old answer.new self.new }
@@ -213,8 +220,10 @@ impl<'a, G: Gate + Naming> Seat<'a, G> {
             (λ told. ∥ IsReadAtomic self.new.seen self.new.name.tenant told ∥₁) }
         ensures fresh { IfRead answer.new
             (λ told. IsFreshByEntry self.old.seen self.new.seen self.new.name told) }
+        ensures looked { IfRead answer.new
+            (λ told. IsFreshAt result self.old.seen self.new.seen self.new.name told) }
     {
-        self.run(rt, &SeatRequest::Get(keys), usize::MAX, answer);
+        self.run(rt, &SeatRequest::Get(keys), usize::MAX, answer)
     }
 
     /// Finds the items that carry the tag, and returns when all calls were answered. The refusals are those of `put_all`.
@@ -235,8 +244,8 @@ impl<'a, G: Gate + Naming> Seat<'a, G> {
         answer
     }
 
-    /// As `find`, with the answer written into the caller's buffer.
-    pub fn find_into<R: Wait>(&mut self, rt: &R, tag: Tag, answer: &mut Answer)
+    /// As `find`, with the answer written into the caller's buffer, and the number that `get_all_into` returns.
+    pub fn find_into<R: Wait>(&mut self, rt: &R, tag: Tag, answer: &mut Answer) -> u64
         ensures operated { IsOperation
             (Find self.old.name.client tag) self.old answer.new self.new }
         ensures listed { ReportsList tag self.old answer.new self.new }
@@ -244,8 +253,10 @@ impl<'a, G: Gate + Naming> Seat<'a, G> {
             (λ told. ∥ IsReadAtomic self.new.seen self.new.name.tenant told ∥₁) }
         ensures fresh { IfListed answer.new
             (λ told. IsFreshByEntry self.old.seen self.new.seen self.new.name told) }
+        ensures looked { IfListed answer.new
+            (λ told. IsFreshAt result self.old.seen self.new.seen self.new.name told) }
     {
-        self.run(rt, &SeatRequest::Find(tag), usize::MAX, answer);
+        self.run(rt, &SeatRequest::Find(tag), usize::MAX, answer)
     }
 
     /// Begins to write the items, takes at most so many replies, and ends the session. What its moves ask for is sent before
@@ -286,8 +297,15 @@ impl<'a, G: Gate + Naming> Seat<'a, G> {
         }
     }
 
-    /// Runs an operation, takes at most so many replies, and writes its answer into the caller's buffer.
-    fn run<R: Wait>(&mut self, rt: &R, request: &SeatRequest<'_>, takes: usize, answer: &mut Answer)
+    /// Runs an operation, takes at most so many replies, and writes its answer into the caller's buffer. It answers how many entries its
+    /// tenant's clock had as a read or a search began.
+    fn run<R: Wait>(
+        &mut self,
+        rt: &R,
+        request: &SeatRequest<'_>,
+        takes: usize,
+        answer: &mut Answer,
+    ) -> u64
         ensures entered { IsEntered
             (act_of self.old.name.client request.now) self.old answer.new self.new }
         ensures stopped { (answer.new ≡ Answer.Refused Refusal.Stopped)
@@ -299,26 +317,27 @@ impl<'a, G: Gate + Naming> Seat<'a, G> {
             (IsDrawn self.old.name.client self.old.counter self.new.counter) request.now answer.new
             (begun_entries self.old (act_of self.old.name.client request.now)) self.new.entries }
         ensures few { replies_in self.new.entries ≤ replies_in self.old.entries + takes }
-        // A read has its entry behind all that was seen before.
+        // A read has its entry behind all that was seen before, and what its look at the clock showed.
         ensures since { IfShows request.now answer.new
-            (HasOwnReadEntry self.new.name self.new.mark self.new.seen self.old.seen) }
+            (HasEntryAt result self.new.name self.new.mark self.new.seen self.old.seen) }
         ensures legal { ∥ IsLegal self.new.seen ∥₁ }
         ensures of_store { ∥ HasParts self.new.seen self.old.parts ∥₁ }
     {
         if let Some(refusal) = self.refuses() {
             tell_refusal(refusal, answer);
-            return;
+            return 0;
         }
         let hub = self.hub;
         let parts = hub.parts();
-        let Ok(()) = self.operation.prepare(parts, request) else {
+        let Ok(number) = self.operation.prepare(parts, request) else {
             tell_refusal(Refusal::OutOfMemory, answer);
-            return;
+            return 0;
         };
         let told = self.operation.perform(rt, parts, request, takes, answer);
         self.stopped = told.is_err();
         let sent = self.operation.count();
         self.finish(rt, sent, told, answer);
+        number
     }
 
     /// Why it begins no operation, if it does not.

@@ -31,7 +31,7 @@ returns-else-epoch-eq0-clause-answered g c = λ is.
     let items = c.as_slice-items.result.now in
     let put = clocked epoch items c.args.seat.now c.put_by_clock_into.new.self c.put_by_clock_into.new.answer
     (λ none. c.if-epoch-eq0.false (c.epoch.ensures ∙ none))
-    c.put_by_clock_into.ensures in (
+    c.put_by_clock_into.ensures.put in (
       c.put_by_clock_into.new.answer,
       refl,
       asked_put c.args.newest epoch _ c.args.request.now _ items c.args.seat.now c.put_by_clock_into.new.self c.put_by_clock_into.new.answer c.in-Put.is c.as_slice-items.ensures

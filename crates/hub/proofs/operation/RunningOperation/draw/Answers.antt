@@ -10,4 +10,4 @@ returns-clause-drawn g c did =
     let session = self.session in
     drawn_below self.seen c.draw_next-drawn.new.self c.learn.new.self.seen self.name.tenant session.counter c.in-Some.base c.reopen.new.self.counter c.draw_next-drawn.result c.in-Some.ensures
     c.draw_next-drawn.ensures.drawn (subst (λ (n : ℕ). IfSome c.draw_next-drawn.result (λ counter. n < counter)) (c.get-floor.ensures.value ∙ c.counter.ensures) c.draw_next-drawn.ensures.floor) c.learn.ensures.learned
-    (raised session c.learn.new.self.session c.stop.new.self c.reopen.new.self c.in-Some.base c.learn.ensures.rest.2 self.opened c.stop.ensures.after c.reopen.ensures.after)
+    (raised session c.learn.new.self.session c.stop.new.self c.reopen.new.self c.in-Some.base c.learn.ensures.more.session self.opened c.stop.ensures.after c.reopen.ensures.after)

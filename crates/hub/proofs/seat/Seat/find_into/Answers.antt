@@ -6,6 +6,7 @@ use Rattle.hub.specs.Seats.{last_operation}
 use Rattle.hub.proofs.Atomic.{lists_atomic}
 use Rattle.hub.proofs.Fresh.{lists_fresh}
 use Rattle.hub.proofs.Replies.{both_listed, if_listed}
+use Rattle.hub.proofs.Reported.{fresh_at, fresh_before}
 use Rattle.hub.proofs.seat.Seat.find_into.Goals as goal
 
 pub returns-clause-operated : goal.returns-clause-operated
@@ -19,20 +20,19 @@ returns-clause-atomic g c =
     if_listed c.run.new.answer _ _ (λ told is. ∥∥₁_map c.run.ensures.legal (λ legal. lists_atomic (last_operation now) setup c.args.tag _ now.entries told legal is)) (c.run.ensures.told setup refl)
 
 -- what had been committed before its entry is not missed
-pub returns-clause-fresh : goal.returns-clause-fresh
-returns-clause-fresh g c =
+pub returns-clause-looked : goal.returns-clause-looked
+returns-clause-looked g c =
     let before = c.args.self.now in
     let now = c.run.new.self in
     let setup : Setup = record { partitions = before.parts; room = record { slots = 0; items = 0; clients = 0 }; keep = 0 } in
     both_listed c.run.new.answer _ _ _
-    (λ told since is. record {
-      word = now.mark.word;
-      joined = since.joined;
-      before = since.entry.before;
-      after = since.entry.after;
-      stands = since.entry.stands;
-      behind = since.entry.behind;
-      fresh = λ reading stamp has committed. ∥∥₁_elim c.run.ensures.legal le_prop (λ legal.
-          lists_fresh (last_operation now) since.entry.before setup c.args.tag _ now.entries told legal since.entry.marked is reading stamp has committed);
-    })
+    (λ told since is.
+    fresh_at c.run.result before.seen now.seen now.name now.mark told since (λ reading stamp has committed.
+    ∥∥₁_elim c.run.ensures.legal le_prop (λ legal.
+    lists_fresh (last_operation now) since.entry.entry.before setup c.args.tag _ now.entries told legal since.entry.entry.marked is reading stamp has committed)))
     c.run.ensures.since (c.run.ensures.told setup refl)
+
+pub returns-clause-fresh : goal.returns-clause-fresh
+returns-clause-fresh g c =
+    let now = c.run.new.self in
+    if_listed c.run.new.answer _ _ (λ told is. fresh_before c.run.result c.args.self.now.seen now.seen now.name told is) (returns-clause-looked g c)

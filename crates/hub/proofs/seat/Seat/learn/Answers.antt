@@ -7,6 +7,6 @@ use Rattle.hub.proofs.seat.Seat.learn.Goals as goal
 pub invariant_of-self-inside : goal.invariant_of-self-inside
 invariant_of-self-inside g c =
     let before = c.self.inside in (
-      λ going. ap (λ q. q.served + q.queued) c.learn.ensures.rest.1 ∙ before.answered going,
-      (∥∥₁_map before.of_store (has_parts_later before.operation.seen c.learn.new.self.seen before.hub.now.parts c.learn.ensures.later), tt),
+      λ going. ap (λ q. q.served + q.queued) c.learn.ensures.more.dispatcher ∙ before.answered going,
+      (∥∥₁_map before.of_store (has_parts_later before.operation.seen c.learn.new.self.seen before.hub.now.parts c.learn.ensures.more.seen), tt),
     )

@@ -1,19 +1,18 @@
-use Rattle.std.proofs.Common.{◌≡◌, ◌<◌, ℕ, true, false, ap, refl, subst, sym, ◌∙◌}
+use Rattle.std.proofs.Common.{◌≡◌, None, true, false, ap, refl, subst, sym, ◌∙◌}
 use Rattle.plain_store.specs.declared.answer.Answer.{Answer}
 use Rattle.plain_store.specs.declared.answer.Answer.TheVariants.{Refused}
 use Rattle.plain_store.specs.declared.refusal.Refusal.TheVariants.{RowsUsed, Stopped}
 use Rattle.hub.specs.Fresh.{AreCommittedIn}
-use Rattle.hub.specs.Limits.{last_call, max_calls}
-use Rattle.hub.specs.Seats.{SeatView}
-use Rattle.hub.specs.Replies.{IfDone, IsDrawn}
-use Rattle.hub.specs.Clocks.{IsStampedBehind}
-use Rattle.hub.proofs.Clocked.{later_looked, looked_same, refused_as, stamped_behind, write_refused}
+use Rattle.hub.specs.Limits.{max_calls}
+use Rattle.hub.specs.Replies.{IfDone}
+use Rattle.hub.specs.Clocks.{IsStampedBehind, ReportsDone}
+use Rattle.hub.proofs.Clocked.{later_looked, looked_same, put_drawn, refused_as, write_refused}
 use Rattle.hub.proofs.Operations.{later-same}
-use Rattle.hub.proofs.Replies.{if_done}
+use Rattle.hub.proofs.Reported.{done_is, put_reported, reports_done, unreported}
 use Rattle.hub.proofs.seat.Seat.put_by_clock_into.Goals as goal
 
-pub returns-in-Some : goal.returns-in-Some
-returns-in-Some g c =
+pub returns-in-Some-clause-put : goal.returns-in-Some-clause-put
+returns-in-Some-clause-put g c =
     let seat = c.args.self.now in
     let is = c.tell_refusal.ensures in
     record {
@@ -27,9 +26,12 @@ returns-in-Some g c =
       committed = subst (λ (a : Answer). IfDone a (AreCommittedIn seat.seen seat.name.tenant c.args.items.now)) (sym is) tt;
     }
 
+pub returns-in-Some-clause-reported : goal.returns-in-Some-clause-reported
+returns-in-Some-clause-reported g c = subst (λ (a : Answer). ReportsDone None c.args.items.now c.args.self.now a c.args.self.now) (sym c.tell_refusal.ensures) tt
+
 -- it drew nothing, and is as it was
-pub returns-then-not-draw : goal.returns-then-not-draw
-returns-then-not-draw g c =
+pub returns-then-not-draw-clause-put : goal.returns-then-not-draw-clause-put
+returns-then-not-draw-clause-put g c =
     let seat = c.draw.new.self in
     let is = c.tell_refusal-then-not-draw.ensures in
     record {
@@ -43,21 +45,33 @@ returns-then-not-draw g c =
       committed = subst (λ (a : Answer). IfDone a (AreCommittedIn seat.seen seat.name.tenant c.args.items.now)) (sym is) tt;
     }
 
-pub returns : goal.returns
-returns g c =
+pub returns-then-not-draw-clause-reported : goal.returns-then-not-draw-clause-reported
+returns-then-not-draw-clause-reported g c = subst (λ (a : Answer). ReportsDone None c.args.items.now c.args.self.now a c.draw.new.self) (sym c.tell_refusal-then-not-draw.ensures) tt
+
+pub returns-then-not-is_done-clause-put : goal.returns-then-not-is_done-clause-put
+returns-then-not-is_done-clause-put g c =
+    put_drawn c.args.items.now c.args.self.now c.draw.new.self c.put_all_into.new.self c.put_all_into.new.answer c.draw.ensures.looked (c.draw.ensures.drawn c.if-not-draw.false) c.put_all_into.ensures.operated
+    c.put_all_into.ensures.stamp c.put_all_into.ensures.written c.put_all_into.ensures.committed
+
+pub returns-then-not-is_done-clause-reported : goal.returns-then-not-is_done-clause-reported
+returns-then-not-is_done-clause-reported g c = unreported c.put_all_into.new.answer _ _ (sym c.is_done.ensures ∙ c.if-not-is_done.true) c.put_all_into.ensures.stamp
+
+-- it is done, and reported
+pub returns-clause-put : goal.returns-clause-put
+returns-clause-put g c =
+    let mid = c.put_all_into.new.self in
+    let answer = c.put_all_into.new.answer in
+    let done = done_is answer (sym c.is_done.ensures ∙ c.if-not-is_done.false) in
+    put_reported c.args.items.now c.args.self.now mid c.report.new.self answer done.0 done.1 c.report.ensures.legal c.report.ensures.more
+    (put_drawn c.args.items.now c.args.self.now c.draw.new.self mid answer c.draw.ensures.looked (c.draw.ensures.drawn c.if-not-draw.false) c.put_all_into.ensures.operated c.put_all_into.ensures.stamp c.put_all_into.ensures.written
+    c.put_all_into.ensures.committed)
+
+pub returns-clause-reported : goal.returns-clause-reported
+returns-clause-reported g c =
     let old = c.args.self.now in
     let drawn = c.draw.new.self in
-    let new = c.put_all_into.new.self in
-    let done = c.put_all_into.ensures.operated in
-    record {
-      between = drawn;
-      looked = c.draw.ensures.looked;
-      written = record { entered = done.entered; stamp = c.put_all_into.ensures.stamp; written = c.put_all_into.ensures.written };
-      later = later_looked old drawn new c.draw.ensures.looked done.later;
-      stopped = (λ same. sym (ap (λ (s : SeatView). s.stopped) c.draw.ensures.looked.rest) ∙ done.stopped.0 same, λ at. done.stopped.1 (ap (λ (s : SeatView). s.stopped) c.draw.ensures.looked.rest ∙ at));
-      used_up = λ used. done.past.1 (ap (λ (s : SeatView). s.stopped) c.draw.ensures.looked.rest ∙ used.0, subst (λ (n : ℕ). last_call < n) (sym (ap (λ (s : SeatView). s.sent) c.draw.ensures.looked.rest)) used.1);
-      drawn = if_done c.put_all_into.new.answer (IsDrawn drawn.name.client drawn.counter new.counter) (IsStampedBehind old.seen new.seen old.name)
-          (λ own is. stamped_behind old.seen drawn.seen new.seen old.name drawn.name.client drawn.counter new.counter own (ap (λ (s : SeatView). s.name.client) c.draw.ensures.looked.rest) done.later.seen
-          (c.draw.ensures.drawn c.if-not-draw.false) is) c.put_all_into.ensures.stamp;
-      committed = c.put_all_into.ensures.committed;
-    }
+    let mid = c.put_all_into.new.self in
+    let answer = c.put_all_into.new.answer in
+    let done = done_is answer (sym c.is_done.ensures ∙ c.if-not-is_done.false) in
+    let later = later_looked old drawn mid c.draw.ensures.looked c.put_all_into.ensures.operated.later in
+    reports_done c.report.result c.args.items.now old mid c.report.new.self answer done.0 done.1 c.put_all_into.ensures.committed (ap (λ n. n.tenant) later.name) later.seen c.report.ensures.more c.report.ensures.reported

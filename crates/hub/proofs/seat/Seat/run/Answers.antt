@@ -16,13 +16,14 @@ use Rattle.hub.specs.Sights.{OperationSight, operation_of, sight_of}
 use Rattle.history.specs.declared.entry.Mark.{Mark}
 use Rattle.history.proofs.Following.{has_parts_later}
 use Rattle.history.proofs.Lists.{prefix_join}
-use Rattle.hub.specs.Evidence.{HasOwnReadEntry}
+use Rattle.hub.specs.Evidence.{HasEntryAt, HasOwnReadEntry}
 use Rattle.hub.specs.Taken.{replies_in}
 use Rattle.hub.proofs.Taking.{replies-other}
 use Rattle.hub.proofs.Entries.{follows-extends, extends-after, answer-entered, on_ok, fault-left, recorded-goes-on}
 use Rattle.hub.proofs.Given.{prefix_is, operations, served-began, served-same, sights}
 use Rattle.hub.proofs.Operations.{entered-as, later-same, unbegun-entered}
 use Rattle.hub.proofs.Replies.{reads-refused, reads-run, shows_refused, shows_run}
+use Rattle.hub.proofs.Reported.{entry_at}
 use Rattle.hub.proofs.seat.Seat.run.Goals as goal
 
 -- where it goes on, no reply is still to come; and what it sees is of the same store
@@ -30,7 +31,7 @@ pub invariant_of-self-inside-2 : goal.invariant_of-self-inside-2
 invariant_of-self-inside-2 g c =
     let before = c.self.inside in
     let going = ap (λ (s : SeatView). s.stopped) c.self.view_is ∙ c.in_default.ensures.open.0 in
-    let later = prefix_join _ _ _ (prefix_is _ _ (sym c.in-Ok.ensures.keeps.seen)) (prefix_join _ _ _ c.perform-told.ensures.goes_on.seen (prefix_is _ _ (sym c.count-sent.ensures.keeps.seen))) in (
+    let later = prefix_join _ _ _ c.in-Ok.ensures.keeps.seen (prefix_join _ _ _ c.perform-told.ensures.goes_on.seen (prefix_is _ _ (sym c.count-sent.ensures.keeps.seen))) in (
       λ well. ap (λ q. q.served + q.queued) c.count-sent.ensures.dispatcher
           ∙ ended c.perform-told.result (sym c.is_err-self-inside.ensures.value ∙ well) (c.perform-told.ensures.awaited (c.in-Ok.ensures.awaited ∙ before.answered going)),
       (∥∥₁_map before.of_store (has_parts_later before.operation.seen c.count-sent.new.self.seen before.hub.now.parts later), tt),
@@ -81,7 +82,7 @@ returns-clause-later g c =
       name = (ap (λ (s : SeatView). s.name) c.finish.ensures.stays) ∙ c.count-sent.ensures.keeps.name ∙ c.perform-told.ensures.goes_on.name ∙ named;
       parts = (ap (λ (s : SeatView). s.parts) c.finish.ensures.stays) ∙ ap (λ (s : SeatView). s.parts) c.self.view_is;
       kept = rw same (extends-after start _ _ (follows-extends _ told.0 entries (subst (λ (es : List Entry). Follows es told.0 entries) started told.1)));
-      seen = prefix_join _ _ _ (prefix_is _ _ (sym (c.in-Ok.ensures.keeps.seen ∙ ap (λ (s : SeatView). s.seen) c.self.view_is))) (prefix_join _ _ _ c.perform-told.ensures.goes_on.seen (prefix_is _ _ (sym seen)));
+      seen = prefix_join _ _ _ (prefix_join _ _ _ (prefix_is _ _ (sym (ap (λ (s : SeatView). s.seen) c.self.view_is))) c.in-Ok.ensures.keeps.seen) (prefix_join _ _ _ c.perform-told.ensures.goes_on.seen (prefix_is _ _ (sym seen)));
       served = served-same (sight_of name c.perform-told.new.self.seen) (sight c.finish.new.self) c.prepare.new.self.first c.args.self.now.sent last c.finish.new.self.sent start entries c.finish.new.self.entries
           (sights _ _ _ _ ((ap (λ (s : SeatView). s.name) c.finish.ensures.stays) ∙ c.count-sent.ensures.keeps.name ∙ c.perform-told.ensures.goes_on.name) seen) (sym since) later same
           (c.perform-told.ensures.served start (served-began (sight_of name c.prepare.new.self.seen) _ _ start _ _ started));
@@ -134,23 +135,23 @@ returns-in-Some-clause-legal g c =
     let P : List HistoryEntry → Type 0 = λ l. ∥ IsLegal l ∥₁ in
     subst P (ap (λ (s : SeatView). s.seen) c.self.view_is) c.self.inside.operation.legal
 
--- a read has its entry behind what was seen before
+-- a read has its entry behind what was seen before, and what its look showed
 pub returns-clause-since : goal.returns-clause-since
 returns-clause-since g c =
     let now = c.finish.new.self in
     let request = c.args.request.now in
     let ran = c.perform-told.new.self in
-    let kept = c.in-Ok.ensures.keeps.seen ∙ ap (λ (s : SeatView). s.seen) c.self.view_is in
+    let found = c.prepare.new.self.seen in
+    let behind = prefix_join _ _ _ (prefix_is _ _ (sym (ap (λ (s : SeatView). s.seen) c.self.view_is))) c.in-Ok.ensures.keeps.seen in
     let seen = ap (λ (s : SeatView). s.seen) c.finish.ensures.stays ∙ c.count-sent.ensures.keeps.seen in
     let marked = ap (λ (s : SeatView). s.mark) c.finish.ensures.stays ∙ c.count-sent.ensures.keeps.mark in
     let whose = c.prepare.new.self.name in
     let named = ap (λ (s : SeatView). s.name) c.finish.ensures.stays ∙ (c.count-sent.ensures.keeps.name ∙ c.perform-told.ensures.goes_on.name) in
-    let N : SeatName → Type 0 = λ n. IfShows request c.finish.new.answer (HasOwnReadEntry n now.mark now.seen c.args.self.now.seen) in
-    let P : List HistoryEntry → Type 0 = λ l. IfShows request c.finish.new.answer (HasOwnReadEntry whose now.mark now.seen l) in
-    let Q : Mark → Type 0 = λ m. IfShows request c.finish.new.answer (HasOwnReadEntry whose m now.seen c.prepare.new.self.seen) in
-    let R : List HistoryEntry → Type 0 = λ l. IfShows request c.finish.new.answer (HasOwnReadEntry whose ran.mark l c.prepare.new.self.seen) in
-    subst N (sym named) (subst P kept (subst Q (sym marked) (subst R (sym seen)
-    (shows_run c.perform-told.result request c.perform-told.new.answer c.finish.new.answer (HasOwnReadEntry whose ran.mark ran.seen c.prepare.new.self.seen) c.perform-told.ensures.since c.finish.ensures.served c.finish.ensures.refused))))
+    let N : SeatName → Type 0 = λ n. IfShows request c.finish.new.answer (HasEntryAt c.in-Ok.number n now.mark now.seen c.args.self.now.seen) in
+    let Q : Mark → Type 0 = λ m. IfShows request c.finish.new.answer (HasOwnReadEntry whose m now.seen found) in
+    let R : List HistoryEntry → Type 0 = λ l. IfShows request c.finish.new.answer (HasOwnReadEntry whose ran.mark l found) in
+    subst N (sym named) (entry_at request c.finish.new.answer c.in-Ok.number whose now.mark now.seen found c.args.self.now.seen c.in-Ok.ensures.looked behind (subst Q (sym marked) (subst R (sym seen)
+    (shows_run c.perform-told.result request c.perform-told.new.answer c.finish.new.answer (HasOwnReadEntry whose ran.mark ran.seen found) c.perform-told.ensures.since c.finish.ensures.served c.finish.ensures.refused))))
 
 pub returns-in-Some-clause-since : goal.returns-in-Some-clause-since
 returns-in-Some-clause-since g c = shows_refused c.args.request.now c.in-Some.refusal _ _ c.tell_refusal.ensures
