@@ -150,7 +150,7 @@ fn plain_server_of<G: Naming>(
     names: &[Name],
     options: ServerOptions,
 ) -> Result<Server<Listener, G, &[Name]>, AllocError>
-    ensures { IfOk result (IsServerOf listener names options.sessions options.stay) }
+    ensures { IfOk result (IsServerOf listener names.entry options.sessions options.stay) }
 {
     if options.stay {
         Server::staying(alloc, listener, names, options.sessions)

@@ -71,11 +71,17 @@ pub fn run_words<
 {
     match run_program(rt, alloc, words, reader, writer) {
         Ok(()) => 0,
-        Err(ProgramFault::Options) => {
-            explain(alloc, words, errors);
-            ProgramFault::Options.report(errors)
+        Err(fault) => {
+            explain_wrong(alloc, words, &fault, errors);
+            fault.report(errors)
         }
-        Err(fault) => fault.report(errors),
+    }
+}
+
+// Explains words that ask for nothing; any other fault needs none.
+fn explain_wrong<E: Write>(alloc: Global, words: &[String], fault: &ProgramFault, errors: &mut E) {
+    if matches!(fault, ProgramFault::Options) {
+        explain(alloc, words, errors);
     }
 }
 
