@@ -8,7 +8,7 @@ from begin import give_up
 TOP = pathlib.Path(__file__).resolve().parent.parent
 CRATES = TOP / "crates"
 LIMITS = TOP / "tools" / "limits.txt"
-TESTS = {"tests_rows", "tests_surface", "tests_surface_programs"}
+TESTS = {"tests_surface", "tests_surface_programs"}
 MODEL = "oracle"
 """A program that has the names of the definitions that it evaluates."""
 REQUIRED = {"StandsFor"}
@@ -22,22 +22,48 @@ ROOM = re.compile(r"(?<![\w.])(?:529|716|717|745|1452|3001|3003)\b(?!\.)")
 """Sizes of encoded values, which follow from the limits of `stamps`."""
 BOUND = re.compile(r"[<≤] ?(?:16|32|64|128)(?![\w.])|2 \^ 40(?!\w)")
 """The limits of `stamps` that contracts and definitions bound something by: keys, bytes of a key, a tag and a value, partitions, tenants, counters."""
-WALK = """
+TO_SEAT = """
 server_sessions/src/line_session.rt: answer_lines answer_piece answer_waiting answer_next answer answer_request
 server_sessions/src/given.rt: ask_seat
-hub/src/seat.rt: put_all_into run
+"""
+TO_CALLS = """
 hub/src/operation.rt: perform exchange
+"""
+TO_CELL = """
 hub/src/dispatcher.rt: dispatch serve_free
 shard/src/shard.rt: serve_round serve_staged serve serve_message
 traced_book/src/traced.rt: serve_into
 partition/src/book.rt: serve_admitted
 partition/src/enter.rt: enter
 partition/src/shelf.rt: apply_into
+"""
+TO_PUT = TO_SEAT + """
+hub/src/by_clock.rt: put_by_clock_into
+hub/src/seat.rt: put_all_into run
+""" + TO_CALLS
+WALKS = {
+    "PREPARE": TO_PUT + TO_CELL + """
 prepare_commit/src/cell.rt: apply_into prepare
 prepare_commit/src/versions.rt: insert
 version_chain/src/chains.rt: insert_from
-"""
-"""The functions from a line of a session to the chain of an item that it writes. Each calls the next one."""
+""",
+    "COMMIT": TO_PUT + """
+hub/src/operation.rt: take_replies enter_reply enter_served follow send_asked
+""" + TO_CELL + """
+prepare_commit/src/cell.rt: apply_into commit commit_counted
+prepare_commit/src/versions.rt: commit
+prepare_commit/src/commit.rt: commit commit_version
+version_chain/src/chains.rt: mark_slot
+""",
+    "GET": TO_SEAT + """
+hub/src/seat.rt: get_all_into run
+""" + TO_CALLS + TO_CELL + """
+prepare_commit/src/cell.rt: apply_into get
+prepare_commit/src/versions.rt: latest
+version_chain/src/chains.rt: latest
+""",
+}
+"""The functions from a line of a session, as `rampd` serves it, to the chain of an item that its calls write or read. Each calls the next one."""
 COSTS = {"gate_minutes", "proof_minutes", "tests_minutes", "function_megabytes"}
 FILES_OF_ALL = {"lib.rt", "main.rt", "mod.rt"}
 
@@ -139,13 +165,17 @@ def body_of(text, name):
 
 
 def frames(sources):
-    """Each function of the walk, by its place. Where one of them does not call the next, the walk has to be written anew."""
-    walk = [(path, name) for path, names in (row.split(": ") for row in WALK.split("\n") if row) for name in names.split()]
-    found = [body_of(sources.code.get(path, []), name) for path, name in walk]
-    for (path, name), (number, body), (_, then) in zip(walk, found, [*walk[1:], walk[-1]]):
-        if number is None or (path, name) != walk[-1] and not any(re.search(rf"(?<!fn )\b{then}(?:::<[^>]*>)?\(", line) for line in body):
-            give_up(f"the walk of a put: {name} of crates/{path} does not call {then}, so WALK of tools/counting.py has to be written anew")
-    return [place(path, number, name) for (path, name), (number, _) in zip(walk, found)]
+    """Each function of the deepest walk, by its place. Where one of them does not call the next, the walk has to be written anew."""
+    return max((walked(sources, call, walk) for call, walk in WALKS.items()), key=len)
+
+
+def walked(sources, call, walk):
+    steps = [(path, name) for path, names in (row.split(": ") for row in walk.split("\n") if row) for name in names.split()]
+    found = [body_of(sources.code.get(path, []), name) for path, name in steps]
+    for (path, name), (number, body), (_, then) in zip(steps, found, [*steps[1:], steps[-1]]):
+        if number is None or (path, name) != steps[-1] and not any(re.search(rf"(?<!fn )\b{then}(?:::<[^>]*>)?\(", line) for line in body):
+            give_up(f"the walk of a {call}: {name} of crates/{path} does not call {then}, so WALKS of tools/counting.py has to be written anew")
+    return [place(path, number, name) for (path, name), (number, _) in zip(steps, found)]
 
 
 def edits(_):
@@ -161,7 +191,7 @@ COUNTS = {
     "files": ("file names that stand in several places", files),
     "rooms": ("sizes of encoded values as numbers", rooms),
     "bounds": ("limits of the store as numbers in contracts and definitions", bounds),
-    "frames": ("functions from a line of a session to the chain that it writes", frames),
+    "frames": ("functions from a line of a session to the deepest chain that it reaches", frames),
     "edits": ("files of edits", edits),
 }
 """What each count is of, and what gives its places. Those that have a line in the limits are bounded."""

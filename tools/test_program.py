@@ -85,7 +85,7 @@ def run_test(program, name):
     """Runs one test in a process of its own. Gives whether it passed, what it printed, and its seconds."""
     begun = time.monotonic()
     try:
-        ran = subprocess.run([program, name], stdin=subprocess.DEVNULL, stdout=subprocess.PIPE, stderr=subprocess.STDOUT, timeout=MOST_SECONDS, check=False)
+        ran = subprocess.run([program, name], cwd=TOP, stdin=subprocess.DEVNULL, stdout=subprocess.PIPE, stderr=subprocess.STDOUT, timeout=MOST_SECONDS, check=False)
         is_well, said = ran.returncode == 0, ran.stdout
     except subprocess.TimeoutExpired as ended:
         is_well, said = False, (ended.stdout or b"") + f"\nit took over {MOST_SECONDS} s".encode()

@@ -74,7 +74,7 @@ class AsyncCalls(ABC):
 
     async def put(self, items: Mapping[str, str], tag: str = "", tags: Optional[Mapping[str, str]] = None, blind: bool = False) -> str:
         """As `Calls.put`. If the task is cancelled while it waits, the write is done or not, as with `OutcomeUnknown`."""
-        return await self._one(lines.put(items, tag, tags, not blind))  # type: ignore[no-any-return]
+        return await self._one(lines.put(items, tag, tags, lines.reads_first(blind)))  # type: ignore[no-any-return]
 
     async def get(self, *keys: str) -> dict[str, Item]:
         """As `Calls.get`."""
@@ -90,7 +90,7 @@ class AsyncCalls(ABC):
 
     async def put_text(self, texts: Mapping[str, str], tag: str = "", tags: Optional[Mapping[str, str]] = None, blind: bool = False) -> str:
         """As `Calls.put_text`."""
-        return await self._one(contents.put(contents.TEXT, texts, tag, tags, not blind))  # type: ignore[no-any-return]
+        return await self._one(contents.put(contents.TEXT, texts, tag, tags, lines.reads_first(blind)))  # type: ignore[no-any-return]
 
     async def get_text(self, *names: str) -> dict[str, Optional[str]]:
         """As `Calls.get_text`."""
@@ -98,7 +98,7 @@ class AsyncCalls(ABC):
 
     async def put_json(self, documents: Mapping[str, Any], tag: str = "", tags: Optional[Mapping[str, str]] = None, blind: bool = False) -> str:
         """As `Calls.put_json`."""
-        return await self._one(contents.put(contents.JSON, documents, tag, tags, not blind))  # type: ignore[no-any-return]
+        return await self._one(contents.put(contents.JSON, documents, tag, tags, lines.reads_first(blind)))  # type: ignore[no-any-return]
 
     async def get_json(self, *names: str) -> dict[str, Any]:
         """As `Calls.get_json`."""
@@ -106,7 +106,7 @@ class AsyncCalls(ABC):
 
     async def put_bytes(self, data: Mapping[str, bytes], tag: str = "", tags: Optional[Mapping[str, str]] = None, blind: bool = False) -> str:
         """As `Calls.put_bytes`."""
-        return await self._one(contents.put(contents.BYTES, data, tag, tags, not blind))  # type: ignore[no-any-return]
+        return await self._one(contents.put(contents.BYTES, data, tag, tags, lines.reads_first(blind)))  # type: ignore[no-any-return]
 
     async def get_bytes(self, *names: str) -> dict[str, Optional[bytes]]:
         """As `Calls.get_bytes`."""

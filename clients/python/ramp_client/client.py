@@ -57,7 +57,7 @@ class Batch:
     def put(self, items: Mapping[str, str], tag: str = "", tags: Optional[Mapping[str, str]] = None, blind: bool = False) -> Pending[str]:
         """As `Calls.put`: the result is the stamp. Keys that the pipeline has read or written before are not read again, so no other client may write
         them meanwhile. Where the connection is lost the result raises `OutcomeUnknown` for each put that was sent and not answered."""
-        return Pending(self._add(lines.put(items, tag, tags, not blind)))
+        return Pending(self._add(lines.put(items, tag, tags, lines.reads_first(blind))))
 
     def get(self, *keys: str) -> Pending[dict[str, Item]]:
         """As `Calls.get`: the result has the items. It sees the puts before it in the pipeline."""
@@ -73,7 +73,7 @@ class Batch:
 
     def put_text(self, texts: Mapping[str, str], tag: str = "", tags: Optional[Mapping[str, str]] = None, blind: bool = False) -> Pending[str]:
         """As `Calls.put_text`: the result is the stamp."""
-        return Pending(self._add(contents.put(contents.TEXT, texts, tag, tags, not blind)))
+        return Pending(self._add(contents.put(contents.TEXT, texts, tag, tags, lines.reads_first(blind))))
 
     def get_text(self, *names: str) -> Pending[dict[str, Optional[str]]]:
         """As `Calls.get_text`, by one get of 16 keys: of one text all of it, of several as many keys of each as fit (`Invalid` where one has more)."""
@@ -81,7 +81,7 @@ class Batch:
 
     def put_json(self, documents: Mapping[str, Any], tag: str = "", tags: Optional[Mapping[str, str]] = None, blind: bool = False) -> Pending[str]:
         """As `Calls.put_json`: the result is the stamp."""
-        return Pending(self._add(contents.put(contents.JSON, documents, tag, tags, not blind)))
+        return Pending(self._add(contents.put(contents.JSON, documents, tag, tags, lines.reads_first(blind))))
 
     def get_json(self, *names: str) -> Pending[dict[str, Any]]:
         """As `Calls.get_json`, by one get of 16 keys, as `get_text`."""
@@ -89,7 +89,7 @@ class Batch:
 
     def put_bytes(self, data: Mapping[str, bytes], tag: str = "", tags: Optional[Mapping[str, str]] = None, blind: bool = False) -> Pending[str]:
         """As `Calls.put_bytes`: the result is the stamp."""
-        return Pending(self._add(contents.put(contents.BYTES, data, tag, tags, not blind)))
+        return Pending(self._add(contents.put(contents.BYTES, data, tag, tags, lines.reads_first(blind))))
 
     def get_bytes(self, *names: str) -> Pending[dict[str, Optional[bytes]]]:
         """As `Calls.get_bytes`, by one get of 16 keys, as `get_text`."""
@@ -116,13 +116,13 @@ class Calls(ABC):
     def put(self, items: Mapping[str, str], tag: str = "", tags: Optional[Mapping[str, str]] = None, blind: bool = False) -> str:
         """Writes 1 to 16 items, or none of them, and returns the stamp of the write. Each carries its own tag of `tags`, or else `tag`.
 
-        The write is newer than every write that was done before it began: the next read returns it, or a concurrent one. For this the client
-        reads the keys first, in the same piece of data, which takes no further round trip. `blind=True` leaves the read out. That is right if
-        no other client writes these keys, or if this client reads them each time before it writes. Otherwise a blind write may get a lower
-        stamp than what others wrote; it is then done, and no read returns it.
+        The write is newer than every write that was done before it began: the next read returns it, or a concurrent one. Where the server does
+        not report that its puts are so by themselves, the client reads the keys first, in the same piece of data, which takes no further round
+        trip. `blind=True` leaves that read out, which is right if no other client writes these keys, or if this client reads them each time
+        before it writes. Otherwise a blind write may get a lower stamp there than what others wrote; it is then done, and no read returns it.
 
         `OutcomeUnknown` if its answer was lost, or a partition refused a call of it (10, 25 or 30): then it may be done."""
-        return self._one(lines.put(items, tag, tags, not blind))  # type: ignore[no-any-return]
+        return self._one(lines.put(items, tag, tags, lines.reads_first(blind)))  # type: ignore[no-any-return]
 
     def get(self, *keys: str) -> dict[str, Item]:
         """Reads 1 to 16 items: of each write all of it or none, and nothing older than what was done before."""
@@ -141,7 +141,7 @@ class Calls(ABC):
 
         A text stands under `note.0`, and, where it is longer than 126 bytes, `note.1` and so on to `note.f`: 16 keys of all texts together, and 2,046
         bytes at most. A tag stands at the first of them. It is the form of `codec.encode_record`. `Invalid` where a text is too long."""
-        return self._one(contents.put(contents.TEXT, texts, tag, tags, not blind))  # type: ignore[no-any-return]
+        return self._one(contents.put(contents.TEXT, texts, tag, tags, lines.reads_first(blind)))  # type: ignore[no-any-return]
 
     def get_text(self, *names: str) -> dict[str, Optional[str]]:
         """Reads what `put_text` wrote under these names: of each write all of it or none. None where nothing was written. It takes one get, or two where
@@ -150,7 +150,7 @@ class Calls(ABC):
 
     def put_json(self, documents: Mapping[str, Any], tag: str = "", tags: Optional[Mapping[str, str]] = None, blind: bool = False) -> str:
         """Writes what JSON has, as `put_text` writes texts: `put_json({"doc": {"title": "Bikes", "pages": [1, 2]}})`."""
-        return self._one(contents.put(contents.JSON, documents, tag, tags, not blind))  # type: ignore[no-any-return]
+        return self._one(contents.put(contents.JSON, documents, tag, tags, lines.reads_first(blind)))  # type: ignore[no-any-return]
 
     def get_json(self, *names: str) -> dict[str, Any]:
         """Reads what `put_json` wrote under these names, as `get_text`. None where nothing was written, and of a JSON null."""
@@ -158,7 +158,7 @@ class Calls(ABC):
 
     def put_bytes(self, data: Mapping[str, bytes], tag: str = "", tags: Optional[Mapping[str, str]] = None, blind: bool = False) -> str:
         """Writes bytes of any kind, as `put_text` writes texts: at most 1,636 of them."""
-        return self._one(contents.put(contents.BYTES, data, tag, tags, not blind))  # type: ignore[no-any-return]
+        return self._one(contents.put(contents.BYTES, data, tag, tags, lines.reads_first(blind)))  # type: ignore[no-any-return]
 
     def get_bytes(self, *names: str) -> dict[str, Optional[bytes]]:
         """Reads what `put_bytes` wrote under these names, as `get_text`."""

@@ -252,6 +252,13 @@ def put(items: Mapping[str, str], tag: str = "", tags: Optional[Mapping[str, str
     return Call(" ".join(words), keys, "done", (15, 16, 20, 22, 27, 28), _done, True, reads_first)
 
 
+def reads_first(blind: bool) -> bool:
+    """Whether a put reads its keys first, where the server asks for that."""
+    if not isinstance(blind, bool):
+        raise Invalid(f"blind is True or False, and not {_brief(blind)}", "blind")
+    return not blind
+
+
 def check_keys(call: str, keys: Sequence[Any]) -> None:
     """Checks that a read has keys, and not a list of them."""
     for key in keys:

@@ -18,10 +18,14 @@ Show = Callable[[Answer], None]
 
 
 def history_path() -> pathlib.Path:
-    """Where the history is kept over sessions."""
+    """Where the history is kept over sessions. `OSError` where this user has no folder for it."""
     state = os.environ.get("XDG_STATE_HOME", "")
     # As the specification of these folders has it, one that is not absolute is ignored.
-    base = pathlib.Path(state) if os.path.isabs(state) else pathlib.Path.home() / ".local" / "state"
+    try:
+        base = pathlib.Path(state) if os.path.isabs(state) else pathlib.Path.home() / ".local" / "state"
+    except (RuntimeError, KeyError):
+        # Neither HOME nor the system's list of users has one, as in a container.
+        raise OSError("there is no home folder, which HOME or XDG_STATE_HOME would name") from None
     return base / "ramp" / "history"
 
 
@@ -101,13 +105,14 @@ def edited(asking: Asking, keeps_history: bool) -> Iterator[None]:
         yield
         return
     Completion(asking).install(readline)
-    history = History(readline, history_path()) if keeps_history else None
+    history: Optional[History] = None
     try:
-        if history:
-            history.load()
+        if keeps_history:
+            opened = History(readline, history_path())
+            opened.load()
+            history = opened
     except OSError as error:
         print(f"ramp-cli: the history is not kept: {error}", file=sys.stderr)
-        history = None
     try:
         yield
     finally:

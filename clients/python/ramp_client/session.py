@@ -220,7 +220,7 @@ class Session:
         except Late:
             raise NoAnswer(f"no connection to {options.where} in {options.timeout} s") from None
         except ConnectionRefusedError:
-            raise CannotConnect(f"nobody listens at {options.where}: is `ramp serve --port {options.port} {options.tenant}` running there, "
+            raise CannotConnect(f"nobody listens at {options.where}: is `rampd --port {options.port} {options.tenant}` running there, "
                                 "and has it room for a further connection?") from None
         except OSError as error:
             raise CannotConnect(f"no connection to {options.where}: {error}") from None

@@ -224,7 +224,7 @@ LISTED = "\n".join(f"  {f'{name} {it.form}':35} {it.meaning}" for name, it in CO
 HELP = LISTED + """
   help                                this
   bye                                 ends the session, as the end of the input does
-A key or a tag has bytes of a-z 0-9 _ . / -, a value those from ! to ~: no spaces. A put reads its keys first, so that it is the newest."""
+A key or a tag has bytes of a-z 0-9 _ . / -, a value those from ! to ~: no spaces. A put is newer than each one that was done before it."""
 
 
 def words_of(line: str) -> list[str]:

@@ -17,7 +17,9 @@ import termios
 import time
 import unittest
 from typing import Any, Optional
+from unittest import mock
 
+from ramp_client.prompt import history_path
 from servers import ALL, Listener, Server
 
 PYTHON = pathlib.Path(__file__).resolve().parents[1]
@@ -77,7 +79,7 @@ class Commands(unittest.TestCase):
             bound.bind(("127.0.0.1", 0))
             port = str(bound.getsockname()[1])
             for words, status, err in (
-                (("--port", port, "get", "x"), 4, f"ramp-cli: nobody listens at 127.0.0.1:{port}: is `ramp serve --port {port} t` running there"),
+                (("--port", port, "get", "x"), 4, f"ramp-cli: nobody listens at 127.0.0.1:{port}: is `rampd --port {port} t` running there"),
                 (("--port", port), 4, "ramp-cli: nobody listens at"),
                 (("--port", "0x1", "get", "x"), 2, "ramp-cli: argument -p/--port: invalid int value"),
                 (("--port", "0", "get", "x"), 2, "ramp-cli: 'ramp://127.0.0.1:0/t' is not ramp://HOST:PORT/TENANT"),
@@ -323,6 +325,11 @@ class Prompt(unittest.TestCase):
             terminal.until("> ")
             terminal.ask("get x", "read x@0.0")
             self.end(terminal)
+        # Of a user that the system does not know, as in a container, without HOME.
+        for fault in (RuntimeError, KeyError):
+            with mock.patch.dict(os.environ, {"XDG_STATE_HOME": ""}), mock.patch.object(pathlib.Path, "home", side_effect=fault), \
+                    self.assertRaisesRegex(OSError, "there is no home folder"):
+                history_path()
 
     def test_server_that_comes_back(self) -> None:
         with Server(*MANY) as first, Terminal(first.url(), state=self.state) as terminal:

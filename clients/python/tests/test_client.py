@@ -207,7 +207,7 @@ class Clients(unittest.TestCase):
             for loop in self.each():
                 begin = time.monotonic()
                 client = make_client(loop, f"ramp://127.0.0.1:{port}/t", retry=ramp_client.Retry(attempts=3, pause=0.02))
-                with self.assertRaisesRegex(ramp_client.CannotConnect, f"nobody listens at 127.0.0.1:{port}: is `ramp serve --port {port} t` running there"):
+                with self.assertRaisesRegex(ramp_client.CannotConnect, f"nobody listens at 127.0.0.1:{port}: is `rampd --port {port} t` running there"):
                     client.put({"x": "1"})
                 self.assertGreaterEqual(time.monotonic() - begin, 0.03)
                 client.close()
@@ -647,6 +647,7 @@ class Errors(unittest.TestCase):
             (lambda it: it.put(None), "put takes a dict, as in put({'x': '1', 'y': '2'}), and not the NoneType None"),
             (lambda it: it.put({"x": "1"}, tags="red"), "tags is a dict of keys and their tags, as in tags={'x': 'red'}, and not the str 'red'"),
             (lambda it: it.put({"x": "1"}, tag=5), "tag of 'x': 5 is no str: a tag has 1 to 16 bytes"),
+            (lambda it: it.put({"x": "1"}, blind="no"), "blind is True or False, and not the str 'no'"),
             (lambda it: it.put({1: "1"}), "key: 1 is no str: a key has 1 to 32 bytes"),
             (lambda it: it.put({"x": None}), "value of 'x': None is no str: a value has 0 to 128 bytes from ! to ~; put_text, put_json and put_bytes write others"),
             (lambda it: it.get(["x", "y"]), "get takes keys one after the other, as in get('x', 'y'), and not the list ['x', 'y']; get(*keys) takes those of a list"),

@@ -8,6 +8,7 @@ use crate::link::Link;
 use crate::numbers;
 use crate::pipeline::{self, Line, Pipeline};
 use crate::{Answer, Item, ServerInfo, Write};
+use std::fmt;
 use std::net::TcpStream;
 use std::sync::Arc;
 use std::thread;
@@ -21,7 +22,6 @@ const NUMBERS_AT_ONCE: [usize; 3] = [4, 60, 1024];
 /// A session of one client, for one thread at a time. For several threads there is [`Pool`](crate::Pool).
 ///
 /// A call waits for its answer until the timeout. If the connection was lost, the next call opens another one, and may get another client number.
-#[derive(Debug)]
 pub struct Client {
     config: Arc<Config>,
     link: Option<Link>,
@@ -33,6 +33,14 @@ pub struct Client {
     /// Whether the server knows neither `hello TENANT any` nor `info`.
     is_older: bool,
     new_stores: u64,
+}
+
+/// The address, the tenant and the number, and nothing that was written or read.
+impl fmt::Debug for Client {
+    fn fmt(&self, to: &mut fmt::Formatter<'_>) -> fmt::Result {
+        let Config { host, port, tenant, .. } = &*self.config;
+        write!(to, "Client {{ ramp://{host}:{port}/{tenant}, client {} }}", self.number())
+    }
 }
 
 impl Client {

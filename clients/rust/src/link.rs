@@ -15,7 +15,6 @@ const FRESH: Duration = Duration::from_millis(20);
 const LEAST_WAIT: Duration = Duration::from_millis(1);
 
 /// A connection, and the received bytes that were not consumed yet.
-#[derive(Debug)]
 pub(crate) struct Link {
     stream: TcpStream,
     timeout: Duration,
@@ -256,7 +255,7 @@ fn closed() -> Error {
 }
 
 fn nobody(host: &str, port: u16) -> Error {
-    Error::CannotConnect(format!("nobody listens at {host}:{port}: is `ramp serve --port {port}` running there?"))
+    Error::CannotConnect(format!("nobody listens at {host}:{port}: is `rampd --port {port}` running there?"))
 }
 
 /// The error of a call without an answer. A write that the server may have received is unknown.

@@ -6,6 +6,7 @@ use crate::line::{self, Request};
 use crate::link::Link;
 use crate::{Answer, Write};
 use std::borrow::Cow;
+use std::fmt;
 
 /// How many lines of a pipeline are sent before their answers are read. The requests and answers of so many fit the sockets' buffers.
 pub const MOST_UNDER_WAY: usize = 16;
@@ -21,10 +22,16 @@ pub(crate) struct Line {
 ///
 /// The keys of a put are read before it, each key once in a pipeline. A read that is answered `restart`, and a line that is retried, is sent
 /// again after all others: so a read may see what a later line of the pipeline wrote.
-#[derive(Debug)]
 pub struct Pipeline<'a> {
     client: &'a mut Client,
     lines: Vec<Line>,
+}
+
+/// How many lines it has, and whose they are.
+impl fmt::Debug for Pipeline<'_> {
+    fn fmt(&self, to: &mut fmt::Formatter<'_>) -> fmt::Result {
+        write!(to, "Pipeline {{ {} lines, {:?} }}", self.lines.len(), self.client)
+    }
 }
 
 impl<'c> Pipeline<'c> {

@@ -5,6 +5,7 @@ use crate::config::Config;
 use crate::error::Error;
 use crate::{Item, Write};
 use std::collections::VecDeque;
+use std::fmt;
 use std::ops::{Deref, DerefMut};
 use std::sync::{Arc, Condvar, Mutex, MutexGuard, PoisonError};
 
@@ -12,14 +13,13 @@ use std::sync::{Arc, Condvar, Mutex, MutexGuard, PoisonError};
 ///
 /// Each call takes a free session, or waits for one until the timeout. Waiting threads are served in order. The calls are those of
 /// [`Client`]; use [`Pool::take`] for a pipeline, or for several calls on one session.
-#[derive(Debug)]
 pub struct Pool {
     config: Arc<Config>,
     size: usize,
     state: Mutex<State>,
 }
 
-#[derive(Debug, Default)]
+#[derive(Default)]
 struct State {
     idle: Vec<Client>,
     made: usize,
@@ -27,17 +27,31 @@ struct State {
 }
 
 /// Where a waiting thread receives its session.
-#[derive(Debug, Default)]
+#[derive(Default)]
 struct Place {
     given: Mutex<Option<Client>>,
     is_given: Condvar,
 }
 
 /// A session of a pool. It goes back to the pool when this is dropped.
-#[derive(Debug)]
 pub struct Taken<'a> {
     pool: &'a Pool,
     client: Client,
+}
+
+/// The address, the tenant and how many sessions it has at most.
+impl fmt::Debug for Pool {
+    fn fmt(&self, to: &mut fmt::Formatter<'_>) -> fmt::Result {
+        let Config { host, port, tenant, .. } = &*self.config;
+        write!(to, "Pool {{ ramp://{host}:{port}/{tenant}, of {} clients }}", self.size)
+    }
+}
+
+/// As its client.
+impl fmt::Debug for Taken<'_> {
+    fn fmt(&self, to: &mut fmt::Formatter<'_>) -> fmt::Result {
+        self.client.fmt(to)
+    }
 }
 
 fn locked<T>(mutex: &Mutex<T>) -> MutexGuard<'_, T> {

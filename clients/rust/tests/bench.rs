@@ -73,7 +73,7 @@ fn refusals_are_no_figures() {
 
 #[test]
 fn puts_that_can_be_read_are_counted() {
-    // Of a server whose puts read first, each; of one connection alone, too.
+    // Of a server whose puts are newest, each; of one connection alone, too.
     for (options, connections) in [(["--newest", "t"], 4), (["--strict", "t"], 1)] {
         let mut words = vec!["--stay", "--sessions", "8", "--slots", "4096"];
         words.extend(options);

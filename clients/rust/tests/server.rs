@@ -150,6 +150,23 @@ fn an_older_server() {
 }
 
 #[test]
+fn what_debug_prints_has_nothing_that_was_written_or_read() {
+    let server = Server::start(&["--sessions", "3", "t"]);
+    let mut client = Client::connect(&server.url("t")).expect("a session");
+    client.put([Write::new("key", "secret")]).expect("a stamp");
+    client.get(&["key"]).expect("items");
+    let number = client.number();
+    assert_eq!(format!("{client:?}"), format!("Client {{ {}, client {number} }}", server.url("t")));
+    let mut pipeline = client.pipeline();
+    pipeline.put([Write::new("key", "secret")]).expect("a line");
+    assert_eq!(format!("{pipeline:?}"), format!("Pipeline {{ 1 lines, Client {{ {}, client {number} }} }}", server.url("t")));
+    let pool = Config::new(&server.url("t")).expect("a URL").pool(2);
+    assert_eq!(format!("{pool:?}"), format!("Pool {{ {}, of 2 clients }}", server.url("t")));
+    let taken = pool.take().expect("a session");
+    assert_eq!(format!("{taken:?}"), format!("Client {{ {}, client {} }}", server.url("t"), taken.number()));
+}
+
+#[test]
 fn nobody_listens() {
     let mut server = Server::start(&["t"]);
     server.kill();

@@ -271,16 +271,14 @@ fn strict<'a>(alloc: Global) -> Arg<'a>
         .help("End a connection at a line that can't be read, while it has no session")
 }
 
-// Whether each put reads its keys first.
+// Whether its puts are newest.
 fn newest<'a>(alloc: Global) -> Arg<'a>
     ensures { IsOwnOption result newest_rule }
 {
     Arg::new(alloc, NEWEST)
         .long(NEWEST)
         .action(ArgAction::SetTrue)
-        .help(
-            "Have each put be newer than what was done: by a clock where journals are cut, else by reading its keys first",
-        )
+        .help("Have each put be newer than what was done before it, by a clock of its tenant")
 }
 
 // Whether it records nothing.

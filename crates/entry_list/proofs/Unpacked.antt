@@ -1,9 +1,10 @@
 -- That a packed entry is read again, and lists of packed entries.
-use Rattle.std.proofs.Common.{◌≡◌, ℕ, ◌^◌, zero, suc, ◌<◌, List, [], ◌∷◌, ◌++◌, length, map, Option, Some, None, refl, sym, ap, subst, ◌∙◌, append_assoc, Bool, true, false, cond, ltb, arith}
+use Rattle.std.proofs.Common.{◌≡◌, ℕ, ◌^◌, zero, suc, ◌<◌, List, [], ◌∷◌, ◌++◌, length, drop, take, map, Option, Some, None, refl, sym, ap, subst, ◌∙◌, append_assoc, Bool, true, false, cond, ltb, arith}
 use Rattle.std.specs.Prelude.{slice_get, option_and_then}
 use Rattle.std.specs.Int.{w64, to_le_bytes}
 use Rattle.std.specs.Option.{option_map}
 use Rattle.std.proofs.lemmas.List.{append-nil}
+use Rattle.std.proofs.Math.Seq.{drop-append_seam, take-append_seam}
 use Rattle.plain_store.specs.declared.calls.Reply.{Reply}
 use Rattle.plain_store.specs.declared.step.Act.{Act}
 use Rattle.plain_store.specs.declared.step.Act.TheVariants.{Hello}
@@ -149,6 +150,25 @@ grown pieces new e bytes h is more =
 pub still_packed : (pieces new : List (List ℕ)) (e : Entry) (bytes : List ℕ) → ArePackedEntries pieces → IsStoreEntry e → bytes ≡ packed_entry e → new ≡ pieces ++ bytes ∷ [] → ArePackedEntries new
 still_packed pieces new e bytes all h is more =
     subst ArePackedEntries (sym more) (one_more pieces bytes all (is_packed e bytes h is))
+
+-- the same of two entries
+module _ (pieces mid new : List (List ℕ)) (one two : Entry) (first second : List ℕ) (first_stored : IsStoreEntry one) (second_stored : IsStoreEntry two)
+    (first_is : first ≡ packed_entry one) (second_is : second ≡ packed_entry two) (first_pushed : mid ≡ pieces ++ first ∷ []) (second_pushed : new ≡ mid ++ second ∷ []) where
+  pub grown_twice : entries_in new ≡ entries_in pieces ++ one ∷ two ∷ []
+  grown_twice =
+      grown mid new two second second_stored second_is second_pushed ∙ ap (λ (es : List Entry). es ++ two ∷ []) (grown pieces mid one first first_stored first_is first_pushed)
+      ∙ append_assoc (entries_in pieces) (one ∷ []) (two ∷ [])
+
+  pub packed_twice : ArePackedEntries pieces → ArePackedEntries new
+  packed_twice all = still_packed mid new two second (still_packed pieces mid one first all first_stored first_is first_pushed) second_stored second_is second_pushed
+
+-- bytes that are cut where their first part ends
+module _ (whole a b : List ℕ) (n : ℕ) (is : whole ≡ a ++ b) (ends : n ≡ length a) where
+  pub front_is : take n whole ≡ a
+  front_is = ap (λ (k : ℕ). take k whole) ends ∙ ap (take (length a)) is ∙ take-append_seam a b
+
+  pub back_is : drop n whole ≡ b
+  back_is = ap (λ (k : ℕ). drop k whole) ends ∙ ap (drop (length a)) is ∙ drop-append_seam a b
 
 pub as_many : (pieces : List (List ℕ)) → length (entries_in pieces) ≡ length pieces
 as_many [] = refl

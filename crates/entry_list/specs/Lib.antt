@@ -1,3 +1,4 @@
 pub mod PackedEntries
 pub mod Sizes
 pub mod LentActs
+pub mod Raises

@@ -5,7 +5,8 @@ use stamps::{Client, Item, Key, Tag};
 /// One thing that a seat did.
 #[derive(Drop)]
 pub enum Entry {
-    /// It began an operation.
+    /// It began an operation. Or its client's counter was raised: the session ended by a `Stop`, and began again by the `Hello` that stands
+    /// right after it.
     Began(Act),
     /// It took the reply to the call of this number, whose event has this place in the partition's journal.
     Took {

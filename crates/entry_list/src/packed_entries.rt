@@ -1,6 +1,7 @@
 //! Entries, packed one behind the other.
 ghost use Rattle.std.specs.Prelude.{◌≡◌, ℕ, ◌+◌, ◌<◌, ◌≤◌, ◌^◌, ◌++◌, ◌∷◌, ◌↔◌, [], length, take, Some, IsTrue, slice_get, option_and_then, IfOk, OnOk, OnErr};
 ghost use Rattle.entry_list.specs.LentActs.{act_lent};
+ghost use Rattle.entry_list.specs.Raises.{raise_entries};
 ghost use Rattle.entry_list.specs.PackedEntries.{taken_of, answer_of, operation_of, entry_in, IsPackedEntry};
 
 use crate::entry_decoding::{answer_in, operation_in, taken_in, unpacked};
@@ -8,7 +9,7 @@ use crate::entry_encoding::{AnsweredParts, MAX_TOOK_BYTES, TookParts, put_began}
 use crate::kinds::{Entry, LentAct, Operation, Taken};
 use packed::{Buffer, PackedList};
 use plain_store::{Act, Answer, Reply};
-use stamps::Item;
+use stamps::{Client, Counter, Item};
 use std::alloc::{AllocError, Global};
 use std::marker::Model;
 
@@ -167,6 +168,27 @@ impl EntryList {
             .reserve(room + 1, MAX_TOOK_BYTES * room + entry.len())?;
         self.list.push_reserved(entry);
         self.room = room;
+        Ok(())
+    }
+
+    /// Puts the entries of a raise at the end: the client's session ends, and begins again from this counter. At `Err` the entries are
+    /// as they were.
+    pub fn push_raise(&mut self, client: Client, counter: Counter) -> Result<(), AllocError>
+        ensures ok { OnOk result (self.new.items ≡ self.old.items ++ raise_entries client counter) }
+        ensures err { OnErr result (self.new.items ≡ self.old.items) }
+    {
+        self.room = 0;
+        self.scratch.clear();
+        put_began(&mut self.scratch, &LentAct::Whole(&Act::Stop(client)))?;
+        let first = self.scratch.len();
+        put_began(
+            &mut self.scratch,
+            &LentAct::Whole(&Act::Hello(client, counter)),
+        )?;
+        let (stop, hello) = self.scratch.as_slice().split_at(first);
+        self.list.reserve(2, stop.len() + hello.len())?;
+        self.list.push_reserved(stop);
+        self.list.push_reserved(hello);
         Ok(())
     }
 

@@ -1,5 +1,6 @@
 -- What a reader stands for.
-use Rattle.std.specs.Prelude.{◌≡◌, ◌≢◌, ◌+◌, ◌≤◌, ℕ, List, [], ◌∷◌, ◌++◌, Bool, true, false, ◌||◌, ◌==◌, map, Option, Some, None}
+use Rattle.std.specs.Prelude.{◌≡◌, ◌≢◌, ◌+◌, ◌≤◌, ℕ, List, [], ◌∷◌, ◌++◌}
+use Rattle.std.specs.Prelude.{Bool, true, false, ◌||◌, ◌==◌, map, Option, Some, None}
 use Rattle.std.specs.Prelude.{is_some, length, cond}
 use Rattle.std.specs.List.{list_any, list_all}
 use Rattle.stamps.specs.Record.{Record}
@@ -128,10 +129,11 @@ calls_asked (Restart key floor) = 0
 calls_asked Torn = 0
 calls_asked Ignored = 0
 
--- The reply to the GET of a key in round 1 or 2 was offered to a reader, which takes it as the read does; in any other round it
--- ignores it. Once the read has ended it ignores it too, and nothing changes. What it asks for, and may ask for after it, is no more
--- than what it might before.
-pub record TakesInRound (key : Key) (round : ℕ) (reply : ReadReply) (old : Reader) (move : ReadMove) (new : Reader) : Type 0 where
+-- The reply to the GET of a key in round 1 or 2 was offered to a reader, which takes it as the read does; in any other
+-- round it ignores it. Once the read has ended it ignores it too, and nothing changes. What it asks for, and may ask
+-- for after it, is no more than what it might before.
+pub record TakesInRound (key : Key) (round : ℕ) (reply : ReadReply) (old : Reader) (move : ReadMove)
+    (new : Reader) : Type 0 where
   pub first : (keys : List Key) (taken : List Message) (message : Message) → round ≡ 1 → StandsFor keys old taken
       → IsFirst key reply message → TakesRead keys taken message move new
   pub second : (keys : List Key) (taken : List Message) (message : Message) → round ≡ 2 → StandsFor keys old taken

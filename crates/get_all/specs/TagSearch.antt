@@ -129,8 +129,8 @@ calls_asked Ignored = 0
 
 -- ---- what its calls promise
 
--- What a partition found was offered to a search, which takes it as the search does. Once the search has ended it ignores it, and
--- nothing changes. What it asks for, and may ask for after it, is no more than what it might before.
+-- What a partition found was offered to a search, which takes it as the search does. Once the search has ended it
+-- ignores it, and nothing changes. What it asks for, and may ask for after it, is no more than what it might before.
 pub record TakesFound (partition : ℕ) (found : Findings) (old : TagSearch) (reader : Reader) (move : FindMove)
     (new : TagSearch) (after : Reader) : Type 0 where
   pub takes : (setup : Setup) (tag : Tag) (taken : List Message) (message : Message) → StandsFor setup tag old reader taken

@@ -1,5 +1,6 @@
--- A seat that looked at the clock of its tenant: for `put_by_clock_into` and `draw`.
-use Rattle.std.proofs.Common.{◌≡◌, ◌+◌, ◌<◌, ◌∙◌, ℕ, List, ◌∷◌, ◌++◌, Option, Some, None, Bool, true, false, ap, inl, subst, sym, refl, arith, append_assoc}
+-- A seat that drew from the clock of its tenant: for `put_by_clock_into` and `draw`.
+use Rattle.std.proofs.Common.{◌≡◌, ◌+◌, ◌<◌, ◌≤◌, ◌∙◌, ℕ, List, [], ◌∷◌, ◌++◌, Option, Some, None, Bool, true, false, ap, inl, inr, subst, sym, refl, arith, append_assoc}
+use Rattle.std.proofs.lemmas.List.Elements.{All-append, All-cons, All-nil}
 use Rattle.std.specs.Prelude.{◌↔◌, IfSome, max, if◌then◌else◌}
 use Rattle.std.proofs.Math.Nat.{max-eq_left}
 use mathlib.Core.List.{IsPrefix}
@@ -9,8 +10,11 @@ use Rattle.plain_store.specs.Words.{◌∈◌, Stamp}
 use Rattle.plain_store.specs.declared.answer.Answer.{Answer}
 use Rattle.plain_store.specs.declared.answer.Answer.TheVariants.{Refused}
 use Rattle.plain_store.specs.declared.refusal.Refusal.{Refusal}
-use Rattle.plain_store.specs.declared.refusal.Refusal.TheVariants.{Stopped}
-use Rattle.plain_store.specs.declared.step.Act.TheVariants.{Put}
+use Rattle.plain_store.specs.declared.refusal.Refusal.TheVariants.{OutOfMemory, RowsUsed, Stopped}
+use Rattle.plain_store.specs.declared.step.Act.TheVariants.{Hello, Put, Stop}
+use Rattle.entry_list.specs.Raises.{raise_entries}
+use Rattle.entry_list.specs.declared.kinds.Entry.{Entry}
+use Rattle.entry_list.specs.declared.kinds.Entry.TheVariants.{Began}
 use Rattle.history.specs.declared.entry.HistoryEntry.{HistoryEntry}
 use Rattle.history.specs.declared.entry.HistoryEntry.TheVariants.{Drew}
 use Rattle.history.specs.declared.entry.Draw.{Draw}
@@ -19,33 +23,44 @@ use Rattle.history.proofs.Lists.{prefix_has, prefix_join, prefix_of_itself}
 use Rattle.tenant_sessions.specs.declared.session.ClientSession.{ClientSession}
 use Rattle.shard.specs.declared.seat_name.SeatName.{SeatName}
 use Rattle.plain_store.proofs.Members.{in_right}
-use Rattle.hub.specs.Clocks.{HasLooked, IsStampedBehind, PutsByClock}
+use Rattle.hub.specs.Clocks.{IsDrawRefusal, IsRaised, IsStampedBehind, IsWrittenBy, PutsByClock}
 use Rattle.hub.specs.Fresh.{AreCommittedIn}
 use Rattle.hub.specs.Limits.{last_call, max_calls}
 use Rattle.hub.specs.Operations.{IsLater, IsOperation, ReportsWrite}
-use Rattle.hub.specs.ReadsFirst.{IsWrittenBy}
-use Rattle.hub.specs.Replies.{IfDone, IsDrawn}
-use Rattle.hub.specs.Seats.{SeatView, is_unbegun}
-use Rattle.hub.proofs.Operations.{unbegun-entered}
+use Rattle.hub.specs.Replies.{IfDone, IsDrawn, IsServedFor}
+use Rattle.hub.specs.Seats.{SeatView, is_unbegun, sight}
+use Rattle.hub.proofs.Operations.{later-same, unbegun-entered}
 use Rattle.hub.proofs.Replies.{if_done}
 
--- it saw no more
-pub looked_same : (seat : SeatView) → HasLooked seat seat
-looked_same seat = record { seen = prefix_of_itself seat.seen; counter = omega arith; rest = refl }
-
 -- what it does then is later than what it was
-pub later_looked : (old between new : SeatView) → HasLooked old between → IsLater max_calls between new → IsLater max_calls old new
-later_looked old between new looked later =
-    let its : IsLater max_calls (record old { counter = between.counter; seen = between.seen }) new = subst (λ (s : SeatView). IsLater max_calls s new) looked.rest later in
+pub later_raised : (old between new : SeatView) → IsRaised old between → IsLater max_calls between new → IsLater max_calls old new
+later_raised old between new raised later =
+    let raise = raise_entries old.name.client between.counter in
+    let hello = Began (Hello old.name.client between.counter) in
+    let its : IsLater max_calls (record old { counter = between.counter; entries = old.entries ++ raise; seen = between.seen }) new = subst (λ (s : SeatView). IsLater max_calls s new) raised.rest later in
+    let P : Entry → Type 0 = IsServedFor (sight new) old.sent new.sent in
     record {
       name = its.name;
       parts = its.parts;
-      kept = its.kept;
-      seen = prefix_join old.seen between.seen new.seen looked.seen its.seen;
-      served = its.served;
+      kept = (raise ++ its.kept.0, its.kept.1 ∙ append_assoc old.entries raise its.kept.0);
+      seen = prefix_join old.seen between.seen new.seen raised.seen its.seen;
+      served = record {
+        more = raise ++ its.served.more;
+        is = its.served.is ∙ append_assoc old.entries raise its.served.more;
+        served = All-append P raise its.served.more (All-cons P (Began (Stop old.name.client)) (hello ∷ []) tt (All-cons P hello [] tt (All-nil P))) its.served.served;
+      };
       sent = its.sent;
-      counter = omega (arith, looked.counter, its.counter);
+      counter = omega (arith, raised.counter, its.counter);
     }
+
+-- nothing is begun where nothing is drawn, and the seat is not told that it was stopped
+pub draw_unbegun : (refusal : Refusal) → IsDrawRefusal refusal → is_unbegun refusal ≡ true
+draw_unbegun refusal (inl is) = ap is_unbegun is
+draw_unbegun refusal (inr is) = ap is_unbegun is
+
+pub draw_not_stopped : (answer : Answer) (refusal : Refusal) → answer ≡ Refused refusal → IsDrawRefusal refusal → answer ≡ Refused Stopped → ⊥
+draw_not_stopped answer refusal is (inl why) same = let both : Refused RowsUsed ≡ Refused Stopped = ap Refused (sym why) ∙ sym is ∙ same in cc
+draw_not_stopped answer refusal is (inr why) same = let both : Refused OutOfMemory ≡ Refused Stopped = ap Refused (sym why) ∙ sym is ∙ same in cc
 
 -- a write that did not begin
 pub write_refused : (items : List Item) (seat : SeatView) (answer : Answer) (refusal : Refusal) → answer ≡ Refused refusal → is_unbegun refusal ≡ true → IsWrittenBy items seat answer seat
@@ -87,17 +102,21 @@ raised first old closed opened base same is shuts opens =
     open_is true at h = absurd (cc at)
     open_is false at h = ap (λ (s : ClientSession). s.counter) h
 
--- what was drawn is one above the counter that the session was raised to
+-- the counter that the session was raised to is that of its hello
+pub raised_to : (floor base after : ℕ) (drawn : Option ℕ) → drawn ≡ Some (base + 1) → IfSome drawn (λ counter. floor < counter) → after ≡ max base floor → base ≡ after
+raised_to floor base after drawn is above raises =
+    let low : floor < base + 1 = subst (λ (o : Option ℕ). IfSome o (λ counter. floor < counter)) is above in
+    sym (raises ∙ max-eq_left (omega (arith, low)))
+
+-- what was drawn is one above it
 pub drawn_below : (evidence seen now : List HistoryEntry) (tenant floor base after : ℕ) (drawn : Option ℕ) → drawn ≡ Some (base + 1)
     → IfSome drawn (λ counter. IsDrawnBehind evidence seen (record { tenant = tenant; counter = counter })) → IfSome drawn (λ counter. floor < counter) → IsPrefix seen now
     → after ≡ max base floor → IsDrawnBehind evidence now (record { tenant = tenant; counter = after + 1 })
 drawn_below evidence seen now tenant floor base after drawn is behind above pre raises =
-    let low : floor < base + 1 = subst (λ (o : Option ℕ). IfSome o (λ counter. floor < counter)) is above in
     let P : Option ℕ → Type 0 = λ o. IfSome o (λ counter. IsDrawnBehind evidence seen (record { tenant = tenant; counter = counter })) in
     let its : IsDrawnBehind evidence seen (record { tenant = tenant; counter = base + 1 }) = subst P is behind in
-    let same : base ≡ after = sym (raises ∙ max-eq_left (omega (arith, low))) in
     drawn_later evidence seen now (record { tenant = tenant; counter = after + 1 }) pre
-    (subst (λ (n : ℕ). IsDrawnBehind evidence seen (record { tenant = tenant; counter = n + 1 })) same its)
+    (subst (λ (n : ℕ). IsDrawnBehind evidence seen (record { tenant = tenant; counter = n + 1 })) (raised_to floor base after drawn is above raises) its)
 
 -- a put that is done behind the draw has its stamp
 pub stamped_behind : (old between new : List HistoryEntry) (name : SeatName) (client counter after : ℕ) (own : Stamp) → client ≡ name.client → IsPrefix between new
@@ -108,21 +127,37 @@ stamped_behind old between new name client counter after own same pre drawn is =
   drawn = drawn_later old between new (record { tenant = name.tenant; counter = counter + 1 }) pre drawn;
 }
 
+-- a seat that drew nothing, and is as it was, was refused
+pub put_undrawn : (items : List Item) (old new : SeatView) (answer : Answer) (refusal : Refusal) → new ≡ old → answer ≡ Refused refusal → IsDrawRefusal refusal → old.stopped ≡ false → old.sent ≤ last_call
+    → PutsByClock items old answer new
+put_undrawn items old new answer refusal same is why going few =
+    subst (λ (s : SeatView). PutsByClock items old answer s) (sym same)
+    (record {
+      between = old;
+      raised = inl refl;
+      written = write_refused items old answer refusal is (draw_unbegun refusal why);
+      later = later-same max_calls old;
+      stopped = (λ told. absurd (draw_not_stopped answer refusal is why told), λ at. absurd (let both : true ≡ false = sym at ∙ going in cc));
+      used_up = λ used. absurd (omega (arith, used.1, few));
+      drawn = subst (λ (a : Answer). IfDone a (IsStampedBehind old.seen old.seen old.name)) (sym is) tt;
+      committed = subst (λ (a : Answer). IfDone a (AreCommittedIn old.seen old.name.tenant items)) (sym is) tt;
+    })
+
 -- a seat that drew, and then wrote, put by the clock
-pub put_drawn : (items : List Item) (old drawn new : SeatView) (answer : Answer) → HasLooked old drawn → IsDrawnBehind old.seen drawn.seen (record { tenant = old.name.tenant; counter = drawn.counter + 1 })
+pub put_drawn : (items : List Item) (old drawn new : SeatView) (answer : Answer) → IsRaised old drawn → IsDrawnBehind old.seen drawn.seen (record { tenant = old.name.tenant; counter = drawn.counter + 1 })
     → IsOperation (Put drawn.name.client items) drawn answer new → IfDone answer (IsDrawn drawn.name.client drawn.counter new.counter) → ReportsWrite items drawn answer new
     → IfDone answer (AreCommittedIn new.seen new.name.tenant items) → PutsByClock items old answer new
-put_drawn items old drawn new answer looked draw done stamped written committed =
-    let stops : drawn.stopped ≡ old.stopped = ap (λ (s : SeatView). s.stopped) looked.rest in
+put_drawn items old drawn new answer raised draw done stamped written committed =
+    let stops : drawn.stopped ≡ old.stopped = ap (λ (s : SeatView). s.stopped) raised.rest in
     record {
       between = drawn;
-      looked = looked;
+      raised = inr raised;
       written = record { entered = done.entered; stamp = stamped; written = written };
-      later = later_looked old drawn new looked done.later;
+      later = later_raised old drawn new raised done.later;
       stopped = (λ same. sym stops ∙ done.stopped.0 same, λ at. done.stopped.1 (stops ∙ at));
-      used_up = λ used. done.past.1 (stops ∙ used.0, subst (λ (n : ℕ). last_call < n) (sym (ap (λ (s : SeatView). s.sent) looked.rest)) used.1);
+      used_up = λ used. done.past.1 (stops ∙ used.0, subst (λ (n : ℕ). last_call < n) (sym (ap (λ (s : SeatView). s.sent) raised.rest)) used.1);
       drawn = if_done answer (IsDrawn drawn.name.client drawn.counter new.counter) (IsStampedBehind old.seen new.seen old.name)
-          (λ own is. stamped_behind old.seen drawn.seen new.seen old.name drawn.name.client drawn.counter new.counter own (ap (λ (s : SeatView). s.name.client) looked.rest) done.later.seen draw is) stamped;
+          (λ own is. stamped_behind old.seen drawn.seen new.seen old.name drawn.name.client drawn.counter new.counter own (ap (λ (s : SeatView). s.name.client) raised.rest) done.later.seen draw is) stamped;
       committed = committed;
     }
 

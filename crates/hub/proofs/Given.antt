@@ -55,13 +55,6 @@ pub record IsLaterOperation (old new : OperationSight) : Type 0 where
 pub in_later : (seen now : List HistoryEntry) (mark : Mark) (partition tenant seat number place : ℕ) (call : Call) (reply : Reply) → IsPrefix seen now
     → IsServedIn seen mark partition tenant seat number place call reply → IsServedIn now mark partition tenant seat number place call reply
 in_later seen now mark partition tenant seat number place call reply pre is = record {
-  parts = is.parts;
-  before = is.before;
-  after = is.after;
-  journals = is.journals;
-  there = is.there;
-  entered = is.entered;
-  place = is.place;
   stands = served_later seen now (served_call partition tenant seat number call) place reply pre is.stands;
   late = is.late;
 }
@@ -135,6 +128,26 @@ served-same name other first since last later start entries next same begun most
     let R : ℕ → Type 0 = λ n. AreServed other n later start next in
     let all : AreServed name first later start entries = record { more = are.more; is = are.is; served = All-weaker (IsServedFor name first last) (IsServedFor name first later) (λ e. wider name first last later e most) are.more are.served } in
     subst R (sym begun) (subst Q (sym same) (subst P (sym is) all))
+
+-- the first may be an earlier one
+earlier : (name : SeatSight) (first since last : ℕ) (e : Entry) → first ≤ since → IsServedFor name since last e → IsServedFor name first last e
+earlier name first since last (Began act) before is = tt
+earlier name first since last (Took number partition place reply) before is = (omega (arith, is.0, before), is.1, is.2)
+earlier name first since last (Answered answer) before is = tt
+
+-- what two operations entered, one behind the other
+pub served-both : (name other : SeatSight) (first since last : ℕ) (start entries next : List Entry) → other ≡ name → first ≤ since → since ≤ last → AreServed name first since start entries → AreServed other since last entries next
+    → AreServed name first last start next
+served-both name other first since last start entries next same before most one two =
+    let P : Entry → Type 0 = IsServedFor name first last in
+    let Q : SeatSight → Type 0 = λ n. AreServed n since last entries next in
+    let later : AreServed name since last entries next = subst Q same two in
+    record {
+      more = one.more ++ later.more;
+      is = later.is ∙ ap (λ (es : List Entry). es ++ later.more) one.is ∙ append_assoc start one.more later.more;
+      served = All-append P one.more later.more (All-weaker (IsServedFor name first since) P (λ e. wider name first since last e most) one.more one.served)
+          (All-weaker (IsServedFor name since last) P (λ e. earlier name first since last e before) later.more later.served);
+    }
 
 -- an operation that has staged more calls, and entered nothing
 abbrev pub IsStagedOn : {G : Type 0} {naming : Ghosts G} → RunningOperation G naming → RunningOperation G naming → Type 0

@@ -4,7 +4,6 @@ pub mod Counted
 pub mod Entries
 pub mod Given
 pub mod Operations
-pub mod ReadsFirst
 pub mod Refusals
 mod Single
 pub mod Staging

@@ -7,9 +7,9 @@ use Rattle.plain_store.specs.declared.refusal.Refusal.{Refusal}
 use Rattle.plain_store.specs.declared.refusal.Refusal.TheVariants.{Stopped, RowsUsed, OutOfMemory}
 use Rattle.plain_store.specs.declared.step.Act.{Act}
 use Rattle.hub.specs.Operations.{IsLater}
-use Rattle.hub.specs.Seats.{SeatView, Extends, Follows, IsEntered, IsLeftBy, begun_entries, is_unbegun, is_unrecorded, last_answer, sight}
+use Rattle.hub.specs.Seats.{SeatView, Extends, Follows, IsEntered, IsLeftBy, begun_entries, is_unbegun, is_unrecorded, sight}
 use Rattle.history.proofs.Lists.{prefix_of_itself}
-use Rattle.hub.proofs.Entries.{follows-extends, follows-last}
+use Rattle.hub.proofs.Entries.{follows-extends}
 use Rattle.hub.proofs.Given.{served-start}
 
 -- an answer of a seat that was not stopped
@@ -31,16 +31,6 @@ unbegun-outside refusal is = cc
 -- the answer of an operation that began nothing, and changed nothing
 pub unbegun-entered : (act : Act) (seat : SeatView) (answer : Answer) (refusal : Refusal) → answer ≡ Refused refusal → is_unbegun refusal ≡ true → IsEntered act seat answer seat
 unbegun-entered act seat answer refusal is unbegun = inr (ap is_unrecorded is ∙ unbegun-outside refusal unbegun, (refusal, is, inl (unbegun, refl)))
-
--- an answer that was entered is the last one of the entries
-pub entered-last : (act : Act) (old new : SeatView) (answer : Answer) → IsEntered act old answer new → is_unrecorded answer ≡ false → last_answer new.entries ≡ Some answer
-entered-last act old new answer (inl (inside, going, goes, follows)) is = follows-last _ _ _ follows
-entered-last act old new answer (inr (outside, left)) is = let both : true ≡ false = sym outside ∙ is in cc
-
--- a seat whose answer was entered goes on
-pub entered-stays : (act : Act) (old new : SeatView) (answer : Answer) → IsEntered act old answer new → is_unrecorded answer ≡ false → new.stopped ≡ false
-entered-stays act old new answer (inl (inside, going, goes, follows)) is = goes
-entered-stays act old new answer (inr (outside, left)) is = let both : true ≡ false = sym outside ∙ is in cc
 
 -- an operation entered nothing, or first that its act began
 pub entered-began : (act : Act) (old new : SeatView) (answer : Answer) → IsEntered act old answer new → (new.entries ≡ old.entries) ⊎ Extends (begun_entries old act) new.entries

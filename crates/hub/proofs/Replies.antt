@@ -21,7 +21,7 @@ use Rattle.tenant_sessions.specs.Showing.{IfReads, IfLists, IfTells, TellsStamp,
 use Rattle.tenant_sessions.specs.Running.{MayBegin}
 use Rattle.plain_store.specs.declared.answer.Rows.{Rows}
 use Rattle.hub.specs.Replies.{IsUnder, IsOf, IsStampOf, IsReplyIn, AreAmong, IsFromReplies, IsWriteOf, IsReadOf, IsListOf, IsToldOf, IsToldFor, IfShows, IfDone, IfRead, IfListed, IfSays, IsReadBySeat, IfTold, Reads}
-use Rattle.hub.specs.Seats.{at_seat, is_unrecorded, told_by}
+use Rattle.hub.specs.Seats.{at_seat, told_by}
 use Rattle.shard.specs.Jobs.{refusal_of}
 use Rattle.hub.specs.Requests.{intent_of, test_of}
 use Rattle.shard.specs.declared.jobs.Fault.{Fault}
@@ -120,30 +120,6 @@ if_listed says.Stopped P Q so is = tt
 if_listed (says.Sent rows) P Q so is = tt
 if_listed (says.Freed count) P Q so is = tt
 if_listed (says.Keeps keep) P Q so is = tt
-
--- an answer that no transcript has reports no write
-pub none_done : (answer : Answer) (P : Stamp → Type 0) → is_unrecorded answer ≡ true → IfDone answer P
-none_done (says.Refused refusal) P is = tt
-none_done (says.Ready counter) P is = tt
-none_done (says.PutBegun stamp rows) P is = tt
-none_done (says.GetBegun rows) P is = tt
-none_done (says.FindBegun rows) P is = tt
-none_done (says.Replied row reply) P is = tt
-none_done says.Ignored P is = tt
-none_done says.Wait P is = tt
-none_done (says.Decided stamp rows) P is = tt
-none_done (says.Done stamp) P is = absurd (cc is)
-none_done (says.Ask rows) P is = tt
-none_done (says.BeginsRead rows) P is = tt
-none_done (says.Read told) P is = absurd (cc is)
-none_done (says.Listed told) P is = absurd (cc is)
-none_done (says.Restart key floor) P is = tt
-none_done (says.Ended refusal rows) P is = tt
-none_done says.Lost P is = tt
-none_done says.Stopped P is = tt
-none_done (says.Sent rows) P is = tt
-none_done (says.Freed count) P is = tt
-none_done (says.Keeps keep) P is = tt
 
 -- what a write that is done reports is said of the answer that it is
 pub if_done_as : (answer : Answer) (P Q : Stamp → Type 0) → ((told : Stamp) → answer ≡ says.Done told → P told → Q told) → IfDone answer P → IfDone answer Q

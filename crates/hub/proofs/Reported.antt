@@ -138,7 +138,7 @@ put_on items old mid now answer own is legal pre put =
     let new : SeatView = record mid { seen = now } in
     record {
       between = put.between;
-      looked = put.looked;
+      raised = put.raised;
       written = record {
         entered = entered_on _ put.between mid answer own now is put.written.entered;
         stamp = put.written.stamp;

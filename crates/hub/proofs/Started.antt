@@ -1,5 +1,5 @@
 -- The shards of the workers that were started: for `start_all`.
-use Rattle.std.proofs.Common.{◌≡◌, ◌+◌, ◌∙◌, ℕ, List, [], ◌∷◌, ◌++◌, length, ap, subst, sym, arith}
+use Rattle.std.proofs.Common.{◌≡◌, ◌+◌, ◌∙◌, ℕ, Bool, List, [], ◌∷◌, ◌++◌, length, ap, subst, sym, arith}
 use Rattle.std.specs.Prelude.{IfOk, Result, Ok, Err, map}
 use Rattle.std.proofs.lemmas.List.{map-append}
 use Rattle.std.specs.Arc.{arc_value}
@@ -8,7 +8,7 @@ use Rattle.std.specs.declared.alloc.Global.{Global}
 use Rattle.history.specs.declared.rule.Naming.{Ghosts}
 use Rattle.closed_store.specs.declared.config.Config.{Config}
 use Rattle.shard.specs.declared.shard.Shard.{Shard}
-use Rattle.hub.specs.Shards.{IsConfigOf, AreShardsFrom}
+use Rattle.hub.specs.Shards.{IsConfigOf, AreShardsFrom, journals_of}
 
 -- that of the next partition behind them
 pub shards-more : {G : Type 0} {naming : Ghosts G} (config : Config) (at : ℕ) (shards : List (Arc (Shard G naming) Global)) (shard : Arc (Shard G naming) Global) → AreShardsFrom config at shards
@@ -29,6 +29,11 @@ shared-config {G} {naming} config at shard (Ok shared) same its =
     let P : Shard G naming → Type 0 = λ d. IsConfigOf config at d.config in
     subst P (sym same) its
 shared-config {G} {naming} config at shard (Err fault) same its = tt
+
+pub shared-journals : {G : Type 0} {naming : Ghosts G} {E : Type 0} (journals : Bool) (shard : Shard G naming) (result : Result (Arc (Shard G naming) Global) E) → IfOk result (λ shared. arc_value shared ≡ shard) → shard.config.journals ≡ journals
+    → IfOk result (λ shared. journals_of shared ≡ journals)
+shared-journals {G} {naming} journals shard (Ok shared) same its = ap (λ (d : Shard G naming). d.config.journals) same ∙ its
+shared-journals {G} {naming} journals shard (Err fault) same its = tt
 
 -- one element more of each of two lists that agree
 pub mapped-more : {X Y : Type 0} (f : X → ℕ) (g : Y → ℕ) (xs more : List X) (ys others : List Y) (x : X) (y : Y) → map f xs ≡ map g ys → f x ≡ g y

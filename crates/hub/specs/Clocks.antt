@@ -1,28 +1,48 @@
 -- What a put does whose stamp the clock of its tenant gives, and which is reported to that clock.
-use Rattle.std.specs.Prelude.{◌≡◌, ◌↔◌, ◌<◌, ◌≤◌, ℕ, Bool, true, false, List, Option, None, Some}
+use Rattle.std.specs.Prelude.{◌≡◌, ◌⊎◌, ◌↔◌, ◌<◌, ◌≤◌, ◌++◌, ℕ, Bool, true, false, List, Option, None, Some}
 use mathlib.Core.List.{IsPrefix}
 use Rattle.stamps.specs.Stamp.{stamp}
 use Rattle.stamps.specs.declared.record.Item.{Item}
 use Rattle.plain_store.specs.declared.answer.Answer.{Answer}
 use Rattle.plain_store.specs.declared.answer.Answer.TheVariants.{Done, Refused}
-use Rattle.plain_store.specs.declared.refusal.Refusal.TheVariants.{RowsUsed, Stopped}
+use Rattle.plain_store.specs.declared.refusal.Refusal.{Refusal}
+use Rattle.plain_store.specs.declared.refusal.Refusal.TheVariants.{OutOfMemory, RowsUsed, Stopped}
+use Rattle.plain_store.specs.declared.step.Act.TheVariants.{Put}
 use Rattle.plain_store.specs.Words.{Stamp}
+use Rattle.entry_list.specs.Raises.{raise_entries}
 use Rattle.history.specs.declared.entry.HistoryEntry.{HistoryEntry}
 use Rattle.history.specs.Clock.{IsDrawnBehind, IsOverrun, IsToldAt}
 use Rattle.history.specs.Entries.{clock_of}
 use Rattle.shard.specs.declared.seat_name.SeatName.{SeatName}
 use Rattle.hub.specs.Fresh.{AreCommittedIn}
 use Rattle.hub.specs.Limits.{last_call, max_calls}
-use Rattle.hub.specs.Operations.{IsLater}
-use Rattle.hub.specs.ReadsFirst.{IsWrittenBy}
-use Rattle.hub.specs.Replies.{IfDone}
-use Rattle.hub.specs.Seats.{SeatView}
+use Rattle.hub.specs.Operations.{IsLater, ReportsWrite}
+use Rattle.hub.specs.Replies.{IfDone, IsDrawn}
+use Rattle.hub.specs.Seats.{SeatView, IsEntered}
 
--- The seat has seen more of the history, and its counter may have been raised. The rest of it is as it was.
-pub record HasLooked (old new : SeatView) : Type 0 where
+-- The seat's counter was raised, which it has entered, and it has seen more of the history. The rest of it is as it was.
+pub record IsRaised (old new : SeatView) : Type 0 where
   pub seen : IsPrefix old.seen new.seen
   pub counter : old.counter ≤ new.counter
-  pub rest : new ≡ record old { counter = new.counter; seen = new.seen }
+  pub rest : new ≡ record old {
+    counter = new.counter;
+    entries = old.entries ++ raise_entries old.name.client new.counter;
+    seen = new.seen;
+  }
+
+-- it was, or is as it was
+abbrev pub MayBeRaised : (old new : SeatView) → Type 0
+MayBeRaised old new = (new ≡ old) ⊎ IsRaised old new
+
+-- The items were written: that it is done, under the next stamp, answers replies that this operation entered.
+pub record IsWrittenBy (items : List Item) (old : SeatView) (answer : Answer) (new : SeatView) : Type 0 where
+  pub entered : IsEntered (Put old.name.client items) old answer new
+  pub stamp : IfDone answer (IsDrawn old.name.client old.counter new.counter)
+  pub written : ReportsWrite items old answer new
+
+-- why nothing is drawn: the clock gives none, or room to enter the raise was refused
+abbrev pub IsDrawRefusal : Refusal → Type 0
+IsDrawRefusal refusal = (refusal ≡ RowsUsed) ⊎ (refusal ≡ OutOfMemory)
 
 -- The stamp is the client's under a counter that was drawn from the tenant's clock, behind all that was seen before.
 pub record IsStampedBehind (old seen : List HistoryEntry) (name : SeatName) (own : Stamp) : Type 0 where
@@ -30,12 +50,12 @@ pub record IsStampedBehind (old seen : List HistoryEntry) (name : SeatName) (own
   pub stamped : own ≡ stamp counter name.client
   pub drawn : IsDrawnBehind old seen (record { tenant = name.tenant; counter = counter })
 
--- What a put does whose stamp its tenant's clock gives. The seat looked at the clock, and wrote the items then, or was refused. That it is
--- done says that its stamp was drawn behind all that the seat had seen, above whatever was drawn before. It is refused because the
--- seat was stopped just where it was, and where its calls were used up.
+-- What a put does whose stamp its tenant's clock gives. The seat's counter was raised, and it wrote the items then; or it was refused as
+-- it was. That it is done says that its stamp was drawn behind all that the seat had seen, above whatever was drawn before. It is refused
+-- because the seat was stopped just where it was, and where its calls were used up.
 pub record PutsByClock (items : List Item) (old : SeatView) (answer : Answer) (new : SeatView) : Type 0 where
   pub between : SeatView
-  pub looked : HasLooked old between
+  pub raised : MayBeRaised old between
   pub written : IsWrittenBy items between answer new
   pub later : IsLater max_calls old new
   pub stopped : (answer ≡ Refused Stopped) ↔ (old.stopped ≡ true)

@@ -1,5 +1,5 @@
 -- What contracts see of a hub, and what it leaves.
-use Rattle.std.specs.Prelude.{◌≡◌, ◌⊎◌, ◌+◌, ◌≤◌, ℕ, List, [], ◌∷◌, length, map, get_or}
+use Rattle.std.specs.Prelude.{◌≡◌, ◌⊎◌, ◌+◌, ◌≤◌, ℕ, Bool, true, List, [], ◌∷◌, length, map, get_or}
 use Rattle.std.specs.Global.{Vec}
 use Rattle.stamps.specs.declared.bounds.Limits.{Limits}
 use Rattle.partition.specs.declared.book.Counts.{Counts}
@@ -13,14 +13,16 @@ use Rattle.history.specs.declared.entry.HistoryEntry.{HistoryEntry}
 use Rattle.history.specs.Entries.{count}
 use Rattle.traced_book.specs.Traced.{AreTraced}
 
--- partitions, tenants, and the numbers that set the pace
+-- partitions, tenants, the numbers that set the pace, and whether journals are kept
 pub record ConfigView : Type 0 where
   pub parts : ℕ
   pub limits : List Limits
   pub queue : ℕ
   pub every : ℕ
   pub epoch : ℕ
+  pub journals : Bool
 
+-- that of a store which keeps journals
 abbrev pub config_view : Config → ConfigView
 config_view config =
     record {
@@ -29,7 +31,12 @@ config_view config =
       queue = config.queue;
       every = config.every;
       epoch = config.epoch;
+      journals = true;
     }
+
+-- that of a store which keeps journals, or none
+abbrev pub view_with : Config → Bool → ConfigView
+view_with config journals = record (config_view config) { journals = journals }
 
 -- Of each tenant there is a journal, under its limits, and each call in it that names a key has its home at this partition.
 pub record IsWhole (config : ConfigView) (at : ℕ) (accounts : List Account) : Type 0 where
@@ -61,9 +68,9 @@ pub record AreSeen (parts : ℕ) (seen : List HistoryEntry) (calls : List ℕ) :
   pub of_parts : length calls ≡ parts
   pub each : (partition : ℕ) → get_or calls partition 0 ≤ count (partition + 1) seen
 
--- what a hub of this config leaves, with the transcripts that it was given
+-- what a hub of this config leaves, with the transcripts that it was given, whether it kept journals or not
 pub record IsLeftBy (hub : ConfigView) (given : List Transcript) (closed : Closed) : Type 0 where
-  pub config : config_view closed.config ≡ hub
+  pub config : config_view closed.config ≡ record hub { journals = true }
   pub transcripts : closed.transcripts.items ≡ given
   pub parts : length closed.journals.items ≡ hub.parts
   pub books : AllSoundBooks hub 0 closed.journals.items closed.counts.items

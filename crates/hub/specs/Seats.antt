@@ -56,18 +56,10 @@ is_final (Restart key floor) = true
 is_final (Ended refusal rows) = true
 is_final answer = false
 
--- the last answer among entries
+-- the answer that an entry is, if it is one
 abbrev pub answer_in : Entry → Option Answer
 answer_in (Answered answer) = Some answer
 answer_in entry = None
-
-abbrev pub or_else : {X : Type 0} → Option X → Option X → Option X
-or_else None other = other
-or_else (Some x) other = Some x
-
-abbrev pub last_answer : List Entry → Option Answer
-last_answer [] = None
-last_answer (e ∷ es) = or_else (last_answer es) (answer_in e)
 
 -- the entries so far stay, and others may follow
 abbrev pub Extends : List Entry → List Entry → Type 0

@@ -12,17 +12,18 @@ use stamps::Item;
 use std::sync::Wait;
 
 impl<'a, G: Gate + Naming> Seat<'a, G> {
-    ghost use Rattle.std.specs.Prelude.{◌≡◌, ◌+◌, true, false, IsTrue};
+    ghost use Rattle.std.specs.Prelude.{◌≡◌, ◌+◌, IfErr, OnErr, OnOk};
     ghost use Rattle.history.specs.Clock.{IsDrawnBehind};
     ghost use Rattle.history.specs.Legal.{IsLegal};
-    ghost use Rattle.hub.specs.Clocks.{HasLooked, HasSeenMore, IsReported, PutsByClock, ReportsDone};
+    ghost use Rattle.hub.specs.Clocks.{HasSeenMore, IsDrawRefusal, IsRaised, IsReported, PutsByClock, ReportsDone};
 
     /// Writes the items under a stamp that is drawn from its tenant's clock as the put begins, behind all that the seat has seen: so
     /// it is above the stamp of each such put of the tenant that began before, whatever keys and whichever client. `put_all` alone
     /// draws a stamp above those that this client has seen, which may be below what is there; nobody reads such a write.
     ///
-    /// The transcript has the write, as `put_all` says, and not that the client's counter was raised: it can't be settled. The answers
-    /// are those of `put_all`, and 26 where the client's counter is more than 2^32 above the clock, or the clock is used up.
+    /// The transcript has two entries before those of the write: the client's counter is raised to one below what was drawn, as if its
+    /// session ended, and began again from there. The answers are those of `put_all`, and 26 where the client's counter is more than 2^32
+    /// above the clock, or the clock is used up. No entry is made then, nor where room for these two was refused (30).
     ///
     /// Once the write is done, it is reported to the clock: no read of the tenant misses it that looks at the clock from then on.
     pub fn put_by_clock<R: Wait>(&mut self, rt: &R, items: &[Item]) -> Answer
@@ -51,8 +52,8 @@ impl<'a, G: Gate + Naming> Seat<'a, G> {
             tell_refusal(refusal, answer);
             return None;
         }
-        if !self.draw() {
-            tell_refusal(Refusal::RowsUsed, answer);
+        if let Err(refusal) = self.draw() {
+            tell_refusal(refusal, answer);
             return None;
         }
         self.put_all_into(rt, items, answer);
@@ -62,12 +63,14 @@ impl<'a, G: Gate + Naming> Seat<'a, G> {
         self.report()
     }
 
-    /// Draws from its tenant's clock, and raises its counter to one below what was drawn. Says whether it did.
-    fn draw(&mut self) -> bool
-        ensures looked { HasLooked self.old self.new }
-        ensures drawn { IsTrue result → IsDrawnBehind self.old.seen self.new.seen
-            (record { tenant = self.old.name.tenant; counter = self.new.counter + 1 }) }
-        ensures unchanged { result ≡ false → self.new ≡ self.old }
+    /// Draws from its tenant's clock, and raises its counter to one below what was drawn, which it enters. It fails where the clock gave
+    /// none (26), and where room for the entries was refused (30); nothing has changed then.
+    fn draw(&mut self) -> Result<(), Refusal>
+        ensures raised { OnOk result (IsRaised self.old self.new) }
+        ensures drawn { OnOk result (IsDrawnBehind self.old.seen self.new.seen
+            (record { tenant = self.old.name.tenant; counter = self.new.counter + 1 })) }
+        ensures unchanged { OnErr result (self.new ≡ self.old) }
+        ensures refused { IfErr result IsDrawRefusal }
     {
         self.operation.draw()
     }

@@ -1,7 +1,7 @@
 //! A hub: what seats share, and the threads that serve them.
 ghost use mathlib.Core.List.{IsPrefix};
 ghost use Rattle.stamps.specs.Bounds.{IsParts};
-ghost use Rattle.hub.specs.Hubs.{config_view, AllTraced, IsLeftBy};
+ghost use Rattle.hub.specs.Hubs.{view_with, AllTraced, IsLeftBy};
 ghost use Rattle.hub.specs.Registered.{IsDeparture, is_unopened};
 ghost use Rattle.shard.specs.Queues.{unsent};
 ghost use Rattle.shard.specs.UsedAt.{AreUsagesAt, WasElsewhere};
@@ -41,6 +41,8 @@ struct Clients<G: Naming> {
 #[derive(Drop)]
 pub struct Hub<G: Naming> {
     config: Config,
+    /// Whether its partitions keep journals.
+    journals: bool,
     pub(crate) alloc: Global,
     queues: Mutex<Vec<JobSender<G>>>,
     clients: Mutex<Clients<G>>,
@@ -50,7 +52,8 @@ pub struct Hub<G: Naming> {
     threads: Sealed<Vec<Worker>>,
     /// Room for the numbers of calls that the close sees.
     calls: Vec<u64>,
-    journals: Vec<Vec<Journal>>,
+    /// Room for the journals that are left.
+    left: Vec<Vec<Journal>>,
     counts: Vec<Counts>,
     /// Its opening: what each seat has seen of the history at first.
     seen: Front<G>,
@@ -59,20 +62,22 @@ pub struct Hub<G: Naming> {
 
 impl<G: Naming> Model for Hub<G> {
     ghost use Rattle.std.specs.Prelude.{◌≡◌, ◌≤◌, length, vec_len, vec_capacity};
-    ghost use Rattle.hub.specs.Hubs.{ConfigView, config_view};
+    ghost use Rattle.hub.specs.Hubs.{ConfigView, view_with};
     ghost use Rattle.history.specs.Legal.{HasParts};
-    ghost use Rattle.hub.specs.Shards.{AreShardsFrom};
+    ghost use Rattle.hub.specs.Shards.{AreShardsFrom, KeepAlike};
 
     ghost Value = { ConfigView };
 
-    ghost view = { λ h. config_view h.config };
+    ghost view = { λ h. view_with h.config h.journals };
 
-    ghost invariant = { λ h. (length h.shards.items ≡ h.config.parts) × (vec_len h.journals ≡ 0) × (vec_len h.counts ≡ 0) × (vec_len h.calls ≡ 0) × (h.config.parts ≤ vec_capacity h.journals) × (h.config.parts ≤ vec_capacity h.counts) × (h.config.parts ≤ vec_capacity h.calls) × AreShardsFrom h.config 0 h.shards.items × ∥ HasParts h.seen h.config.parts ∥₁ };
+    ghost invariant = { λ h. (length h.shards.items ≡ h.config.parts) × (vec_len h.left ≡ 0) × (vec_len h.counts ≡ 0) × (vec_len h.calls ≡ 0) × (h.config.parts ≤ vec_capacity h.left) × (h.config.parts ≤ vec_capacity h.counts) × (h.config.parts ≤ vec_capacity h.calls) × AreShardsFrom h.config 0 h.shards.items × KeepAlike h.journals h.shards.items × ∥ HasParts h.seen h.config.parts ∥₁ };
 }
 
 impl<G: Gate + Naming + Send + Sync + Drop + 'static> Hub<G> {
     /// Starts a worker for each partition. Epochs that workers cut go to the sink, which the workers drop as they end. It fails
     /// where memory or a thread was refused; then it has ended and joined the threads that it started.
+    ///
+    /// Where the store keeps no journals, no epoch is cut, and none comes to the sink.
     ///
     /// The gate's type carries the name of the store's history: `Named` puts a gate under a name.
     pub fn open<
@@ -80,9 +85,13 @@ impl<G: Gate + Naming + Send + Sync + Drop + 'static> Hub<G> {
         R: Threads + Wait + Clone + Send + Drop + 'static,
     >(rt: &R, alloc: Global, store: NewStore, gate: G, sink: S) -> Result<Hub<G>, HubFault>
         requires { store.history.seen.book ≡ G.book }
-        ensures { IfOk result (λ h. h ≡ config_view store.config) }
+        ensures { IfOk result (λ h. h ≡ view_with store.config store.journals) }
     {
-        let NewStore { config, history } = store;
+        let NewStore {
+            config,
+            journals,
+            history,
+        } = store;
         let (of_clients, mut words, seen) = history.named::<G>();
         let parts = config.parts as usize;
         let clients = Mutex::new(Clients {
@@ -95,14 +104,14 @@ impl<G: Gate + Naming + Send + Sync + Drop + 'static> Hub<G> {
         let mut lists = PartitionLists::of(alloc, parts)?;
         let mut clocks = Clocks::with_room(alloc, config.limits.len())?;
         let started = start_all(
-            rt, alloc, &config, &gate, &sink, &collector, &mut words, &seen, &mut lists,
+            rt, alloc, &config, journals, &gate, &sink, &collector, &mut words, &seen, &mut lists,
         );
         let PartitionLists {
             shards,
             queues,
             threads,
             calls,
-            journals,
+            journals: room,
             counts,
         } = lists;
         if let Err(fault) = started {
@@ -113,6 +122,7 @@ impl<G: Gate + Naming + Send + Sync + Drop + 'static> Hub<G> {
         clocks.fill(words, config.limits.len());
         Ok(Hub {
             config,
+            journals,
             alloc,
             queues: Mutex::new(queues),
             clients,
@@ -121,7 +131,7 @@ impl<G: Gate + Naming + Send + Sync + Drop + 'static> Hub<G> {
             shards,
             threads: Sealed::new(threads),
             calls,
-            journals,
+            left: room,
             counts,
             seen,
             clocks,
@@ -130,7 +140,7 @@ impl<G: Gate + Naming + Send + Sync + Drop + 'static> Hub<G> {
 
     /// Ends and joins the threads, and takes each book out of its lock. The seats have ended, since they borrow the hub. A
     /// book that is not there, or that has not all calls of its partition, gives no journals and counts of 0: no proof excludes
-    /// that. Takes no memory.
+    /// that. So does a store that keeps no journals. Takes no memory.
     pub fn close<R: Threads + Wait>(self, rt: &R, transcripts: Vec<Transcript>) -> Closed
         ensures { IsLeftBy self transcripts.items result }
     {
@@ -152,6 +162,7 @@ impl<G: Gate + Naming + Send + Sync + Drop + 'static> Hub<G> {
     {
         let Hub {
             config,
+            journals: _,
             alloc,
             queues,
             clients: _,
@@ -160,7 +171,7 @@ impl<G: Gate + Naming + Send + Sync + Drop + 'static> Hub<G> {
             shards,
             threads,
             mut calls,
-            mut journals,
+            left: mut journals,
             mut counts,
             seen,
             clocks: _,
@@ -187,6 +198,13 @@ impl<G: Gate + Naming + Send + Sync + Drop + 'static> Hub<G> {
 }
 
 impl<G: Naming> Hub<G> {
+    /// Whether its partitions keep journals of the calls that they serve.
+    pub fn has_journals(&self) -> bool
+        ensures { result ≡ self.now.journals }
+    {
+        self.journals
+    }
+
     /// After how many events of a journal its partition's worker cuts it; 0 where none is ever cut.
     pub fn epoch(&self) -> u32
         ensures { result ≡ self.now.epoch }

@@ -2,8 +2,8 @@
 //!
 //! Choices:
 //! - A call that its queue returns counts as a worker's 10.
-//! - A put that reads first goes on if its read ends by a restart: that had its first round, which is enough for
-//!   the stamp.
+//! - A raise is entered as a stop and a hello, which a verdict takes as steps of the plain store. Their answers are
+//!   not recorded: the stamps in the journals show to what counter it was.
 //! - A seat's ticket is in no clause: it shows only past 2^62 transactions.
 //! - A reply of another partition than its call was made for stops the seat (10): so a COMMIT's reply is its
 //!   home's.
@@ -29,7 +29,6 @@ mod closing;
 mod dispatcher;
 mod hub;
 mod new_store;
-mod newest;
 mod operation;
 mod read_laws;
 mod register;

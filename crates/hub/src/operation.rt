@@ -14,6 +14,8 @@ ghost use Rattle.traced_client.specs.Clients.{IsSameClient};
 ghost use Rattle.hub.specs.Seats.{at_seat, is_final};
 ghost use Rattle.history.specs.Rules.{IsClockOf};
 ghost use Rattle.history.specs.Clock.{IsDrawnBehind};
+ghost use Rattle.entry_list.specs.Raises.{raise_entries};
+ghost use Rattle.hub.specs.Clocks.{IsDrawRefusal};
 
 use crate::dispatcher::{Dispatcher, MOST_CALLS};
 use crate::seat_request::SeatRequest;
@@ -239,7 +241,7 @@ fn enter_given_up<G: Naming>(
 }
 
 impl<'a, G: Gate + Naming> RunningOperation<'a, G> {
-    ghost use Rattle.std.specs.Prelude.{◌≡◌, ◌<◌, ◌≤◌, ◌+◌, ◌^◌, ℕ, [], ◌∷◌, ◌++◌, List, Option, true, false, None, Some, Ok, Err, IfOk, OnOk, OnErr, IsSome, IsNone, IsTrue, ◌↔◌, length, map, slice_get};
+    ghost use Rattle.std.specs.Prelude.{◌≡◌, ◌<◌, ◌≤◌, ◌+◌, ◌^◌, ℕ, [], ◌∷◌, ◌++◌, List, Option, true, false, None, Some, Ok, Err, IfErr, IfOk, OnOk, OnErr, IsSome, IsNone, IsTrue, ◌↔◌, length, map, slice_get};
     ghost use Rattle.stamps.specs.Bounds.{IsParts};
     ghost use Rattle.plain_store.specs.declared.calls.Reply.{Reply as Served};
     ghost use Rattle.plain_store.specs.declared.answer.Answer.{Answer as Said};
@@ -451,29 +453,37 @@ impl<'a, G: Gate + Naming> RunningOperation<'a, G> {
         self.seen.learn(other);
     }
 
-    /// Draws from its tenant's clock above the session's counter, and raises that to one below what was drawn. Says whether it did;
-    /// nothing has changed where it did not.
-    pub(crate) fn draw(&mut self) -> bool
-        ensures drawn { IsTrue result → IsDrawnBehind self.old.seen self.new.seen
-            (record { tenant = self.old.name.tenant; counter = self.new.session.counter + 1 }) }
+    /// Draws from its tenant's clock above the session's counter, and raises that to one below what was drawn, which it enters: the session
+    /// ends, and begins again from there. It fails where the clock gave none (26), and where room for the entries was refused (30); nothing
+    /// has changed then.
+    pub(crate) fn draw(&mut self) -> Result<(), Refusal>
+        ensures drawn { OnOk result (IsDrawnBehind self.old.seen self.new.seen
+            (record { tenant = self.old.name.tenant; counter = self.new.session.counter + 1 })) }
+        ensures entered { OnOk result (self.new.entries.items ≡ self.old.entries.items
+            ++ raise_entries self.old.name.client self.new.session.counter) }
         ensures later { IsPrefix self.old.seen self.new.seen }
         ensures counter { self.old.session.counter ≤ self.new.session.counter }
         ensures rest { (self.new.name ≡ self.old.name)
             × (self.new.dispatcher ≡ self.old.dispatcher)
-            × (self.new.first ≡ self.old.first) × (self.new.entries ≡ self.old.entries)
-            × (self.new.mark ≡ self.old.mark) }
-        ensures unchanged { result ≡ false → self.new ≡ self.old }
+            × (self.new.first ≡ self.old.first) × (self.new.mark ≡ self.old.mark) }
+        ensures unchanged { OnErr result ((self.new.seen ≡ self.old.seen)
+            × (self.new.session ≡ self.old.session)
+            × (self.new.entries.items ≡ self.old.entries.items)) }
+        ensures refused { IfErr result IsDrawRefusal }
     {
         let floor = self.session.counter().get();
         let mut front = self.seen.again();
         let drawn = front.draw_next(self.clock, &self.seen, self.name.tenant, floor);
         let Some(base) = counter_below(drawn) else {
-            return false;
+            return Err(Refusal::RowsUsed);
+        };
+        let Ok(()) = self.entries.push_raise(self.name.client, base) else {
+            return Err(Refusal::OutOfMemory);
         };
         self.learn(&front);
         let _ = self.session.stop();
         let _ = self.session.reopen(base);
-        true
+        Ok(())
     }
 
     /// Hands out the entries so far.

@@ -2,7 +2,8 @@
 ghost use Rattle.std.specs.Prelude.{◌≡◌, ◌≤◌, ◌<◌, ◌+◌, ◌-◌, ◌^◌, vec_len, vec_capacity, IfErr, IfOk, OnOk};
 ghost use Rattle.std.specs.Arc.{arc_value};
 ghost use Rattle.stamps.specs.Limits.{max_parts};
-ghost use Rattle.hub.specs.Shards.{IsConfigOf, IsOpeningOf, partition_of};
+ghost use Rattle.shard.specs.Journals.{AreOf};
+ghost use Rattle.hub.specs.Shards.{IsConfigOf, IsOpeningOf, journals_of, partition_of};
 ghost use Rattle.hub.specs.Starting.{AreEmptyFor, AreStarted};
 
 use closed_store::Config;
@@ -129,7 +130,7 @@ pub fn join_all<R: Threads>(rt: &R, threads: Vec<Worker>) -> EndedCount
     ended
 }
 
-/// Starts a worker for each partition, with its shard and its queue. Where it fails, the threads started so far are in the lists.
+/// Starts a worker for each partition, with its shard, which keeps journals or none, and its queue. Where it fails, the threads started so far are in the lists.
 pub fn start_all<
     G: Gate + Naming + Send + Sync + Drop + 'static,
     S: Sink + Send + Sync + Drop + 'static,
@@ -138,6 +139,7 @@ pub fn start_all<
     rt: &R,
     alloc: Global,
     config: &Config,
+    journals: bool,
     gate: &Arc<G>,
     sink: &Arc<S>,
     collector: &Arc<Collector>,
@@ -151,13 +153,13 @@ pub fn start_all<
         ≤ vec_capacity lists.old.threads }
     requires words { words.old.next ≡ 0 }
     requires opened { IsOpeningOf config.now seen.now }
-    ensures started { OnOk result (AreStarted config.now lists.old lists.new) }
+    ensures started { OnOk result (AreStarted config.now journals lists.old lists.new) }
     ensures rest { (lists.new.calls ≡ lists.old.calls) × (lists.new.journals ≡ lists.old.journals)
         × (lists.new.counts ≡ lists.old.counts) }
 {
     for partition in 0..config.parts {
         let tally = words.take().unwrap();
-        let shard = shard_of(alloc, config, collector, partition, tally, seen)?;
+        let shard = shard_of(alloc, config, journals, collector, partition, tally, seen)?;
         let (queue, tasks) = job_queue(alloc, config.queue as usize)?;
         let theirs = Arc::try_clone(&shard)?;
         let thread = start_worker(rt, tasks, theirs, gate, sink)?;
@@ -168,10 +170,11 @@ pub fn start_all<
     Ok(())
 }
 
-/// The shard of a partition, whose book has no event yet. The one fault is that an allocation failed.
+/// The shard of a partition that has served no call yet. The one fault is that an allocation failed.
 fn shard_of<G: Naming>(
     alloc: Global,
     config: &Config,
+    journals: bool,
     collector: &Arc<Collector>,
     partition: u32,
     tally: Tally<G>,
@@ -181,6 +184,7 @@ fn shard_of<G: Naming>(
     requires opened { IsOpeningOf config.now seen.now }
     ensures config { IfOk result
         (λ shard. IsConfigOf config.now partition (arc_value shard).config) }
+    ensures journals { IfOk result (λ shard. journals_of shard ≡ journals) }
     ensures refused { IfErr result (λ fault. fault ≡ HubFault.OutOfMemory) }
 {
     let collector = Arc::try_clone(collector)?;
@@ -189,11 +193,35 @@ fn shard_of<G: Naming>(
         parts: config.parts,
         tenants: config.limits.len() as u32,
         every: config.every,
+        journals,
         epoch: config.epoch,
     };
-    let book = Book::open(alloc, config.limits.as_slice())?;
-    let book = TracedBook::new(book, partition, tally, seen.again());
+    let book = book_of(alloc, config, journals, partition, tally, seen)?;
     share(alloc, Shard::new(its, collector, book))
+}
+
+/// The cells of a partition that has served no call yet, with journals or without. The one error is that an allocation failed.
+fn book_of<G: Naming>(
+    alloc: Global,
+    config: &Config,
+    journals: bool,
+    partition: u32,
+    tally: Tally<G>,
+    seen: &Front<G>,
+) -> Result<TracedBook<G>, AllocError>
+    requires tally { (tally.key ≡ partition + 1) × (partition < max_parts) }
+    requires opened { IsOpeningOf config.now seen.now }
+    ensures its { IfOk result (λ book. (book.partition ≡ partition) × (book.journals ≡ journals)) }
+    ensures of_partition { IfOk result
+        (λ book. ∥ AreOf config.now.parts partition book.accounts ∥₁) }
+{
+    let limits = config.limits.as_slice();
+    if journals {
+        let book = Book::open(alloc, limits)?;
+        Ok(TracedBook::new(book, partition, tally, seen.again()))
+    } else {
+        TracedBook::without_journals(alloc, limits, partition, tally, seen.again())
+    }
 }
 
 /// Starts the worker of this shard's partition, which takes these tasks.

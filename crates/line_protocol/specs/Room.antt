@@ -10,8 +10,8 @@ pub record Appends (most : ℕ) (old new : Filled) (text : List ℕ) : Type 0 wh
   pub used : old.spare ≤ new.spare + most
   pub kept : length new.items + new.spare ≡ length old.items + old.spare
 
--- A buffer got this line behind what stood in it. That is so exactly where it had this many bytes spare; where it had not, it
--- is as it was. Its room does not get smaller.
+-- A buffer got this line behind what stood in it. That is so exactly where it had this many bytes spare; where it had
+-- not, it is as it was. Its room does not get smaller.
 pub record WritesLine (limit : ℕ) (line : List ℕ) (old new : Filled) (result : Result (Unit {0}) NoRoom) : Type 0 where
   pub succeeds : IsOk result ↔ (limit ≤ old.spare)
   pub ok : OnOk result (new.items ≡ old.items ++ line)

@@ -1,5 +1,6 @@
 -- The grammar of sessions: how what a client asks is spelled, and which lines ask for something.
-use Rattle.std.specs.Prelude.{◌≡◌, ◌⊎◌, ℕ, ◌<◌, Bool, cond, List, ◌∷◌, ◌++◌, length, Option, Some, None, IfSome, decimal, codes}
+use Rattle.std.specs.Prelude.{◌≡◌, ◌⊎◌, ℕ, ◌<◌, Bool, cond, List, ◌∷◌}
+use Rattle.std.specs.Prelude.{◌++◌, length, Option, Some, None, IfSome, decimal, codes}
 use Rattle.std.specs.List.{AllByRecursion}
 use Rattle.stamps.specs.Bounds.{IsClient, IsCounter, IsKeep}
 use Rattle.stamps.specs.Key.{IsKey}
@@ -51,7 +52,8 @@ yes_or_no is = cond is (codes "yes") (codes "no")
 -- the line that answers `info`: the version, the number of this store, and whether each put reads its keys first
 abbrev pub info_line : ℕ → Bool → List ℕ
 info_line store newest =
-    terminated (codes "info version=" ++ (codes "0.3.0" ++ (codes " store=" ++ (decimal store ++ (codes " newest=" ++ yes_or_no newest)))))
+    terminated (codes "info version="
+    ++ (codes "0.3.0" ++ (codes " store=" ++ (decimal store ++ (codes " newest=" ++ yes_or_no newest)))))
 
 -- a base that is 0 may be left out
 abbrev pub LeavesBaseOut : Request → List ℕ → Type 0

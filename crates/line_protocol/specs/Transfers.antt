@@ -16,7 +16,8 @@ IsTransfer old (Gave line) new = Waits old line × (new ≡ [])
 -- the same of transfers one after the other
 abbrev pub AreTransfers : List ℕ → List Transfer → List ℕ → Type 0
 AreTransfers old [] new = new ≡ old
-AreTransfers old (transfer ∷ transfers) new = (held : List ℕ) × IsTransfer old transfer held × AreTransfers held transfers new
+AreTransfers old (transfer ∷ transfers) new =
+    (held : List ℕ) × IsTransfer old transfer held × AreTransfers held transfers new
 
 -- the stream that the transfers took
 abbrev pub stream_of : List Transfer → List ℕ

@@ -249,6 +249,13 @@ fn reading_of(key: &Key, version: &Option<Record>) -> Reading
     }
 }
 
+/// What a reader of these keys gets of one of them.
+fn reading_for(keys: &[Key], replies: &[Message], key: &Key) -> Reading
+    ensures { result ≡ reading_of key.now (version_read keys.now replies.now key.now) }
+{
+    reading_of(key, &version_read(keys, replies, key))
+}
+
 /// What a reader of these keys gets of some of them.
 pub(super) fn readings_of(
     alloc: Global,
@@ -262,7 +269,7 @@ pub(super) fn readings_of(
     match some {
         [] => Ok(Vec::new(alloc)),
         [key, rest @ ..] => {
-            let first = reading_of(key, &version_read(keys, replies, key));
+            let first = reading_for(keys, replies, key);
             lists::prepend(first, readings_of(alloc, keys, replies, rest)?)
         }
     }

@@ -3,3 +3,4 @@ pub mod Records
 pub mod KeyLoop
 pub mod Pieces
 pub mod Words
+pub mod BodyParts

@@ -66,7 +66,7 @@ stamp_again s rest h =
 
 -- ---- texts
 
-text_again : (text rest : List ℕ) → text_at (packed_text text ++ rest) ≡ Some (text, rest)
+pub text_again : (text rest : List ℕ) → text_at (packed_text text ++ rest) ≡ Some (text, rest)
 unfolding text_at
 text_again text rest =
     let long : ltb (length (text ++ rest)) (length text) ≡ false = le-ltb _ _ (omega (arith, length-append text rest)) in

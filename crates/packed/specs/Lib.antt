@@ -3,3 +3,4 @@ pub mod Reading
 pub mod Sizes
 pub mod Cuts
 pub mod Laying
+pub mod Bodies

@@ -32,3 +32,7 @@ max_keys_bytes = 1 + max_keys * max_key_bytes
 -- an item, its stamp and the keys of its write set
 abbrev pub max_record_bytes : ℕ
 max_record_bytes = max_item_bytes + stamp_bytes + max_keys_bytes
+
+-- a record without its stamp
+abbrev pub max_body_bytes : ℕ
+max_body_bytes = max_item_bytes + max_keys_bytes

@@ -9,7 +9,8 @@ ghost use Rattle.stamps.specs.Limits.{max_keys};
 ghost use Rattle.stamps.specs.Stamp.{IsStamp};
 ghost use Rattle.stamps.specs.Key.{IsKey};
 ghost use Rattle.packed.specs.Packing.{packed_text, packed_keys, packed_record, IsStoreRecord};
-ghost use Rattle.packed.specs.Sizes.{stamp_bytes, max_key_bytes, max_keys_bytes, max_record_bytes};
+ghost use Rattle.packed.specs.Bodies.{packed_body};
+ghost use Rattle.packed.specs.Sizes.{stamp_bytes, max_key_bytes, max_keys_bytes, max_record_bytes, max_body_bytes};
 
 use crate::sizes::STAMP_BYTES;
 use stamps::{Key, Record, Stamp};
@@ -92,5 +93,19 @@ pub(crate) fn lay_record(bytes: &mut [u8], at: usize, version: &Record) -> usize
     let value = lay_text(bytes, tag, version.tag.padded(), version.tag.len());
     let stamp = lay_text(bytes, value, version.value.padded(), version.value.len());
     let writes = lay_stamp(bytes, stamp, version.stamp);
+    lay_keys(bytes, writes, version.writes.as_slice())
+}
+
+/// A record without its stamp, part by part, from the front on. It takes up to `MAX_BODY_BYTES`.
+pub(crate) fn lay_body(bytes: &mut [u8], version: &Record) -> usize
+    requires { max_body_bytes ≤ length bytes.old }
+    ensures laid { take result bytes.new ≡ packed_body version.now }
+    ensures stored { IsStoreRecord version.now }
+    ensures few { result ≤ max_body_bytes }
+{
+    let _number = version.stamp.number();
+    let tag = lay_key(bytes, 0, &version.key);
+    let value = lay_text(bytes, tag, version.tag.padded(), version.tag.len());
+    let writes = lay_text(bytes, value, version.value.padded(), version.value.len());
     lay_keys(bytes, writes, version.writes.as_slice())
 }

@@ -18,3 +18,9 @@ pub const MAX_KEYS_BYTES: usize = 1 + MAX_KEYS * MAX_KEY_BYTES;
 
 /// The most bytes of a record: an item, its stamp and the keys of its write set.
 pub const MAX_RECORD_BYTES: usize = MAX_ITEM_BYTES + STAMP_BYTES + MAX_KEYS_BYTES;
+
+/// The most bytes of a record without its stamp.
+pub const MAX_BODY_BYTES: usize = MAX_ITEM_BYTES + MAX_KEYS_BYTES;
+
+/// How many bytes a buffer has that bodies are copied to and from, 64 at a time: the longest one, and 63 behind it.
+pub const BODY_ROOM: usize = MAX_BODY_BYTES + 63;

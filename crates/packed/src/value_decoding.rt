@@ -53,8 +53,9 @@ pub fn read_count(bytes: &[u8]) -> Option<(u32, &[u8])>
     Some((number as u32, rest))
 }
 
+// The text at the front.
 #[tactic(auto, unfolding(crate::specs::Reading::text_at))]
-fn text_at(bytes: &[u8]) -> Option<(&[u8], &[u8])>
+pub(crate) fn text_at(bytes: &[u8]) -> Option<(&[u8], &[u8])>
     ensures { option_map (λ p. (p.0.now, p.1.now)) result ≡ text_at bytes.now }
 {
     let (len, rest) = read_byte(bytes)?;

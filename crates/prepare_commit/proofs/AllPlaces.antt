@@ -10,7 +10,7 @@ use Rattle.plain_store.specs.Words.{Key}
 use Rattle.plain_store.proofs.Counting.{counted, count_by-all, any_is, count_by-cons, count_by-map}
 use Rattle.secondary_index.specs.Index.{Index}
 use Rattle.version_arena.specs.Arena.{entry}
-use Rattle.version_chain.specs.declared.version.Node.{Node}
+use Rattle.version_chain.specs.Node.{Node}
 use Rattle.version_chain.specs.declared.version.Version.{Version}
 use Rattle.version_chain.specs.declared.stamp_list.Kept.{Kept}
 use Rattle.version_chain.specs.Heads.{Heads}

@@ -125,8 +125,8 @@ fn item_of(
     ensures item { IfSome result (StandsIn items.now.items) }
     ensures chain { IfSome result (λ item. item.chain ≡ chain) }
 {
-    let first = versions.first(block, chain)?;
-    let Ok(place) = items::search(items, &first.key) else {
+    let key = versions.first(block, chain)?.key();
+    let Ok(place) = items::search(items, &key) else {
         return None;
     };
     let item = *items.get(place);

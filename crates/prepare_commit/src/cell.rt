@@ -445,7 +445,7 @@ impl Cell {
         let Some(stamp) = stamp else {
             return match self.versions.latest(block, item.chain) {
                 Some(latest) => {
-                    prove!(latest.stamp > Stamp::ZERO);
+                    let _written = latest.stamp();
                     GetReply::Version(latest)
                 }
                 None => GetReply::Initial,

@@ -192,7 +192,8 @@ fn cut_chain(
     let Some(first) = versions.first(block, chain) else {
         return 0;
     };
-    let Ok(place) = items::search(items, &first.key) else {
+    let key = first.key();
+    let Ok(place) = items::search(items, &key) else {
         unreachable!()
     };
     cut_item(block, items, versions, place, keep)

@@ -93,6 +93,7 @@ fn commit_version(
     let chain = chains.mark_slot(block, kept);
     changed.note(chain);
     if let Some(latest) = chains.latest(block, chain) {
-        index.set_numbered(chain, &latest.key, latest.tag);
+        let key = latest.key();
+        index.set_numbered(chain, &key, latest.tag());
     }
 }

@@ -160,7 +160,7 @@ fn latest_tag(block: &Block, held: &Versions, chain: u32) -> Tag
         → IsTagOf key (versions_at block.now held.now chain) result }
 {
     match held.latest(block, chain) {
-        Some(latest) => latest.tag,
+        Some(latest) => latest.tag(),
         None => items::no_tag(),
     }
 }

@@ -4,14 +4,14 @@ ghost use Rattle.prepare_commit.specs.GetReply.{copied};
 ghost use Rattle.prepare_commit.specs.Layout.{insert_reply};
 
 use plain_store::{DiscardReply, Found, PrepareReply, ReadReply, Reply};
-use stamps::{Record, Stamp};
-use version_chain::Insert;
+use stamps::Stamp;
+use version_chain::{Insert, StoredRecord};
 
-/// What a read answers. The cell lends the record that it keeps.
-#[derive(Clone, Copy)]
+/// What a read answers. The cell lends the record where it keeps it.
+#[derive(Drop)]
 pub enum GetReply<'a> {
     /// The version that was sought.
-    Version(&'a Record),
+    Version(StoredRecord<'a>),
     /// No version of the item is committed.
     Initial,
     /// The stamp is below this one, the item's floor: the version may have been dropped.
@@ -28,7 +28,7 @@ impl GetReply<'_> {
         ensures { result ≡ copied self.now }
     {
         match self {
-            GetReply::Version(version) => ReadReply::Version(**version),
+            GetReply::Version(version) => ReadReply::Version(version.unpacked()),
             GetReply::Initial => ReadReply::Initial,
             GetReply::Collected(floor) => ReadReply::Collected(*floor),
             GetReply::Unknown => ReadReply::Unknown,
@@ -81,14 +81,14 @@ pub(crate) fn put_read(told: &GetReply<'_>, place: &mut Option<Reply>)
 }
 
 /// Puts a version that was read into the caller's buffer, as `put_prepared` does.
-fn put_version(version: &Record, place: &mut Option<Reply>)
+fn put_version(version: &StoredRecord<'_>, place: &mut Option<Reply>)
     ensures { place.new ≡ Some (Reply.Get (ReadReply.Version version.now)) }
 {
     if let Some(Reply::Get(ReadReply::Version(old))) = place {
-        *old = *version;
+        version.copy_into(old);
         return;
     }
-    begin_read(&GetReply::Version(version), place);
+    begin_version(version, place);
 }
 
 /// Puts what stands under a tag into the caller's buffer.
@@ -115,7 +115,7 @@ pub(crate) fn put_discarded(told: DiscardReply, place: &mut Option<Reply>)
 }
 
 /// Puts the reply to a PREPARE over another reply. It stands alone, so that what is written over its like has no room for a
-/// reply; and so do the two below.
+/// reply; and so do the three below.
 #[cold]
 #[inline(never)]
 fn begin_prepared(told: PrepareReply, place: &mut Option<Reply>)
@@ -140,4 +140,13 @@ fn begin_read(told: &GetReply<'_>, place: &mut Option<Reply>)
     ensures { place.new ≡ Some (Reply.Get (copied told.now)) }
 {
     *place = Some(Reply::Get(told.copied()));
+}
+
+/// Puts a version that was read over another reply.
+#[cold]
+#[inline(never)]
+fn begin_version(version: &StoredRecord<'_>, place: &mut Option<Reply>)
+    ensures { place.new ≡ Some (Reply.Get (ReadReply.Version version.now)) }
+{
+    *place = Some(Reply::Get(ReadReply::Version(version.unpacked())));
 }

@@ -1,5 +1,5 @@
 //! The versions of a cell, in the chains of its items.
-ghost use Rattle.std.specs.Prelude.{◌≡◌, ◌≢◌, ◌+◌, ◌<◌, ◌≤◌, ◌==◌, ◌^◌, ℕ, List, ◌++◌, All, length, None, map, filter, count_by, nat_le, slice_set, IsTrue, option_copied, true, IfOk};
+ghost use Rattle.std.specs.Prelude.{◌≡◌, ◌≢◌, ◌+◌, ◌<◌, ◌≤◌, ◌==◌, ◌^◌, ℕ, List, ◌++◌, All, length, None, map, filter, count_by, nat_le, slice_set, IsTrue, true, IfOk};
 ghost use Rattle.prepare_commit.specs.declared.items.ChainedItem.{ChainedItem};
 ghost use Rattle.version_chain.specs.Chain.{HoldsChains, at_stamp, first_record, without_open};
 ghost use Rattle.version_chain.specs.Changes.{HasChain, IsRunOf, ListsExactly};
@@ -17,7 +17,7 @@ use crate::commit::commit;
 use secondary_index::TagIndex;
 use stamps::{Keep, Record, Stamp, Visits};
 use std::alloc::{AllocError, Global};
-use version_chain::{Block, Chains, Insert, Version, VersionList};
+use version_chain::{Block, Chains, Insert, StoredRecord, Version, VersionList};
 
 /// Numbered chains of versions, in a block that the caller passes to each call. Contracts see the versions of each chain in the
 /// block, how many versions there are, and how many there may be.
@@ -50,27 +50,32 @@ impl Versions {
     }
 
     /// The record of this stamp in a chain. It visits what a search for the stamp does.
-    pub(crate) fn find<'b>(&self, block: &'b Block, chain: u32, stamp: Stamp) -> Option<&'b Record>
+    pub(crate) fn find<'b>(
+        &self,
+        block: &'b Block,
+        chain: u32,
+        stamp: Stamp,
+    ) -> Option<StoredRecord<'b>>
         requires { HasChain block.now self.now.chains chain }
-        ensures { option_copied result ≡ at_stamp (versions_at block.now self.now chain) stamp }
+        ensures { result ≡ at_stamp (versions_at block.now self.now chain) stamp }
     {
         self.chains.find(block, chain, stamp)
     }
 
     /// The latest committed record of a chain. It visits this one alone.
-    pub(crate) fn latest<'b>(&self, block: &'b Block, chain: u32) -> Option<&'b Record>
+    pub(crate) fn latest<'b>(&self, block: &'b Block, chain: u32) -> Option<StoredRecord<'b>>
         requires { HasChain block.now self.now.chains chain }
         ensures { (key : List ℕ) → All (IsVersionOf key) (versions_at block.now self.now chain)
             → IsLatest key (versions_at block.now self.now chain)
-            (committed_version (option_copied result)) }
+            (committed_version result) }
     {
         self.chains.latest(block, chain)
     }
 
     /// The record of the greatest stamp in a chain, if it has any.
-    pub(crate) fn first<'b>(&self, block: &'b Block, chain: u32) -> Option<&'b Record>
+    pub(crate) fn first<'b>(&self, block: &'b Block, chain: u32) -> Option<StoredRecord<'b>>
         requires { HasChain block.now self.now.chains chain }
-        ensures { option_copied result ≡ first_record (versions_at block.now self.now chain) }
+        ensures { result ≡ first_record (versions_at block.now self.now chain) }
     {
         self.chains.first(block, chain)
     }

@@ -28,8 +28,9 @@ h2 { margin: 0; font-size: 14px; font-weight: 600; }
 #health { padding: 1px 10px; border-radius: 999px; border: 1px solid currentColor; font-weight: 600; }
 .good { color: var(--good); } .warn { color: var(--warn); } .bad { color: var(--bad); }
 .soft { color: var(--soft); }
-pre { margin: 0 0 14px; padding: 10px 12px; border: 1px solid var(--line); border-radius: 8px; background: var(--card); font: 13px/1.5 ui-monospace, monospace; white-space: pre-wrap; overflow-wrap: anywhere; max-height: 12em; overflow-y: auto; }
-.tiles { display: grid; gap: 10px; grid-template-columns: repeat(auto-fit, minmax(150px, 1fr)); margin-bottom: 14px; }
+pre { margin: 0 0 14px; padding: 10px 12px; border: 1px solid var(--line); border-radius: 8px; background: var(--card); font: 13px/1.5 ui-monospace, monospace; white-space: pre-wrap; overflow-wrap: anywhere; max-height: 18em; overflow-y: auto; }
+.tiles { display: grid; gap: 10px; grid-template-columns: repeat(auto-fit, minmax(140px, 1fr)); margin-bottom: 14px; }
+.tiles .two { grid-column: span 2; }
 .charts { display: grid; gap: 14px; grid-template-columns: repeat(auto-fit, minmax(min(100%, 350px), 1fr)); margin-bottom: 14px; }
 section { padding: 12px 14px; border: 1px solid var(--line); border-radius: 8px; background: var(--card); min-width: 0; }
 .tiles b { display: block; font-size: 22px; font-weight: 600; font-variant-numeric: tabular-nums; line-height: 1.25; overflow-wrap: anywhere; }
@@ -44,7 +45,8 @@ svg path { fill: none; stroke-width: 2; stroke-linejoin: round; }
 table { width: 100%; border-collapse: collapse; font-variant-numeric: tabular-nums; margin-top: 6px; }
 th { text-align: left; font-size: 12px; font-weight: 600; color: var(--soft); }
 th, td { padding: 5px 10px 5px 0; border-bottom: 1px solid var(--grid); }
-th, .number, .share { white-space: nowrap; }
+.number, .share { white-space: nowrap; }
+td:first-child { overflow-wrap: anywhere; }
 tr:last-child td { border-bottom: 0; }
 .number { text-align: right; }
 .bar { display: inline-block; vertical-align: middle; width: 90px; height: 8px; border-radius: 4px; background: var(--grid); overflow: hidden; margin-right: 8px; }
@@ -53,8 +55,10 @@ tr:last-child td { border-bottom: 0; }
 @media (max-width: 560px) {
   main { padding: 10px; }
   .tiles { grid-template-columns: repeat(2, 1fr); }
-  th, td { padding-right: 8px; font-size: 13px; }
-  .bar { display: block; width: 100%; min-width: 60px; margin: 2px 0 0; }
+  section { padding: 10px; }
+  th, td { padding-right: 6px; font-size: 12px; }
+  th.number { white-space: normal; }
+  .bar { display: block; width: 100%; min-width: 50px; margin: 2px 0 0; }
 }
 </style>
 </head>
@@ -110,11 +114,13 @@ const of = (families, name, label, value) => sum(those(families, name, label, va
 
 function short(number) {
   if (!isFinite(number)) return "-";
-  if (number >= 1e9) return (number / 1e9).toFixed(1) + " G";
-  if (number >= 1e6) return (number / 1e6).toFixed(1) + " M";
-  if (number >= 1e4) return (number / 1e3).toFixed(1) + " k";
-  return number >= 100 || Number.isInteger(number) ? Math.round(number).toString() : number.toFixed(1);
+  const [size, unit] = [[1e9, " G"], [1e6, " M"], [1e4, " k"]].find(([least]) => number >= least) || [1, ""];
+  return places(number / (size === 1e4 ? 1e3 : size)) + unit;
 }
+
+const places = number => number >= 100 || Number.isInteger(number) ? Math.round(number).toString() : number.toFixed(1);
+
+const cores = number => isFinite(number) ? number.toFixed(2) : "-";
 
 function span(seconds) {
   const days = Math.floor(seconds / 86400), hours = Math.floor(seconds / 3600) % 24, minutes = Math.floor(seconds / 60) % 60;
@@ -141,15 +147,22 @@ function quantile(nth, share) {
   return isFinite(high.edge) ? low.edge + (high.edge - low.edge) * (wanted - low.lines) / (high.lines - low.lines) : low.edge;
 }
 
+function memory(bytes) {
+  if (!isFinite(bytes)) return "-";
+  const unit = [[1e9, " GB"], [1e6, " MB"], [1e3, " KB"]].find(([size]) => bytes >= size);
+  return unit ? places(bytes / unit[0]) + unit[1] : bytes + " B";
+}
+
 function time(seconds) {
   if (!isFinite(seconds)) return "-";
   if (seconds >= 1) return seconds.toFixed(1) + " s";
-  return seconds >= 1e-3 ? short(seconds * 1e3) + " ms" : Math.round(seconds * 1e6) + " \u00b5s";
+  return seconds >= 1e-3 ? places(seconds * 1e3) + " ms" : Math.round(seconds * 1e6) + " \u00b5s";
 }
 
 const operations = kind => families => of(families, "ramp_operations_total", "kind", kind);
 const calls = families => total(families, "ramp_calls_served_total");
 const refusals = families => total(families, "ramp_refusals_total");
+const worked = families => total(families, "process_cpu_seconds_total");
 
 const CHARTS = [
   { title: "Operations per second", format: short, needs: "ramp_operations_total", lines: [
@@ -166,6 +179,10 @@ const CHARTS = [
     ["restarts", "--three", nth => rate(nth, families => total(families, "ramp_restarts_total"))]] },
   { title: "Epochs that wait for their check", format: short, needs: "ramp_epochs_waiting", lines: [
     ["waiting", "--one", nth => total(samples[nth].families, "ramp_epochs_waiting")]] },
+  { title: "Memory of the server", format: memory, needs: "process_resident_memory_bytes", lines: [
+    ["held", "--one", nth => total(samples[nth].families, "process_resident_memory_bytes")]] },
+  { title: "CPU time of the server, in cores", format: cores, needs: "process_cpu_seconds_total", lines: [
+    ["cores", "--one", nth => rate(nth, worked)]] },
 ];
 
 function svg(name, attributes, text) {
@@ -221,10 +238,18 @@ function drawCharts(families) {
   });
 }
 
-function tile(name, value, kind) {
-  const made = element("section");
+function tile(name, value, kind, width) {
+  const made = element("section", undefined, width);
   made.append(element("b", value, kind), element("span", name));
   return made;
+}
+
+// What the server holds, how much it takes at most, and what is free: that may be less than what it still takes.
+function memoryTile(families) {
+  const has = name => rows(families, name).length > 0, [held, most, free, all] = ["process_resident_memory_bytes", "ramp_memory_planned_bytes",
+    "ramp_memory_free_bytes", "ramp_memory_total_bytes"].map(name => total(families, name));
+  const planned = has("ramp_memory_planned_bytes") ? `, ${memory(most)} at most` : "", left = has("ramp_memory_free_bytes") ? `; ${memory(free)} are free` : "";
+  return tile(`memory${planned}${left}`, memory(held), !left || free >= most - held ? "" : free < 0.1 * all ? "bad" : "warn");
 }
 
 function drawTiles(families) {
@@ -235,12 +260,16 @@ function drawTiles(families) {
     kinds ? tile("operations per second", short(sum(["put", "get", "find"].map(kind => rate(last, operations(kind))))))
       : tile("calls per second", short(rate(last, calls))),
     tile(`sessions, of ${short(one("ramp_connections_limit"))}`, short(one("ramp_connections")), busy ? "bad" : ""),
-    tile("p50 of a line, p99", `${time(quantile(last, 0.5))}, ${time(quantile(last, 0.99))}`),
+    tile("p50 of a line, p99", `${time(quantile(last, 0.5))}, ${time(quantile(last, 0.99))}`, "", "two"),
     tile("refusals since the start", short(refusals(families))),
     tile("restarts since the start", short(one("ramp_restarts_total"))),
   ];
   if (rows(families, "ramp_epochs_waiting").length) {
     tiles.push(tile("epochs checked", short(one("ramp_epochs_checked_total"))), tile("epochs waiting", short(one("ramp_epochs_waiting"))));
+  }
+  // rampd adds what the system says of the process.
+  if (rows(families, "process_resident_memory_bytes").length) {
+    tiles.push(memoryTile(families), tile("CPU cores that it uses", cores(rate(last, worked))));
   }
   at("tiles").replaceChildren(...tiles);
 }
@@ -312,13 +341,23 @@ function drawRooms(families) {
 
 const REFUSALS = { 10: "no such tenant, or a partition did not serve", 11: "no session", 13: "no item, too many, or one twice", 14: "stamps used up", 15: "no slot is free",
   16: "no item is free", 19: "stopped", 20: "another record has the stamp", 22: "inconsistent reply", 23: "a search found more than 16 items", 24: "client numbers used up", 25: "late call",
-  26: "rows used up", 28: "discarded stamp", 30: "out of memory", 40: "bad line", 41: "line too long", 42: "cut line" };
+  26: "rows used up", 27: "no discard watermark is free", 28: "discarded stamp", 30: "out of memory", 40: "a line that fits no form, as with CR LF", 41: "line too long", 42: "cut line" };
+
+// The families of the room that these are for lack of. Only a tenant that has used all of it is refused so.
+const ROOM_OF = { 15: "ramp_versions", 16: "ramp_items", 24: "ramp_clients", 27: "ramp_marks" };
+
+function tenantsWithout(families, room) {
+  const limits = new Map(rows(families, room + "_limit").map(row => [JSON.stringify(row.labels), row.value]));
+  const full = rows(families, room).filter(row => row.value >= limits.get(JSON.stringify(row.labels)));
+  return [...new Set(full.map(row => row.labels.tenant))].join(", ");
+}
 
 function drawRefusals(families) {
-  const lines = rows(families, "ramp_refusals_total").map(row => [row.labels.number, REFUSALS[row.labels.number] || "", row.value.toLocaleString("en")]);
+  const lines = rows(families, "ramp_refusals_total").map(({ labels, value }) =>
+    [labels.number, REFUSALS[labels.number] || "", tenantsWithout(families, ROOM_OF[labels.number]), value.toLocaleString("en")]);
   const drawn = rows(families, "ramp_hellos_busy_total");
-  if (drawn.length) lines.push(["12", "hello with a client number that has a session; clients then draw another", total(families, "ramp_hellos_busy_total").toLocaleString("en")]);
-  table("refusals", [text("number"), text("cause"), number("lines")], lines.length ? lines : [["none", "", "0"]]);
+  if (drawn.length) lines.push(["12", "hello with a client number that has a session; clients then draw another", "", total(families, "ramp_hellos_busy_total").toLocaleString("en")]);
+  table("refusals", [text("number"), text("cause"), text("tenants without room"), number("lines")], lines.length ? lines : [["none", "", "", "0"]]);
 }
 
 function drawHead(families) {

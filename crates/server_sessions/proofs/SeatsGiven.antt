@@ -7,8 +7,7 @@ use Rattle.shard.specs.declared.seat_name.SeatName.{SeatName}
 use Rattle.hub.specs.Operations.{IsLater}
 use Rattle.hub.specs.Replies.{AreServed, IsServedFor}
 use Rattle.hub.specs.Seats.{IsNamed, SeatView, sight}
-use Rattle.hub.proofs.Given.{IsLaterSight, served-later, served-same}
-use Rattle.hub.proofs.ReadsFirst.{served-both}
+use Rattle.hub.proofs.Given.{IsLaterSight, served-both, served-later, served-same}
 use Rattle.server_sessions.specs.Histories.{IsGivenIn, sight_in}
 use Rattle.server_sessions.specs.SeatAnswers.{AreGiven, IsDrained}
 

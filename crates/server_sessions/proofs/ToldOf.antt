@@ -1,28 +1,26 @@
 -- What the client of a connection is answered, answer by answer.
 use Rattle.std.proofs.Common.{◌≡◌, ◌+◌, ◌*◌, ℕ, zero, suc, Bool, true, false, cond, nat_lt, List, [], ◌∷◌, ◌++◌, length, take, Option, Some, None, Result, Ok, Err, refl, sym, ap, subst, inl, inr, arith, ◌∙◌, append_assoc}
 use Rattle.std.proofs.lemmas.List.{append-nil}
-use Rattle.std.proofs.lemmas.List.Elements.{filter_map-append, All-append, All-cons, All-nil}
+use Rattle.std.proofs.lemmas.List.Elements.{filter_map-append}
 use Rattle.std.proofs.lemmas.List.Concat.{flat_map-append}
-use Rattle.std.specs.Prelude.{◌↔◌, ◌⊎◌, All, IfSome, IfOk, IfErr, OnOk}
+use Rattle.std.specs.Prelude.{◌⊎◌, IfSome, IfOk, IfErr, OnOk}
 use Rattle.std.specs.Option.{option_map}
 use Rattle.std.specs.List.{flat_map, filter_map, cons_option}
 use Rattle.std.specs.Io.KnownBytes.{Appends, Keeps}
 use Rattle.std.proofs.KnownBytes.{Appends-kept, Appends-nil, Appends-trans}
 use Rattle.stamps.specs.declared.record.Item.{Item}
 use Rattle.plain_store.specs.declared.refusal.Refusal.{Refusal}
-use Rattle.plain_store.specs.declared.refusal.Refusal.TheVariants.{Busy, NoTenant, Stopped}
+use Rattle.plain_store.specs.declared.refusal.Refusal.TheVariants.{Busy, NoTenant}
 use Rattle.plain_store.specs.declared.step.Act.{Act}
 use Rattle.plain_store.specs.declared.step.Act.TheVariants.{Put as PutAct, Get as GetAct, Find as FindAct}
 use Rattle.plain_store.specs.declared.answer.Answer.{Answer}
 use Rattle.plain_store.specs.declared.answer.Answer.TheVariants.{Refused, Keeps as KeepsMany}
 use Rattle.entry_list.specs.declared.kinds.Entry.{Entry}
 use Rattle.entry_list.specs.declared.kinds.Entry.TheVariants.{Began}
-use Rattle.plain_store.specs.Writing.{keys_written}
+use Rattle.entry_list.specs.Raises.{raise_entries}
 use Rattle.hub.specs.Limits.{max_calls}
-use Rattle.hub.specs.Operations.{IsLater}
-use Rattle.hub.specs.Clocks.{PutsByClock}
-use Rattle.hub.specs.ReadsFirst.{IsReadAndWritten, IsWrittenBy}
-use Rattle.hub.specs.Seats.{SeatView, Follows, IsEntered, IsLeftBy, IsNamed, IsStopped, answer_in, is_of_worker, is_unrecorded, sight}
+use Rattle.hub.specs.Clocks.{IsRaised, MayBeRaised, PutsByClock}
+use Rattle.hub.specs.Seats.{SeatView, Follows, IsEntered, IsLeftBy, IsNamed, answer_in, is_of_worker}
 use Rattle.shard.specs.declared.seat_name.SeatName.{SeatName}
 use Rattle.closed_store.specs.declared.transcript.Transcript.{Transcript}
 use Rattle.line_protocol.specs.AnswerSpelling.{answer_line}
@@ -32,8 +30,8 @@ use Rattle.line_runs.specs.RunAnswers.{Gathers}
 use Rattle.server_sessions.specs.Answered.{IsOfSeat}
 use Rattle.server_sessions.specs.Histories.{IsGivenIn}
 use Rattle.server_sessions.specs.Said.{Aside, Declines, Shows, aside_line, asides_text, ready_line}
-use Rattle.server_sessions.specs.SeatAnswers.{AreGiven, HasCommitted, IsAnswered, IsAnsweredAndDrained, IsDrained, IsFresh, IsPut, IsServedWith, IsToldBySeat, IsToldNext, Nothing, OneMore, ReportsFind, ReportsGet, Returned}
-use Rattle.server_sessions.specs.Telling.{Telling, Entered, Refuses, KeepsSo, Informs, telling_line, answer_untold, answers_entered, tellings_text, IsLeftOf, IsReplaced, HasHeard, WasHeard, WasTold, Tells, HasTold, SessionLeft, IsLastLine, IsWritten, IsBegun, BreaksTelling, HasName, IsSeated, seat_tenant}
+use Rattle.server_sessions.specs.SeatAnswers.{AreGiven, IsAnswered, IsAnsweredAndDrained, IsDrained, IsFresh, IsPut, IsServedWith, IsToldBySeat, IsToldNext, Nothing, OneMore, ReportsFind, ReportsGet, Returned}
+use Rattle.server_sessions.specs.Telling.{Telling, Entered, Refuses, KeepsSo, Informs, telling_line, answers_entered, tellings_text, IsLeftOf, IsReplaced, HasHeard, WasHeard, WasTold, Tells, HasTold, SessionLeft, IsLastLine, IsWritten, IsBegun, BreaksTelling, HasName, IsSeated, seat_tenant}
 use Rattle.server_sessions.proofs.SeatsGiven.{drained_name, given_at_end, given_drained, given_fresh, given_later}
 use Rattle.line_runs.proofs.Fronts.{begins_behind_gathered}
 use Rattle.line_runs.proofs.Gathering.{Gathers-end, Gathers-none, Gathers-text, Gathers-trans, Gathers-written}
@@ -82,7 +80,6 @@ Tells-ready newest epoch seat told_client fresh own told h =
           spelled = spelled;
           handed = (λ kept. fresh.0, λ cut. fresh.0);
           agrees = refl;
-          each = λ plain. All-nil (λ telling. answer_untold telling ≡ None);
           replaced = tt;
         },
         λ going. refl,
@@ -104,8 +101,8 @@ Tells-ready newest epoch seat told_client fresh own told h =
 -- ---- while there is a seat, by what it has entered
 
 -- whatever was reported before by what a seat has entered, this text is reported after it
-abbrev Hears : Bool → ℕ → SeatView → SeatView → List ℕ → Type 0
-Hears newest epoch old new text = (told : List ℕ) → WasHeard newest epoch old told → WasHeard newest epoch new (told ++ text)
+abbrev Hears : ℕ → SeatView → SeatView → List ℕ → Type 0
+Hears epoch old new text = (told : List ℕ) → WasHeard epoch old told → WasHeard epoch new (told ++ text)
 
 -- one line more
 spelled_more : (text : List ℕ) (asides : List Aside) (counter : ℕ) (client : Option ℕ) (tellings : List Telling) (t : Telling)
@@ -123,23 +120,14 @@ spelled_more text asides counter client tellings t is =
 entered_more : (tellings : List Telling) (t : Telling) → flat_map answers_entered (tellings ++ t ∷ []) ≡ flat_map answers_entered tellings ++ answers_entered t
 entered_more tellings t = flat_map-append answers_entered tellings (t ∷ []) ∙ ap (λ (l : List Answer). flat_map answers_entered tellings ++ l) (append-nil (answers_entered t))
 
--- where no put reads first, all that a line entered is reported
-abbrev EachTold : Bool → List Telling → Type 0
-EachTold newest tellings = newest ≡ false → All (λ telling. answer_untold telling ≡ None) tellings
-
-each_more : (newest : Bool) (tellings : List Telling) (t : Telling) → EachTold newest tellings → (newest ≡ false → answer_untold t ≡ None) → EachTold newest (tellings ++ t ∷ [])
-each_more newest tellings t each told plain =
-    let P : Telling → Type 0 = λ telling. answer_untold telling ≡ None in
-    All-append P tellings (t ∷ []) (each plain) (All-cons P t [] (told plain) (All-nil P))
-
 replaced_more : (unheard : Option Answer) (tellings : List Telling) (t : Telling) → IsReplaced unheard tellings → IsReplaced unheard (tellings ++ t ∷ [])
 replaced_more None tellings t h = tt
 replaced_more (Some answer) tellings t h =
-    (h.0, h.1, h.2, h.3 ++ t ∷ [], h.4, ap (λ (l : List Telling). l ++ t ∷ []) h.5 ∙ append_assoc h.2 (Refuses h.0 h.1 ∷ h.3) (t ∷ []))
+    (h.0, h.1, h.2 ++ t ∷ [], h.3, ap (λ (l : List Telling). l ++ t ∷ []) h.4 ∙ append_assoc h.1 (Refuses h.0 ∷ h.2) (t ∷ []))
 
-replaced_now : (unheard first : Option Answer) (tellings : List Telling) (refusal : Refusal) → is_of_worker refusal ≡ true → IsReplaced unheard (tellings ++ Refuses first refusal ∷ [])
-replaced_now None first tellings refusal is = tt
-replaced_now (Some answer) first tellings refusal is = (first, refusal, tellings, [], is, refl)
+replaced_now : (unheard : Option Answer) (tellings : List Telling) (refusal : Refusal) → is_of_worker refusal ≡ true → IsReplaced unheard (tellings ++ Refuses refusal ∷ [])
+replaced_now None tellings refusal is = tt
+replaced_now (Some answer) tellings refusal is = (refusal, tellings, [], is, refl)
 
 -- what is drained is of the same seat, as it was
 drained_stopped : (epoch : ℕ) (old new : SeatView) → IsDrained epoch old new → new.stopped ≡ old.stopped
@@ -155,35 +143,6 @@ drained_left : (epoch : ℕ) (old new : SeatView) (all : List Entry) → IsDrain
 drained_left epoch old new all drained kept =
     (λ never. ap (λ (s : SeatView). s.entries) (drained.0 never) ∙ kept never, λ cut. ap (λ (s : SeatView). s.entries) (drained.1 cut))
 
--- an answer that is not entered, and the seat is as it was
-heard_aside : (newest : Bool) (epoch counter other : ℕ) (left rest : List Entry) (unheard : Option Answer) (text : List ℕ) (t : Telling)
-    → HasHeard newest epoch counter left unheard text → answers_entered t ≡ [] → answer_untold t ≡ None → other ≡ counter → ((all : List Entry) → IsLeftOf epoch all left → IsLeftOf epoch all rest)
-    → HasHeard newest epoch other rest unheard (text ++ telling_line t)
-heard_aside newest epoch counter other left rest unheard text t h aside told same drained =
-    let more = entered_more h.tellings t ∙ ap (λ (l : List Answer). flat_map answers_entered h.tellings ++ l) aside ∙ append-nil (flat_map answers_entered h.tellings) in
-    record {
-      asides = h.asides;
-      told_client = h.told_client;
-      tellings = h.tellings ++ t ∷ [];
-      all = h.all;
-      spelled = subst (λ (n : ℕ). text ++ telling_line t ≡ asides_text h.asides ++ (ready_line n h.told_client ++ tellings_text (h.tellings ++ t ∷ []))) (sym same)
-          (spelled_more text h.asides counter h.told_client h.tellings t h.spelled);
-      handed = drained h.all h.handed;
-      agrees = h.agrees ∙ ap (λ (l : List Answer). l ++ cons_option unheard []) (sym more);
-      each = each_more newest h.tellings t h.each (λ plain. told);
-      replaced = replaced_more unheard h.tellings t h.replaced;
-    }
-
-pub told_aside : (newest : Bool) (epoch : ℕ) (old between new : SeatView) (t : Telling) → answers_entered t ≡ [] → answer_untold t ≡ None → between ≡ old → IsDrained epoch between new
-    → Hears newest epoch old new (telling_line t)
-told_aside newest epoch old between new t aside untold same drained told h = (
-  h.0,
-  heard_aside newest epoch old.name.counter new.name.counter old.entries new.entries h.0 told t h.1 aside untold
-      (drained_counter epoch between new drained ∙ ap (λ (s : SeatView). s.name.counter) same)
-      (λ all left. drained_left epoch between new all drained (λ never. ap (λ (s : SeatView). s.entries) same ∙ left.0 never)),
-  λ going. h.2 (ap (λ (s : SeatView). s.stopped) (sym same) ∙ sym (drained_stopped epoch between new drained) ∙ going),
-)
-
 -- What one or more operations entered, after all that was entered before, and their answers.
 record HasGrown (old between : List Entry) (told : List Answer) : Type 0 where
   pub more : List Entry
@@ -192,6 +151,13 @@ record HasGrown (old between : List Entry) (told : List Answer) : Type 0 where
 
 one_grown : (old between : List Entry) (act : Act) (told : Option Answer) → Follows (old ++ Began act ∷ []) told between → HasGrown old between (cons_option told [])
 one_grown old between act told f = record { more = Began act ∷ f.more; is = f.is ∙ append_assoc old (Began act ∷ []) f.more; answers = f.answers }
+
+still_grown : (old between : List Entry) → between ≡ old → HasGrown old between []
+still_grown old between same = record { more = []; is = same ∙ sym (append-nil old); answers = refl }
+
+-- that a counter was raised answers nothing
+raise_grown : (old between : SeatView) → IsRaised old between → HasGrown old.entries between.entries []
+raise_grown old between raised = record { more = raise_entries old.name.client between.counter; is = ap (λ (s : SeatView). s.entries) raised.rest; answers = refl }
 
 both_grown : (old between new : List Entry) (one other : List Answer) → HasGrown old between one → HasGrown between new other → HasGrown old new (one ++ other)
 both_grown old between new one other a b = record {
@@ -203,15 +169,49 @@ both_grown old between new one other a b = record {
 grown : (epoch : ℕ) (old between : List Entry) (told : List Answer) (all : List Entry) → IsLeftOf epoch all old → (g : HasGrown old between told) → epoch ≡ 0 → between ≡ all ++ g.more
 grown epoch old between told all left g never = g.is ∙ ap (λ (l : List Entry). l ++ g.more) (left.0 never)
 
--- operations that the seat began: what it told is what they entered, but for the answer of a read that came first, or a
--- worker's refusal in its place
-heard_grown : (newest : Bool) (epoch counter other : ℕ) (old between rest : List Entry) (told : List Answer) (unheard : Option Answer) (text : List ℕ) (t : Telling)
-    → HasHeard newest epoch counter old None text → (g : HasGrown old between told) → other ≡ counter
+-- an answer that is not entered
+heard_aside : (epoch counter other : ℕ) (old between rest : List Entry) (unheard : Option Answer) (text : List ℕ) (t : Telling)
+    → HasHeard epoch counter old unheard text → answers_entered t ≡ [] → (g : HasGrown old between []) → other ≡ counter
+    → ((all : List Entry) → IsLeftOf epoch all old → IsLeftOf epoch (all ++ g.more) rest)
+    → HasHeard epoch other rest unheard (text ++ telling_line t)
+heard_aside epoch counter other old between rest unheard text t h aside g same drained =
+    let more = entered_more h.tellings t ∙ ap (λ (l : List Answer). flat_map answers_entered h.tellings ++ l) aside ∙ append-nil (flat_map answers_entered h.tellings) in
+    record {
+      asides = h.asides;
+      told_client = h.told_client;
+      tellings = h.tellings ++ t ∷ [];
+      all = h.all ++ g.more;
+      spelled = subst (λ (n : ℕ). text ++ telling_line t ≡ asides_text h.asides ++ (ready_line n h.told_client ++ tellings_text (h.tellings ++ t ∷ []))) (sym same)
+          (spelled_more text h.asides counter h.told_client h.tellings t h.spelled);
+      handed = drained h.all h.handed;
+      agrees = filter_map-append answer_in h.all g.more ∙ (λ i. filter_map answer_in h.all ++ g.answers i) ∙ append-nil (filter_map answer_in h.all)
+          ∙ h.agrees ∙ ap (λ (l : List Answer). l ++ cons_option unheard []) (sym more);
+      replaced = replaced_more unheard h.tellings t h.replaced;
+    }
+
+told_aside : (epoch : ℕ) (old between new : SeatView) (t : Telling) → answers_entered t ≡ [] → HasGrown old.entries between.entries [] → between.stopped ≡ old.stopped
+    → between.name.counter ≡ old.name.counter → IsDrained epoch between new → Hears epoch old new (telling_line t)
+told_aside epoch old between new t aside g stays name drained told h = (
+  h.0,
+  heard_aside epoch old.name.counter new.name.counter old.entries between.entries new.entries h.0 told t h.1 aside g (drained_counter epoch between new drained ∙ name)
+      (λ all left. drained_left epoch between new (all ++ g.more) drained (grown epoch old.entries between.entries [] all left g)),
+  λ going. h.2 (sym stays ∙ sym (drained_stopped epoch between new drained) ∙ going),
+)
+
+-- so where the seat is as it was
+told_same : (epoch : ℕ) (old between new : SeatView) (t : Telling) → answers_entered t ≡ [] → between ≡ old → IsDrained epoch between new → Hears epoch old new (telling_line t)
+told_same epoch old between new t aside same drained =
+    told_aside epoch old between new t aside (still_grown old.entries between.entries (ap (λ (s : SeatView). s.entries) same)) (ap (λ (s : SeatView). s.stopped) same)
+    (ap (λ (s : SeatView). s.name.counter) same) drained
+
+-- operations that the seat began: what it told is what they entered, but for a worker's refusal in its place
+heard_grown : (epoch counter other : ℕ) (old between rest : List Entry) (told : List Answer) (unheard : Option Answer) (text : List ℕ) (t : Telling)
+    → HasHeard epoch counter old None text → (g : HasGrown old between told) → other ≡ counter
     → ((all : List Entry) → (epoch ≡ 0 → between ≡ all) → IsLeftOf epoch all rest)
-    → told ≡ answers_entered t ++ cons_option unheard [] → (newest ≡ false → answer_untold t ≡ None)
+    → told ≡ answers_entered t ++ cons_option unheard []
     → ((tellings : List Telling) → IsReplaced unheard (tellings ++ t ∷ []))
-    → HasHeard newest epoch other rest unheard (text ++ telling_line t)
-heard_grown newest epoch counter other old between rest told unheard text t h g same drained split plain replaced =
+    → HasHeard epoch other rest unheard (text ++ telling_line t)
+heard_grown epoch counter other old between rest told unheard text t h g same drained split replaced =
     let so_far = flat_map answers_entered h.tellings in
     record {
       asides = h.asides;
@@ -225,45 +225,34 @@ heard_grown newest epoch counter other old between rest told unheard text t h g 
           ∙ (λ i. (h.agrees ∙ append-nil so_far) i ++ (g.answers ∙ split) i)
           ∙ sym (append_assoc so_far (answers_entered t) (cons_option unheard []))
           ∙ ap (λ (l : List Answer). l ++ cons_option unheard []) (sym (entered_more h.tellings t));
-      each = each_more newest h.tellings t h.each plain;
       replaced = replaced h.tellings;
     }
 
 -- nothing was unheard of a seat that went on
-heard_all : (newest : Bool) (epoch : ℕ) (seat : SeatView) (text : List ℕ) (h : WasHeard newest epoch seat text) → seat.stopped ≡ false → HasHeard newest epoch seat.name.counter seat.entries None text
-heard_all newest epoch seat text h going = subst (λ (o : Option Answer). HasHeard newest epoch seat.name.counter seat.entries o text) (h.2 going) h.1
+heard_all : (epoch : ℕ) (seat : SeatView) (text : List ℕ) (h : WasHeard epoch seat text) → seat.stopped ≡ false → HasHeard epoch seat.name.counter seat.entries None text
+heard_all epoch seat text h going = subst (λ (o : Option Answer). HasHeard epoch seat.name.counter seat.entries o text) (h.2 going) h.1
 
 -- what a seat reports whose operations entered just this, and that goes on
-told_grown : (newest : Bool) (epoch : ℕ) (old between new : SeatView) (t : Telling) → HasGrown old.entries between.entries (answers_entered t) → (newest ≡ false → answer_untold t ≡ None)
-    → old.stopped ≡ false → between.name.counter ≡ old.name.counter → IsDrained epoch between new → Hears newest epoch old new (telling_line t)
-told_grown newest epoch old between new t g plain going name drained told h = (
+told_grown : (epoch : ℕ) (old between new : SeatView) (t : Telling) → HasGrown old.entries between.entries (answers_entered t)
+    → old.stopped ≡ false → between.name.counter ≡ old.name.counter → IsDrained epoch between new → Hears epoch old new (telling_line t)
+told_grown epoch old between new t g going name drained told h = (
   None,
-  heard_grown newest epoch old.name.counter new.name.counter old.entries between.entries new.entries (answers_entered t) None told t (heard_all newest epoch old told h going) g
-      (drained_counter epoch between new drained ∙ name) (λ all kept. drained_left epoch between new all drained kept) (sym (append-nil (answers_entered t))) plain (λ tellings. tt),
+  heard_grown epoch old.name.counter new.name.counter old.entries between.entries new.entries (answers_entered t) None told t (heard_all epoch old told h going) g
+      (drained_counter epoch between new drained ∙ name) (λ all kept. drained_left epoch between new all drained kept) (sym (append-nil (answers_entered t))) (λ tellings. tt),
   λ still. refl,
 )
 
-pub told_entered : (newest : Bool) (epoch : ℕ) (old between new : SeatView) (act : Act) (answer : Answer) → Follows (old.entries ++ Began act ∷ []) (Some answer) between.entries
-    → old.stopped ≡ false → between.name.counter ≡ old.name.counter → IsDrained epoch between new → Hears newest epoch old new (answer_line answer)
-told_entered newest epoch old between new act answer f going name drained =
-    told_grown newest epoch old between new (Entered None answer) (one_grown old.entries between.entries act (Some answer) f) (λ plain. refl) going name drained
-
 -- what it reports that a worker's refusal stopped
-told_broken : (newest : Bool) (epoch : ℕ) (old between new : SeatView) (first entered : Option Answer) (refusal : Refusal) → is_of_worker refusal ≡ true
-    → HasGrown old.entries between.entries (cons_option first [] ++ cons_option entered []) → (newest ≡ false → first ≡ None) → old.stopped ≡ false → between.stopped ≡ true
-    → between.name.counter ≡ old.name.counter → IsDrained epoch between new → Hears newest epoch old new (answer_line (Refused refusal))
-told_broken newest epoch old between new first entered refusal worker g plain went_on stops name drained told h = (
+told_broken : (epoch : ℕ) (old between new : SeatView) (entered : Option Answer) (refusal : Refusal) → is_of_worker refusal ≡ true
+    → HasGrown old.entries between.entries (cons_option entered []) → old.stopped ≡ false → between.stopped ≡ true
+    → between.name.counter ≡ old.name.counter → IsDrained epoch between new → Hears epoch old new (answer_line (Refused refusal))
+told_broken epoch old between new entered refusal worker g went_on stops name drained told h = (
   entered,
-  heard_grown newest epoch old.name.counter new.name.counter old.entries between.entries new.entries (cons_option first [] ++ cons_option entered []) entered told (Refuses first refusal)
-      (heard_all newest epoch old told h went_on) g (drained_counter epoch between new drained ∙ name) (λ all kept. drained_left epoch between new all drained kept) refl plain
-      (λ tellings. replaced_now entered first tellings refusal worker),
+  heard_grown epoch old.name.counter new.name.counter old.entries between.entries new.entries (cons_option entered []) entered told (Refuses refusal)
+      (heard_all epoch old told h went_on) g (drained_counter epoch between new drained ∙ name) (λ all kept. drained_left epoch between new all drained kept) refl
+      (λ tellings. replaced_now entered tellings refusal worker),
   λ going. absurd (let both : true ≡ false = sym stops ∙ sym (drained_stopped epoch between new drained) ∙ going in cc),
 )
-
-pub told_stopped : (newest : Bool) (epoch : ℕ) (old between new : SeatView) (act : Act) (refusal : Refusal) → is_of_worker refusal ≡ true → IsStopped act old between
-    → between.name.counter ≡ old.name.counter → IsDrained epoch between new → Hears newest epoch old new (answer_line (Refused refusal))
-told_stopped newest epoch old between new act refusal worker stop name drained =
-    told_broken newest epoch old between new None stop.told refusal worker (one_grown old.entries between.entries act stop.told stop.entered) (λ plain. refl) stop.went_on stop.stops name drained
 
 -- The seat began just this act, and the answer is the one that it entered; or the answer is a refusal that it did not enter.
 abbrev Enters : Act → SeatView → Answer → SeatView → Type 0
@@ -275,122 +264,91 @@ served_by : (act : Act) (old new : SeatView) (answer : Answer) → IsEntered act
 served_by act old new answer (inl (inside, going, goes, follows)) = inl (follows, going, goes)
 served_by act old new answer (inr (outside, left)) = inr left
 
+-- what an operation is answered that began behind this, which answers nothing
+told_behind : (epoch : ℕ) (old start between new : SeatView) (act : Act) (answer : Answer) → HasGrown old.entries start.entries [] → start.stopped ≡ old.stopped → Enters act start answer between
+    → between.name.counter ≡ old.name.counter → IsDrained epoch between new → Hears epoch old new (answer_line answer)
+told_behind epoch old start between new act answer g same (inl (follows, going, goes)) name drained =
+    told_grown epoch old between new (Entered answer)
+    (both_grown old.entries start.entries between.entries [] (answer ∷ []) g (one_grown start.entries between.entries act (Some answer) follows)) (sym same ∙ going) name drained
+told_behind epoch old start between new act answer g same (inr (refusal, is, inl unbegun)) name drained =
+    subst (λ (a : Answer). Hears epoch old new (answer_line a)) (sym is)
+    (told_aside epoch old between new (Refuses refusal) refl (subst (λ (s : SeatView). HasGrown old.entries s.entries []) (sym unbegun.1) g)
+    (ap (λ (s : SeatView). s.stopped) unbegun.1 ∙ same) name drained)
+told_behind epoch old start between new act answer g same (inr (refusal, is, inr stopped)) name drained =
+    let stop = stopped.1 in
+    subst (λ (a : Answer). Hears epoch old new (answer_line a)) (sym is)
+    (told_broken epoch old between new stop.told refusal stopped.0
+    (both_grown old.entries start.entries between.entries [] (cons_option stop.told []) g (one_grown start.entries between.entries act stop.told stop.entered))
+    (sym same ∙ stop.went_on) stop.stops name drained)
+
 -- what an operation is answered
-told_served : (newest : Bool) (epoch : ℕ) (old between new : SeatView) (act : Act) (answer : Answer) → Enters act old answer between → between.name.counter ≡ old.name.counter
-    → IsDrained epoch between new → Hears newest epoch old new (answer_line answer)
-told_served newest epoch old between new act answer (inl entered) name drained = told_entered newest epoch old between new act answer entered.0 entered.1 name drained
-told_served newest epoch old between new act answer (inr (refusal, is, inl unbegun)) name drained =
-    subst (λ (a : Answer). Hears newest epoch old new (answer_line a)) (sym is) (told_aside newest epoch old between new (Refuses None refusal) refl refl unbegun.1 drained)
-told_served newest epoch old between new act answer (inr (refusal, is, inr stopped)) name drained =
-    subst (λ (a : Answer). Hears newest epoch old new (answer_line a)) (sym is) (told_stopped newest epoch old between new act refusal stopped.0 stopped.1 name drained)
+told_served : (epoch : ℕ) (old between new : SeatView) (act : Act) (answer : Answer) → IsEntered act old answer between → between.name.counter ≡ old.name.counter
+    → IsDrained epoch between new → Hears epoch old new (answer_line answer)
+told_served epoch old between new act answer entered name drained =
+    told_behind epoch old old between new act answer (still_grown old.entries old.entries refl) refl (served_by act old between answer entered) name drained
 
--- what a put is answered whose keys were read first
-told_both : (epoch : ℕ) (items : List Item) (old between new : SeatView) (answer : Answer) → IsReadAndWritten items old answer between → between.name.counter ≡ old.name.counter
-    → IsDrained epoch between new → Hears true epoch old new (answer_line answer)
-told_both epoch items old between new answer both name drained = go both.written both.read.entered
-  where
-    client : ℕ
-    client = old.name.client
-
-    get : Act
-    get = GetAct client (keys_written items)
-
-    put : Act
-    put = PutAct both.between.name.client items
-
-    plain : true ≡ false → Some both.told ≡ None
-    plain is = cc
-
-    -- the read was entered, and then
-    written : is_unrecorded both.told ≡ false → old.stopped ≡ false → HasGrown old.entries both.between.entries (both.told ∷ []) → IsEntered put both.between answer between → Hears true epoch old new (answer_line answer)
-    written is going first (inl (recorded, went_on, stays, follows)) =
-        told_grown true epoch old between new (Entered (Some both.told) answer)
-        (both_grown old.entries both.between.entries between.entries (both.told ∷ []) (answer ∷ []) first (one_grown both.between.entries between.entries put (Some answer) follows)) plain going name drained
-    written is going first (inr (outside, (refusal, same, inl unbegun))) =
-        subst (λ (a : Answer). Hears true epoch old new (answer_line a)) (sym same)
-        (told_grown true epoch old between new (Refuses (Some both.told) refusal)
-        (subst (λ (es : List Entry). HasGrown old.entries es (both.told ∷ [])) (ap (λ (v : SeatView). v.entries) (sym unbegun.1)) first) plain going name drained)
-    written is going first (inr (outside, (refusal, same, inr stopped))) =
-        subst (λ (a : Answer). Hears true epoch old new (answer_line a)) (sym same)
-        (told_broken true epoch old between new (Some both.told) stopped.1.told refusal stopped.0
-        (both_grown old.entries both.between.entries between.entries (both.told ∷ []) (cons_option stopped.1.told []) first (one_grown both.between.entries between.entries put stopped.1.told stopped.1.entered))
-        plain going stopped.1.stops name drained)
-
-    go : ((is_unrecorded both.told ≡ false) × IsWrittenBy items both.between answer between) ⊎ ((is_unrecorded both.told ≡ true) × (answer ≡ both.told) × (between ≡ both.between))
-        → IsEntered get old both.told both.between → Hears true epoch old new (answer_line answer)
-    go (inl (is, writes)) (inl (recorded, going, stays, follows)) = written is going (one_grown old.entries both.between.entries get (Some both.told) follows) writes.entered
-    go (inl (is, writes)) (inr (outside, left)) = absurd (let bad : true ≡ false = sym outside ∙ is in cc)
-    go (inr (is, same, stays)) (inl (recorded, going, on, follows)) = absurd (let bad : true ≡ false = sym is ∙ recorded in cc)
-    go (inr (is, same, stays)) (inr (outside, left)) =
-        let served : IsLeftBy get answer old between = subst (λ (a : Answer). IsLeftBy get a old between) (sym same) (subst (λ (v : SeatView). IsLeftBy get both.told old v) (sym stays) left) in
-        told_served true epoch old between new get answer (inr served) name drained
-
--- what a put is answered whose stamp the clock gave: what was heard of the seat was heard of it when it had looked at the clock
+-- what a put is answered whose stamp the clock gave
 told_clocked : (epoch : ℕ) (items : List Item) (old between new : SeatView) (answer : Answer) → PutsByClock items old answer between → between.name.counter ≡ old.name.counter
-    → IsDrained epoch between new → Hears true epoch old new (answer_line answer)
-told_clocked epoch items old between new answer put name drained told h =
-    let drawn = put.between in
-    let act = PutAct drawn.name.client items in
-    let same : drawn.name.counter ≡ old.name.counter = ap (λ (s : SeatView). s.name.counter) put.looked.rest in
-    told_served true epoch drawn between new act answer (served_by act drawn between answer put.written.entered) (name ∙ sym same) drained told
-    (subst (λ (s : SeatView). WasHeard true epoch s told) (sym put.looked.rest) h)
+    → IsDrained epoch between new → Hears epoch old new (answer_line answer)
+told_clocked epoch items old between new answer put name drained = go put.raised
+  where
+    start : SeatView
+    start = put.between
 
--- so of one that is to be newest
-pub clocked : (epoch : ℕ) (items : List Item) (old new : SeatView) (answer : Answer) → (epoch ≡ 0 → ⊥) → PutsByClock items old answer new → IsPut true epoch items old answer new
-clocked zero items old new answer cut put = absurd (cut refl)
-clocked (suc epoch) items old new answer cut put = put
+    act : Act
+    act = PutAct start.name.client items
 
--- and of one that reads first
-pub newest_zero : (epoch : ℕ) (items : List Item) (old new : SeatView) (answer : Answer) → epoch ≡ 0 → IsReadAndWritten items old answer new × IsLater (2 * max_calls) old new × HasCommitted items answer new
-    → IsPut true epoch items old answer new
-newest_zero zero items old new answer is put = put
-newest_zero (suc epoch) items old new answer is put = absurd (cc is)
+    go : MayBeRaised old start → Hears epoch old new (answer_line answer)
+    go (inl same) =
+        told_behind epoch old start between new act answer (still_grown old.entries start.entries (ap (λ (s : SeatView). s.entries) same)) (ap (λ (s : SeatView). s.stopped) same)
+        (served_by act start between answer put.written.entered) name drained
+    go (inr raised) =
+        told_behind epoch old start between new act answer (raise_grown old start raised) (ap (λ (s : SeatView). s.stopped) raised.rest)
+        (served_by act start between answer put.written.entered) name drained
 
 -- what any put is answered
-told_put : (newest : Bool) (epoch : ℕ) (items : List Item) (old between new : SeatView) (answer : Answer) → IsPut newest epoch items old answer between → between.name.counter ≡ old.name.counter
-    → IsDrained epoch between new → Hears newest epoch old new (answer_line answer)
-told_put false epoch items old between new answer h name drained =
-    told_served false epoch old between new (PutAct old.name.client items) answer (served_by (PutAct old.name.client items) old between answer h.operated.entered) name drained
-told_put true zero items old between new answer h name drained = told_both zero items old between new answer h.0 name drained
-told_put true (suc epoch) items old between new answer h name drained = told_clocked (suc epoch) items old between new answer h name drained
+told_put : (newest : Bool) (epoch : ℕ) (items : List Item) (old between new : SeatView) (answer : Answer) → IsPut newest items old answer between → between.name.counter ≡ old.name.counter
+    → IsDrained epoch between new → Hears epoch old new (answer_line answer)
+told_put false epoch items old between new answer h name drained = told_served epoch old between new (PutAct old.name.client items) answer h.operated.entered name drained
+told_put true epoch items old between new answer h name drained = told_clocked epoch items old between new answer h name drained
 
 -- what `keep` is answered
-told_keep : (newest : Bool) (epoch keep : ℕ) (old between new : SeatView) (answer : Answer) (there : Bool) → answer ≡ cond there (KeepsMany keep) (Refused NoTenant) → between ≡ old
-    → IsDrained epoch between new → Hears newest epoch old new (answer_line answer)
-told_keep newest epoch keep old between new answer true is same drained =
-    subst (λ (a : Answer). Hears newest epoch old new (answer_line a)) (sym is) (told_aside newest epoch old between new (KeepsSo keep) refl refl same drained)
-told_keep newest epoch keep old between new answer false is same drained =
-    subst (λ (a : Answer). Hears newest epoch old new (answer_line a)) (sym is) (told_aside newest epoch old between new (Refuses None NoTenant) refl refl same drained)
+told_keep : (epoch keep : ℕ) (old between new : SeatView) (answer : Answer) (there : Bool) → answer ≡ cond there (KeepsMany keep) (Refused NoTenant) → between ≡ old
+    → IsDrained epoch between new → Hears epoch old new (answer_line answer)
+told_keep epoch keep old between new answer true is same drained =
+    subst (λ (a : Answer). Hears epoch old new (answer_line a)) (sym is) (told_same epoch old between new (KeepsSo keep) refl same drained)
+told_keep epoch keep old between new answer false is same drained =
+    subst (λ (a : Answer). Hears epoch old new (answer_line a)) (sym is) (told_same epoch old between new (Refuses NoTenant) refl same drained)
 
 -- what any request is answered
-told_answered : (newest : Bool) (epoch tenants : ℕ) (request : Request) (old between new : SeatView) (answer : Answer) → IsAnswered newest epoch tenants request old answer between
-    → between.name.counter ≡ old.name.counter → IsDrained epoch between new → Hears newest epoch old new (answer_line answer)
+told_answered : (newest : Bool) (epoch tenants : ℕ) (request : Request) (old between new : SeatView) (answer : Answer) → IsAnswered newest tenants request old answer between
+    → between.name.counter ≡ old.name.counter → IsDrained epoch between new → Hears epoch old new (answer_line answer)
 told_answered newest epoch tenants (Hello name client base) old between new answer h counter drained =
-    subst (λ (a : Answer). Hears newest epoch old new (answer_line a)) (sym h.0) (told_aside newest epoch old between new (Refuses None Busy) refl refl h.1 drained)
+    subst (λ (a : Answer). Hears epoch old new (answer_line a)) (sym h.0) (told_same epoch old between new (Refuses Busy) refl h.1 drained)
 told_answered newest epoch tenants (Put items) old between new answer h counter drained = told_put newest epoch items old between new answer h counter drained
-told_answered newest epoch tenants (Get keys) old between new answer h counter drained =
-    told_served newest epoch old between new (GetAct old.name.client keys) answer (served_by (GetAct old.name.client keys) old between answer h.operated.entered) counter drained
-told_answered newest epoch tenants (Find tag) old between new answer h counter drained =
-    told_served newest epoch old between new (FindAct old.name.client tag) answer (served_by (FindAct old.name.client tag) old between answer h.operated.entered) counter drained
-told_answered newest epoch tenants (Keep keep) old between new answer h counter drained = told_keep newest epoch keep old between new answer (nat_lt old.name.tenant tenants) h.0 h.1 drained
+told_answered newest epoch tenants (Get keys) old between new answer h counter drained = told_served epoch old between new (GetAct old.name.client keys) answer h.operated.entered counter drained
+told_answered newest epoch tenants (Find tag) old between new answer h counter drained = told_served epoch old between new (FindAct old.name.client tag) answer h.operated.entered counter drained
+told_answered newest epoch tenants (Keep keep) old between new answer h counter drained = told_keep epoch keep old between new answer (nat_lt old.name.tenant tenants) h.0 h.1 drained
 told_answered newest epoch tenants Info old between new answer h counter drained = absurd h
 told_answered newest epoch tenants Bye old between new answer h counter drained = absurd h
 
 -- what the seat did not enter, and it stays as it was
-told_beside : (newest : Bool) (epoch : ℕ) (seat : SeatView) (t : Telling) → answers_entered t ≡ [] → answer_untold t ≡ None → Hears newest epoch seat seat (telling_line t)
-told_beside newest epoch seat t aside untold told h = (
+told_beside : (epoch : ℕ) (seat : SeatView) (t : Telling) → answers_entered t ≡ [] → Hears epoch seat seat (telling_line t)
+unfolding still_grown
+told_beside epoch seat t aside told h = (
   h.0,
-  heard_aside newest epoch seat.name.counter seat.name.counter seat.entries seat.entries h.0 told t h.1 aside untold refl (λ all left. left),
+  heard_aside epoch seat.name.counter seat.name.counter seat.entries seat.entries seat.entries h.0 told t h.1 aside (still_grown seat.entries seat.entries refl) refl
+      (λ all left. subst (λ (l : List Entry). IsLeftOf epoch l seat.entries) (sym (append-nil all)) left),
   h.2,
 )
 
-told_note : (newest : Bool) (epoch : ℕ) (seat : SeatView) (aside : Aside) → Hears newest epoch seat seat (aside_line aside)
-told_note newest epoch seat (Declines cause) = told_beside newest epoch seat (Refuses None cause) refl refl
-told_note newest epoch seat (Shows store is) = told_beside newest epoch seat (Informs store is) refl refl
+told_note : (epoch : ℕ) (seat : SeatView) (aside : Aside) → Hears epoch seat seat (aside_line aside)
+told_note epoch seat (Declines cause) = told_beside epoch seat (Refuses cause) refl
+told_note epoch seat (Shows store is) = told_beside epoch seat (Informs store is) refl
 
 -- nothing is answered, and entries are returned
-told_drained : (newest : Bool) (epoch : ℕ) (old new : SeatView) → IsDrained epoch old new → Hears newest epoch old new []
-told_drained newest epoch old new drained told h =
+told_drained : (epoch : ℕ) (old new : SeatView) → IsDrained epoch old new → Hears epoch old new []
+told_drained epoch old new drained told h =
     let same = drained_counter epoch old new drained in (
       h.0,
       record {
@@ -401,7 +359,6 @@ told_drained newest epoch old new drained told h =
         spelled = append-nil told ∙ h.1.spelled ∙ ap (λ (n : ℕ). asides_text h.1.asides ++ (ready_line n h.1.told_client ++ tellings_text h.1.tellings)) (sym same);
         handed = drained_left epoch old new h.1.all drained (λ never. h.1.handed.0 never);
         agrees = h.1.agrees;
-        each = h.1.each;
         replaced = h.1.replaced;
       },
       λ going. h.2 (sym (drained_stopped epoch old new drained) ∙ going),
@@ -413,23 +370,22 @@ told_drained newest epoch old new drained told h =
 abbrev Says : Bool → ℕ → SeatView → SeatView → List ℕ → Type 0
 Says newest epoch old new text = (told : List ℕ) → IsToldBySeat newest epoch old told → IsToldBySeat newest epoch new (told ++ text)
 
-given_put : (newest : Bool) (epoch : ℕ) (items : List Item) (old new : SeatView) (answer : Answer) → IsPut newest epoch items old answer new → AreGiven old → AreGiven new
-given_put false epoch items old new answer put given = given_later max_calls old new put.operated.later given
-given_put true zero items old new answer put given = given_later (2 * max_calls) old new put.1 given
-given_put true (suc epoch) items old new answer put given = given_later max_calls old new put.later given
+given_put : (newest : Bool) (items : List Item) (old new : SeatView) (answer : Answer) → IsPut newest items old answer new → AreGiven old → AreGiven new
+given_put false items old new answer put given = given_later max_calls old new put.operated.later given
+given_put true items old new answer put given = given_later max_calls old new put.later given
 
-given_answered : (newest : Bool) (epoch tenants : ℕ) (request : Request) (old new : SeatView) (answer : Answer) → IsAnswered newest epoch tenants request old answer new → AreGiven old → AreGiven new
-given_answered newest epoch tenants (Hello name client base) old new answer h given = subst AreGiven (sym h.1) given
-given_answered newest epoch tenants (Put items) old new answer h given = given_put newest epoch items old new answer h given
-given_answered newest epoch tenants (Get keys) old new answer h given = given_later max_calls old new h.operated.later given
-given_answered newest epoch tenants (Find tag) old new answer h given = given_later max_calls old new h.operated.later given
-given_answered newest epoch tenants (Keep keep) old new answer h given = subst AreGiven (sym h.1) given
-given_answered newest epoch tenants Info old new answer h given = absurd h
-given_answered newest epoch tenants Bye old new answer h given = absurd h
+given_answered : (newest : Bool) (tenants : ℕ) (request : Request) (old new : SeatView) (answer : Answer) → IsAnswered newest tenants request old answer new → AreGiven old → AreGiven new
+given_answered newest tenants (Hello name client base) old new answer h given = subst AreGiven (sym h.1) given
+given_answered newest tenants (Put items) old new answer h given = given_put newest items old new answer h given
+given_answered newest tenants (Get keys) old new answer h given = given_later max_calls old new h.operated.later given
+given_answered newest tenants (Find tag) old new answer h given = given_later max_calls old new h.operated.later given
+given_answered newest tenants (Keep keep) old new answer h given = subst AreGiven (sym h.1) given
+given_answered newest tenants Info old new answer h given = absurd h
+given_answered newest tenants Bye old new answer h given = absurd h
 
 given_next : (newest : Bool) (epoch : ℕ) (old new : SeatView) (line : List ℕ) → IsToldNext newest epoch old line new → AreGiven old → AreGiven new
 given_next newest epoch old new line (inl (tenants, request, answer, (between, answered, named, drained), is)) given =
-    given_drained epoch between new drained (given_answered newest epoch tenants request old between answer answered given)
+    given_drained epoch between new drained (given_answered newest tenants request old between answer answered given)
 given_next newest epoch old new line (inr (aside, is, same)) given = subst AreGiven (sym same) given
 
 named_next : (newest : Bool) (epoch : ℕ) (old new : SeatView) (line : List ℕ) → IsToldNext newest epoch old line new → new.name ≡ old.name
@@ -470,14 +426,14 @@ says_drained newest epoch old new drained told h = record {
 
 -- ---- a seat's answers
 
-tells_both : (newest : Bool) (epoch : ℕ) (old new : SeatView) (text : List ℕ) → Hears newest epoch old new text → Says newest epoch old new text → Tells newest epoch (Some old) (Some new) text
+tells_both : (newest : Bool) (epoch : ℕ) (old new : SeatView) (text : List ℕ) → Hears epoch old new text → Says newest epoch old new text → Tells newest epoch (Some old) (Some new) text
 tells_both newest epoch old new text hears says told h = (hears told h.0, says told h.1)
 
 -- what no seat answers, with a seat or without
 pub Tells-note : (newest : Bool) (epoch : ℕ) (seat : Option SeatView) (aside : Aside) → Tells newest epoch seat seat (aside_line aside)
 Tells-note newest epoch None aside = Tells-aside newest epoch aside
 Tells-note newest epoch (Some seat) aside =
-    tells_both newest epoch seat seat (aside_line aside) (told_note newest epoch seat aside) (says_next newest epoch seat seat (aside_line aside) (inr (aside, refl, refl)))
+    tells_both newest epoch seat seat (aside_line aside) (told_note epoch seat aside) (says_next newest epoch seat seat (aside_line aside) (inr (aside, refl, refl)))
 
 -- a refusal
 pub Tells-cause : (newest : Bool) (epoch : ℕ) (seat : Option SeatView) (cause : Refusal) → Tells newest epoch seat seat (answer_line (Refused cause))
@@ -494,24 +450,24 @@ answered_by newest epoch tenants request old seat new answer is answered =
 
 pub left_by : (newest : Bool) (epoch : ℕ) (old : Option SeatView) (seat new : SeatView) → old ≡ Some seat → IsDrained epoch seat new → Tells newest epoch old (Some new) []
 left_by newest epoch old seat new is drained =
-    subst (λ (s : Option SeatView). Tells newest epoch s (Some new) []) (sym is) (tells_both newest epoch seat new [] (told_drained newest epoch seat new drained) (says_drained newest epoch seat new drained))
+    subst (λ (s : Option SeatView). Tells newest epoch s (Some new) []) (sym is) (tells_both newest epoch seat new [] (told_drained epoch seat new drained) (says_drained newest epoch seat new drained))
 
 -- ---- the same of the request that asked for it
 
-pub asked_put : (newest : Bool) (epoch tenants : ℕ) (request : Request) (items given : List Item) (old new : SeatView) (answer : Answer) → request ≡ Put items → given ≡ items
-    → IsPut newest epoch given old answer new → IsAnswered newest epoch tenants request old answer new
-asked_put newest epoch tenants request items given old new answer is same served =
-    subst (λ (r : Request). IsAnswered newest epoch tenants r old answer new) (sym is) (subst (λ (xs : List Item). IsPut newest epoch xs old answer new) same served)
+pub asked_put : (newest : Bool) (tenants : ℕ) (request : Request) (items given : List Item) (old new : SeatView) (answer : Answer) → request ≡ Put items → given ≡ items
+    → IsPut newest given old answer new → IsAnswered newest tenants request old answer new
+asked_put newest tenants request items given old new answer is same served =
+    subst (λ (r : Request). IsAnswered newest tenants r old answer new) (sym is) (subst (λ (xs : List Item). IsPut newest xs old answer new) same served)
 
-pub asked_get : (newest : Bool) (epoch tenants : ℕ) (request : Request) (keys given : List (List ℕ)) (old new : SeatView) (answer : Answer) → request ≡ Get keys → given ≡ keys
-    → IsServedWith (GetAct old.name.client given) (ReportsGet given) old answer new → IsAnswered newest epoch tenants request old answer new
-asked_get newest epoch tenants request keys given old new answer is same served =
-    subst (λ (r : Request). IsAnswered newest epoch tenants r old answer new) (sym is)
+pub asked_get : (newest : Bool) (tenants : ℕ) (request : Request) (keys given : List (List ℕ)) (old new : SeatView) (answer : Answer) → request ≡ Get keys → given ≡ keys
+    → IsServedWith (GetAct old.name.client given) (ReportsGet given) old answer new → IsAnswered newest tenants request old answer new
+asked_get newest tenants request keys given old new answer is same served =
+    subst (λ (r : Request). IsAnswered newest tenants r old answer new) (sym is)
     (subst (λ (xs : List (List ℕ)). IsServedWith (GetAct old.name.client xs) (ReportsGet xs) old answer new) same served)
 
-pub asked_find : (newest : Bool) (epoch tenants : ℕ) (request : Request) (tag : List ℕ) (old new : SeatView) (answer : Answer) → request ≡ Find tag
-    → IsServedWith (FindAct old.name.client tag) (ReportsFind tag) old answer new → IsAnswered newest epoch tenants request old answer new
-asked_find newest epoch tenants request tag old new answer is served = subst (λ (r : Request). IsAnswered newest epoch tenants r old answer new) (sym is) served
+pub asked_find : (newest : Bool) (tenants : ℕ) (request : Request) (tag : List ℕ) (old new : SeatView) (answer : Answer) → request ≡ Find tag
+    → IsServedWith (FindAct old.name.client tag) (ReportsFind tag) old answer new → IsAnswered newest tenants request old answer new
+asked_find newest tenants request tag old new answer is served = subst (λ (r : Request). IsAnswered newest tenants r old answer new) (sym is) served
 
 -- what was gathered is written
 pub Gathers-emptied : (a b c : Option (List ℕ)) (x y z text : List ℕ) → Gathers a b x y text → Appends b c y → z ≡ [] → Gathers a c x z text
@@ -532,7 +488,7 @@ told_at_end newest epoch (Some seat) left text h (its, is, named, entries, seen)
     subst (λ (l : Option SessionLeft). HasTold newest epoch l text) (sym is)
     (record {
       unheard = heard.0;
-      heard = subst (λ (n : ℕ). HasHeard newest epoch n its.0.entries.items heard.0 text) (sym named.counter) (subst (λ (es : List Entry). HasHeard newest epoch seat.name.counter es heard.0 text) (sym all) heard.1);
+      heard = subst (λ (n : ℕ). HasHeard epoch n its.0.entries.items heard.0 text) (sym named.counter) (subst (λ (es : List Entry). HasHeard epoch seat.name.counter es heard.0 text) (sym all) heard.1);
       seat = seat;
       its = named;
       entries = all;

@@ -10,7 +10,7 @@ use Rattle.server_sessions.specs.declared.given.OwnAnswer.{OwnAnswer}
 use Rattle.server_sessions.specs.declared.given.OwnAnswer.TheVariants as own
 
 -- What a line is answered: as a step of the store is; that a session is open whose client's number was free, with its counter; or
--- which store the server has, and whether each put reads its keys first.
+-- which store the server has, and whether its puts are newest.
 pub data Said : Type 0 where
   Answers : Answer → Said
   ReadyAs : ℕ → ℕ → Said

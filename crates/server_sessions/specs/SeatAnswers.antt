@@ -1,5 +1,5 @@
 -- What the seat of a connection answers, by all that its calls promise, and what is written of it so.
-use Rattle.std.specs.Prelude.{◌≡◌, ◌⊎◌, ◌<◌, ◌*◌, ℕ, zero, suc, Bool, List, [], ◌++◌, Option, IfSome, true, false, cond, nat_lt}
+use Rattle.std.specs.Prelude.{◌≡◌, ◌⊎◌, ◌<◌, ℕ, Bool, List, [], ◌++◌, Option, IfSome, true, false, cond, nat_lt}
 use Rattle.stamps.specs.declared.record.Item.{Item}
 use Rattle.plain_store.specs.Words.{Key, Tag}
 use Rattle.plain_store.specs.declared.refusal.Refusal.TheVariants.{NoTenant, Busy}
@@ -10,9 +10,7 @@ use Rattle.plain_store.specs.declared.answer.Answer.TheVariants.{Refused, Keeps}
 use Rattle.hub.specs.Atomic.{IsReadAtomic}
 use Rattle.hub.specs.Clocks.{PutsByClock}
 use Rattle.hub.specs.Fresh.{AreCommittedIn, IsFreshByEntry}
-use Rattle.hub.specs.Limits.{max_calls}
-use Rattle.hub.specs.Operations.{IsLater, IsOperation, ReportsList, ReportsRead, ReportsWrite}
-use Rattle.hub.specs.ReadsFirst.{IsReadAndWritten}
+use Rattle.hub.specs.Operations.{IsOperation, ReportsList, ReportsRead, ReportsWrite}
 use Rattle.hub.specs.Replies.{AreServed, IfDone, IfListed, IfRead, IsDrawn}
 use Rattle.hub.specs.Seats.{SeatView, sight}
 use Rattle.line_protocol.specs.AnswerSpelling.{answer_line}
@@ -49,25 +47,24 @@ ReportsFind tag old answer new =
     ReportsList tag old answer new × IfListed answer (λ told. ∥ IsReadAtomic new.seen new.name.tenant told ∥₁)
     × IfListed answer (λ told. IsFreshByEntry old.seen new.seen new.name told)
 
--- A put is served. Where puts are to be newest its stamp is the clock's; or, where no journal is cut, its keys are read first.
-abbrev pub IsPut : Bool → ℕ → List Item → SeatView → Answer → SeatView → Type 0
-IsPut false epoch items old answer new = IsServedWith (PutAct old.name.client items) (ReportsPut items) old answer new
-IsPut true zero items old answer new = IsReadAndWritten items old answer new × IsLater (2 * max_calls) old new × HasCommitted items answer new
-IsPut true (suc epoch) items old answer new = PutsByClock items old answer new
+-- A put is served. Where puts are to be newest its stamp is the clock's.
+abbrev pub IsPut : Bool → List Item → SeatView → Answer → SeatView → Type 0
+IsPut false items old answer new = IsServedWith (PutAct old.name.client items) (ReportsPut items) old answer new
+IsPut true items old answer new = PutsByClock items old answer new
 
 -- What a seat of a store of so many tenants answers to a request: `hello` is refused 12; a put, a get and a find are
 -- served; `keep` is answered by its number, and refused 10 where the seat's tenant is not there. It does not answer `info` and `bye`.
-abbrev pub IsAnswered : Bool → ℕ → ℕ → Request → SeatView → Answer → SeatView → Type 0
-IsAnswered newest epoch tenants (Hello name client base) old answer new = (answer ≡ Refused Busy) × (new ≡ old)
-IsAnswered newest epoch tenants (Put items) old answer new = IsPut newest epoch items old answer new
-IsAnswered newest epoch tenants (Get keys) old answer new =
+abbrev pub IsAnswered : Bool → ℕ → Request → SeatView → Answer → SeatView → Type 0
+IsAnswered newest tenants (Hello name client base) old answer new = (answer ≡ Refused Busy) × (new ≡ old)
+IsAnswered newest tenants (Put items) old answer new = IsPut newest items old answer new
+IsAnswered newest tenants (Get keys) old answer new =
     IsServedWith (GetAct old.name.client keys) (ReportsGet keys) old answer new
-IsAnswered newest epoch tenants (Find tag) old answer new =
+IsAnswered newest tenants (Find tag) old answer new =
     IsServedWith (FindAct old.name.client tag) (ReportsFind tag) old answer new
-IsAnswered newest epoch tenants (Keep keep) old answer new =
+IsAnswered newest tenants (Keep keep) old answer new =
     (answer ≡ cond (nat_lt old.name.tenant tenants) (Keeps keep) (Refused NoTenant)) × (new ≡ old)
-IsAnswered newest epoch tenants Info old answer new = ⊥
-IsAnswered newest epoch tenants Bye old answer new = ⊥
+IsAnswered newest tenants Info old answer new = ⊥
+IsAnswered newest tenants Bye old answer new = ⊥
 
 -- the entries so far are returned where journals are cut, and stay where none is
 abbrev pub IsDrained : ℕ → SeatView → SeatView → Type 0
@@ -76,7 +73,7 @@ IsDrained epoch old new = (epoch ≡ 0 → new ≡ old) × (0 < epoch → new �
 -- what a seat answers to a request, with its entries returned then where journals are cut
 abbrev pub IsAnsweredAndDrained : Bool → ℕ → ℕ → Request → SeatView → Answer → SeatView → Type 0
 IsAnsweredAndDrained newest epoch tenants request old answer new =
-    (between : SeatView) × IsAnswered newest epoch tenants request old answer between × (between.name ≡ old.name)
+    (between : SeatView) × IsAnswered newest tenants request old answer between × (between.name ≡ old.name)
     × IsDrained epoch between new
 
 -- the line that is written where a seat is: what the seat answers to a request; or what no seat answers, and it stays as it was

@@ -1,6 +1,6 @@
 -- What the client of a connection is answered.
 use Rattle.std.specs.Prelude.{◌≡◌, ◌⊎◌, ◌<◌, ℕ, List, [], ◌∷◌, ◌++◌, take, true, false}
-use Rattle.std.specs.Prelude.{Bool, Option, Some, None, IfSome, All}
+use Rattle.std.specs.Prelude.{Bool, Option, Some, None, IfSome}
 use Rattle.std.specs.Option.{option_map}
 use Rattle.std.specs.List.{flat_map, filter_map, cons_option}
 use Rattle.std.specs.Io.KnownBytes.{Appends}
@@ -20,32 +20,24 @@ use Rattle.server_sessions.specs.SeatAnswers.{IsToldBySeat}
 -- ---- what is reported
 
 -- What a line is answered where a seat is: an answer that the seat entered, a refusal that it did not, how many versions each
--- collection keeps from then on, or which store it is, and whether each put reads its keys first. First: what the seat had entered for the line and did not tell, if
--- anything: the answer of the read with which a put began.
+-- collection keeps from then on, or which store it is, and whether its puts are newest.
 pub data Telling : Type 0 where
-  Entered : Option Answer → Answer → Telling
-  Refuses : Option Answer → Refusal → Telling
+  Entered : Answer → Telling
+  Refuses : Refusal → Telling
   KeepsSo : ℕ → Telling
   Informs : ℕ → Bool → Telling
 
 -- its line
 abbrev pub telling_line : Telling → List ℕ
-telling_line (Entered first answer) = answer_line answer
-telling_line (Refuses first refusal) = answer_line (Refused refusal)
+telling_line (Entered answer) = answer_line answer
+telling_line (Refuses refusal) = answer_line (Refused refusal)
 telling_line (KeepsSo keep) = answer_line (Keeps keep)
 telling_line (Informs store newest) = info_line store newest
 
--- what was entered and not told
-abbrev pub answer_untold : Telling → Option Answer
-answer_untold (Entered first answer) = first
-answer_untold (Refuses first refusal) = first
-answer_untold (KeepsSo keep) = None
-answer_untold (Informs store newest) = None
-
 -- all that was entered
 abbrev pub answers_entered : Telling → List Answer
-answers_entered (Entered first answer) = cons_option first (answer ∷ [])
-answers_entered (Refuses first refusal) = cons_option first []
+answers_entered (Entered answer) = answer ∷ []
+answers_entered (Refuses refusal) = []
 answers_entered (KeepsSo keep) = []
 answers_entered (Informs store newest) = []
 
@@ -60,15 +52,13 @@ IsLeftOf epoch all left = (epoch ≡ 0 → left ≡ all) × (0 < epoch → left 
 -- a worker's refusal was reported in place of this answer, if there is one
 abbrev pub IsReplaced : Option Answer → List Telling → Type 0
 IsReplaced unheard tellings =
-    IfSome unheard (λ answer. (first : Option Answer) × (refusal : Refusal) × (before : List Telling)
-    × (after : List Telling) × (is_of_worker refusal ≡ true) × (tellings ≡ before ++ Refuses first refusal ∷ after))
+    IfSome unheard (λ answer. (refusal : Refusal) × (before : List Telling) × (after : List Telling)
+    × (is_of_worker refusal ≡ true) × (tellings ≡ before ++ Refuses refusal ∷ after))
 
 -- What a client was answered whose seat has this counter and has these entries left: what no seat answers while there was none, the
--- counter, with the client's number where that was not asked for, and then an answer to each line. Of these the ones that the seat entered are all that it entered, in
--- order; but for one at the end, where a worker's refusal was reported in its place, and, where puts read first, for the
--- answers of those reads.
-pub record HasHeard (newest : Bool) (epoch counter : ℕ) (left : List Entry) (unheard : Option Answer) (text : List ℕ)
-    : Type 0 where
+-- counter, with the client's number where that was not asked for, and then an answer to each line. Of these the ones that the seat
+-- entered are all that it entered, in order; but for one at the end, where a worker's refusal was reported in its place.
+pub record HasHeard (epoch counter : ℕ) (left : List Entry) (unheard : Option Answer) (text : List ℕ) : Type 0 where
   pub asides : List Aside
   pub told_client : Option ℕ
   pub tellings : List Telling
@@ -76,20 +66,19 @@ pub record HasHeard (newest : Bool) (epoch counter : ℕ) (left : List Entry) (u
   pub spelled : text ≡ asides_text asides ++ (ready_line counter told_client ++ tellings_text tellings)
   pub handed : IsLeftOf epoch all left
   pub agrees : filter_map answer_in all ≡ flat_map answers_entered tellings ++ cons_option unheard []
-  pub each : newest ≡ false → All (λ telling. answer_untold telling ≡ None) tellings
   pub replaced : IsReplaced unheard tellings
 
 -- What was reported so far of a seat, by what it has entered: one that was not stopped entered nothing that was not told.
-abbrev pub WasHeard : Bool → ℕ → SeatView → List ℕ → Type 0
-WasHeard newest epoch seat text =
-    (unheard : Option Answer) × HasHeard newest epoch seat.name.counter seat.entries unheard text
+abbrev pub WasHeard : ℕ → SeatView → List ℕ → Type 0
+WasHeard epoch seat text =
+    (unheard : Option Answer) × HasHeard epoch seat.name.counter seat.entries unheard text
     × (seat.stopped ≡ false → unheard ≡ None)
 
 -- What was reported so far: what no seat answers where none was opened; else what the seat has entered, and that is what it
 -- answered.
 abbrev pub WasTold : Bool → ℕ → Option SeatView → List ℕ → Type 0
 WasTold newest epoch None text = (asides : List Aside) × (text ≡ asides_text asides)
-WasTold newest epoch (Some seat) text = WasHeard newest epoch seat text × IsToldBySeat newest epoch seat text
+WasTold newest epoch (Some seat) text = WasHeard epoch seat text × IsToldBySeat newest epoch seat text
 
 -- whatever was reported before, this text is reported after it
 abbrev pub Tells : Bool → ℕ → Option SeatView → Option SeatView → List ℕ → Type 0
@@ -104,7 +93,7 @@ SessionLeft = Transcript × List HistoryEntry
 -- history that it has seen, whether journals are cut or not.
 pub record IsToldOfSeat (newest : Bool) (epoch : ℕ) (left : SessionLeft) (text : List ℕ) : Type 0 where
   pub unheard : Option Answer
-  pub heard : HasHeard newest epoch left.0.counter left.0.entries.items unheard text
+  pub heard : HasHeard epoch left.0.counter left.0.entries.items unheard text
   pub seat : SeatView
   pub its : IsNamed left.0 seat.name
   pub entries : left.0.entries.items ≡ seat.entries

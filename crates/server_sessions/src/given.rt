@@ -31,7 +31,7 @@ pub(crate) struct Given {
 pub(crate) enum OwnAnswer {
     /// A session is open, with this counter, of this client, whose number was free.
     ReadyAs(Counter, Client),
-    /// Which store it is, and whether each put reads its keys first.
+    /// Which store it is, and whether its puts are newest.
     Informs(u64, bool),
 }
 
@@ -65,7 +65,7 @@ impl Given {
         };
     }
 
-    /// It is said which store it is, and whether each put reads its keys first.
+    /// It is said which store it is, and whether its puts are newest.
     pub(crate) fn inform(&mut self, store: u64, newest: bool)
         ensures { self.new ≡ Informs store newest }
     {
@@ -128,7 +128,7 @@ pub(crate) fn put_answer(answer: &Given, out: &mut BytesMut)
 }
 
 /// Answers a request by a seat, and says whether it is answered: neither an `info` nor a `bye` is. Newest: whether a put is above what
-/// is there, by the clock; where no journal is cut it reads its keys for that, so that transcripts can be settled.
+/// is there, by its tenant's clock.
 pub(crate) fn ask_seat<G: Gate + Naming, H: Wait>(
     rt: &H,
     hub: &Hub<G>,
@@ -138,8 +138,7 @@ pub(crate) fn ask_seat<G: Gate + Naming, H: Wait>(
     answer: &mut Given,
 ) -> bool
     ensures answered { result ≡ true → (told : Told) × (answer.new ≡ Answers told)
-        × IsAnswered newest hub.now.epoch (length hub.now.limits) request.now seat.old told
-        seat.new }
+        × IsAnswered newest (length hub.now.limits) request.now seat.old told seat.new }
     ensures stays { (seat.new.name ≡ seat.old.name) × (result ≡ false
         → ((request.now ≢ Info) → request.now ≡ Bye) × (seat.new ≡ seat.old)) }
 {
@@ -153,10 +152,6 @@ pub(crate) fn ask_seat<G: Gate + Naming, H: Wait>(
             let items = items.as_slice();
             if !newest {
                 seat.put_all_into(rt, items, &mut answer.answer);
-                return true;
-            }
-            if hub.epoch() == 0 {
-                seat.put_newest_into(rt, items, &mut answer.answer);
                 return true;
             }
             seat.put_by_clock_into(rt, items, &mut answer.answer);

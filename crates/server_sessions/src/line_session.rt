@@ -138,7 +138,7 @@ fn transcript_of<G: Naming>(left: Option<SessionLeft<G>>) -> Option<Transcript>
 ///
 /// `hello` opens a seat of the hub, of the client that it names, or of one whose number is free, which `ready` then names. `info` is
 /// answered by the number of the store and by whether puts are to be newest, with a seat or without. `put`, `get` and `find` are answered by
-/// the seat. With `newest` each put first reads its keys (`Seat::put_newest`), where no journal is cut; the client is not sent that read.
+/// the seat. With `newest` each put takes its stamp from the clock of its tenant (`Seat::put_by_clock`).
 /// `keep` sets how many versions a collection of its tenant keeps. Before the seat is there these four are refused 11. A `hello` where the connection has a seat is refused 12, and changes nothing. A line that is none of a session's is
 /// refused 40, and the session goes on; but where it is strict and has no seat, that ends it. `bye` ends it too, and so do a line that is
 /// too long (41), an input that ends within a line (42) and an allocation failure (30), but as the answer to `hello`. However it ends, its

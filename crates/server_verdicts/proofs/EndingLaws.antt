@@ -1,5 +1,6 @@
 -- What holds of each row so far, and of one more.
-use Rattle.std.proofs.Common.{◌≡◌, ◌+◌, ◌<◌, ℕ, Bool, true, false, MatchBool, List, [], ◌∷◌, ◌++◌, Some, None, suc, zero, slice_get, get_or, length, length-append, append_assoc, Result, Ok, Err, IfErr, IfOk, refl, sym, ap, subst, ◌∙◌, ◌⊎◌, inl, inr, arith}
+use Rattle.std.proofs.Common.{◌≡◌, ◌+◌, ◌<◌, ℕ, Bool, true, false, MatchBool, List, [], ◌∷◌, ◌++◌, Some, None, suc, zero, slice_get, get_or, length, length-append, append_assoc, Result, Ok, Err, IfErr, IfOk, Option, add-one, drop, option_to_list, refl, sym, ap, subst, ◌∙◌, ◌⊎◌, inl, inr, arith}
+use Rattle.std.specs.Option.{IsSome}
 use Rattle.std.proofs.lemmas.Option.{same_Some, slice_get_read}
 
 -- the element of a list that another one is
@@ -66,6 +67,67 @@ one_turn {X} {Y} Like xs front left rest x ys new y kept next more like =
       ap length more ∙ omega (arith, length-append ys (y ∷ []), length-append front (x ∷ []), kept.1),
       append_assoc front (x ∷ []) rest ∙ whole,
     )
+
+-- ---- what is taken from a list, one after another
+
+drop_head : {X : Type 0} (xs : List X) (n : ℕ) (x : X) (new : List X) → x ∷ new ≡ drop n xs → (slice_get xs n ≡ Some x) × (new ≡ drop (suc n) xs)
+drop_head [] zero x new is = absurd (let none : x ∷ new ≡ [] = is in cc)
+drop_head [] (suc n) x new is = absurd (let none : x ∷ new ≡ [] = is in cc)
+drop_head {X} (y ∷ ys) zero x new is =
+    let both : x ∷ new ≡ y ∷ ys = is in
+    let head : x ≡ y = cc in
+    let rest : new ≡ ys = cc in
+    (ap {B = Option X} (λ z. Some z) (sym head), rest)
+drop_head (y ∷ ys) (suc n) x new is = drop_head ys n x new is
+
+drop_none : {X : Type 0} (xs : List X) (n : ℕ) → [] ≡ drop n xs → (slice_get xs n ≡ None) × ([] ≡ drop (suc n) xs)
+drop_none [] zero is = (refl, refl)
+drop_none [] (suc n) is = (refl, refl)
+drop_none {X} (y ∷ ys) zero is = absurd (let some : [] ≡ y ∷ ys = is in cc)
+drop_none (y ∷ ys) (suc n) is = drop_none ys n is
+
+nothing_in : {X : Type 0} (xs : List X) → length xs ≡ 0 → xs ≡ []
+nothing_in [] none = refl
+nothing_in (x ∷ xs) none = absurd (omega (arith, none))
+
+-- so many were taken from a list, of which these are left, and this is their number
+abbrev pub HasLeft : {X : Type 0} → List X → ℕ → List X → ℕ → Type 0
+HasLeft xs n left len = (left ≡ drop n xs) × (len ≡ length left)
+
+-- the next that is taken stands behind those, or none is left
+pub next_taken : {X : Type 0} (xs : List X) (n : ℕ) (old new : List X) (r : Option X) (len after : ℕ) → HasLeft xs n old len
+    → old ≡ option_to_list r ++ new → after + length (option_to_list r) ≡ len → (0 < len → IsSome r) → (slice_get xs n ≡ r) × HasLeft xs (suc n) new after
+next_taken xs n old new None len after has items count some =
+    let none : len ≡ 0 = no_more len (λ more. let no : false ≡ true = some more in cc) in
+    let empty : old ≡ [] = nothing_in old (sym has.1 ∙ none) in
+    let end = drop_none xs n (sym empty ∙ has.0) in
+    let left : new ≡ [] = sym items ∙ empty in
+    (end.0, (left ∙ end.1, omega (arith, count, none) ∙ ap length (sym left)))
+  where
+    no_more : (len : ℕ) → (0 < len → ⊥) → len ≡ 0
+    no_more zero not = refl
+    no_more (suc len) not = absurd (not (omega arith))
+next_taken xs n old new (Some x) len after has items count some =
+    let next = drop_head xs n x new (sym items ∙ has.0) in
+    let long : length old ≡ length new + 1 = ap length items ∙ omega arith in
+    (next.0, (next.1, omega (arith, count, has.1, long)))
+
+-- each fits what stands at its place of a list, or that nothing does
+abbrev pub EachFits : {X Y : Type 0} → (Option X → Y → Type 0) → List X → List Y → Type 0
+EachFits Fits xs ys = (i : ℕ) (y : _) → slice_get ys i ≡ Some y → Fits (slice_get xs i) y
+
+pub fits_more : {X Y : Type 0} (Fits : Option X → Y → Type 0) (xs : List X) (ys new : List Y) (y : Y) (r : Option X) → EachFits Fits xs ys → slice_get xs (length ys) ≡ r → new ≡ ys ++ y ∷ []
+    → Fits r y → EachFits Fits xs new
+fits_more {X} {Y} Fits xs ys new y r each here more fit =
+    subst (EachFits Fits xs) (sym more) (λ i other at. elim (before_or_last ys y i other at) [
+      | inl before ↦ each i other before
+      | inr last ↦ subst (Fits (slice_get xs i)) last.1 (subst (λ (found : Option X). Fits found y) (sym (ap (slice_get xs) last.0 ∙ here)) fit)
+    ])
+
+-- one was taken for the one that was put at the end of another list
+pub left_more : {X Y : Type 0} (xs : List X) (ys new : List Y) (y : Y) (left : List X) (len : ℕ) → new ≡ ys ++ y ∷ [] → HasLeft xs (suc (length ys)) left len
+    → HasLeft xs (length new) left len
+left_more xs ys new y left len more has = subst (λ (n : ℕ). HasLeft xs n left len) (sym (ap length more ∙ length-append ys (y ∷ []) ∙ add-one (length ys))) has
 
 -- a test of one of a list, and what it reports of the list
 pub told_there : {X E : Type 0} (Right Wrong : X → Type 0) (xs : List X) (i : ℕ) (x : X) (told : Result Bool E) → slice_get xs i ≡ Some x → IfOk told (λ yes. MatchBool yes (Right x) (Wrong x))

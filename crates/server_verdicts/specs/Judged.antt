@@ -10,7 +10,8 @@ use Rattle.closed_store.specs.Joins.{left_in}
 use Rattle.server_verdicts.specs.declared.epochs.ending.Ending.{Ending}
 use Rattle.server_verdicts.specs.declared.epochs.ending.LastEpochs.{LastEpochs}
 use Rattle.line_runs.specs.declared.fault.ProgramFault.{ProgramFault}
-use Rattle.server_verdicts.specs.declared.epochs.checked.Standing.TheVariants.{Right, Wrong}
+use Rattle.server_verdicts.specs.declared.epochs.checked.Checked.{Checked}
+use Rattle.server_verdicts.specs.declared.epochs.checked.Standing.TheVariants.{Right, Wrong, Unknown}
 use Rattle.server_verdicts.specs.Taken.{AreRight, IsNextEpoch, LeadTo, SomeLead}
 use Rattle.server_verdicts.specs.Verdicts.{TellsEach}
 
@@ -25,6 +26,29 @@ pub record AreLeft (journals : List (Vec Journal)) (rows : List (Vec Ending)) : 
   pub each : (partition : ℕ) (row : Vec Ending) → slice_get rows partition ≡ Some row
       → (own : Vec Journal) × (slice_get journals partition ≡ Some own) × AreLeftIn own.items row.items
   pub as_many : length rows ≡ length journals
+
+-- What is known of a journal at its end is what was known of it at last; where nothing was kept of it, its epochs were found
+-- neither right nor wrong.
+abbrev pub IsEndedAs : {C : Type 0} → (C → Checked → Type 0) → Option C → Checked → Type 0
+IsEndedAs HasEnded (Some its) checked = HasEnded its checked
+IsEndedAs HasEnded None checked = checked.standing ≡ Unknown
+
+-- so of each journal of a partition
+abbrev pub AreEndedIn : {C : Type 0} → (C → Checked → Type 0) → List C → List Ending → Type 0
+AreEndedIn HasEnded known row =
+    (tenant : ℕ) (ending : Ending) → slice_get row tenant ≡ Some ending
+    → IsEndedAs HasEnded (slice_get known tenant) ending.checked
+
+-- what is known of a partition's journals, of which it may be that none is kept
+abbrev pub known_there : {C : Type 0} → Option (Vec C) → List C
+known_there None = []
+known_there (Some known) = known.items
+
+-- so partition by partition
+abbrev pub AreEnded : {C : Type 0} → (C → Checked → Type 0) → List (Vec C) → List (Vec Ending) → Type 0
+AreEnded HasEnded known rows =
+    (partition : ℕ) (row : Vec Ending) → slice_get rows partition ≡ Some row
+    → AreEndedIn HasEnded (known_there (slice_get known partition)) row.items
 
 -- they are the epochs that were taken, as many as this number says and leading to this end; and the one that was left is
 -- right after them, in turn from the first one on

@@ -9,7 +9,7 @@ use Rattle.plain_store.specs.Log.{Exchange, Log}
 use Rattle.plain_store.specs.History.{log_at}
 use Rattle.partition.specs.Events.{Event}
 use Rattle.closed_store.specs.declared.transcript.Transcript.{Transcript}
-use Rattle.settle.specs.Words.{Act, Put, GetAll, Find, SetKeep, Step}
+use Rattle.settle.specs.Words.{Act, Hello, Put, GetAll, Find, SetKeep, Step, Stop}
 use Rattle.settle.specs.Input.{Input, setup_for, events_of_partition}
 use Rattle.settle.specs.Program.{Doing, Greets, Begins, Takes, Leaves, reply_taken}
 use Rattle.settle.specs.Trace.{Origin, OfTranscript, OfJournal, Trace, after, ready, told_next, answered, keep_before, and_keep, acts_of, acts_before, is_origin, times}
@@ -56,6 +56,8 @@ module _ (input : Input) (older : Trace) (partition : ℕ) where
   request_quiet client (Put c items) is = refl
   request_quiet client (GetAll c keys) is = refl
   request_quiet client (Find c tag) is = refl
+  request_quiet client (Stop c) is = refl
+  request_quiet client (Hello c base) is = refl
   request_quiet client act is = absurd is
 
   doing_quiet : (place : ℕ) (transcript : Transcript) (doing : Doing) (act : Act) → Gives input older place transcript doing act → Delivers (after input older) act (reply_taken doing) → Adds act

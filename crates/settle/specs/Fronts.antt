@@ -54,11 +54,13 @@ EarlierAreOver input older place transcript =
     (i : ℕ) (earlier : Transcript) → IsTranscriptAt input i earlier → ComesBefore i earlier place transcript
     → IsOver older i earlier
 
--- the act begins a transaction of the client
+-- the act begins a transaction of the client; or it ends the client's session, or begins it again, as a raise of its counter does
 abbrev pub IsRequest : ℕ → Act → Type 0
 IsRequest client (Put c items) = c ≡ client
 IsRequest client (GetAll c keys) = c ≡ client
 IsRequest client (Find c tag) = c ≡ client
+IsRequest client (Stop c) = c ≡ client
+IsRequest client (Hello c base) = c ≡ client
 IsRequest client act = ⊥
 
 -- the event of a seat's call of a number stands at a place

@@ -5,8 +5,8 @@ use Rattle.entry_list.specs.declared.kinds.Entry.{Entry}
 use Rattle.entry_list.specs.declared.kinds.Entry.TheVariants.{Began, Took, Answered}
 use Rattle.closed_store.specs.declared.transcript.Transcript.{Transcript}
 
--- the session begins, begins a transaction, takes the reply to its call of a number, whose event stands at a place of a
--- partition's journal, or ends
+-- the session begins, begins a transaction or a step of a raise, takes the reply to its call of a number, whose event stands at
+-- a place of a partition's journal, or ends
 pub data Doing : Type 0 where
   Greets : Doing
   Begins : Act → Doing

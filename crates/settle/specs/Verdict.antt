@@ -33,7 +33,8 @@ LogsAreJournals input trace =
 -- ---- where steps stand in a list
 
 -- The transcript gave an item's step after n of its own. It was free in its turn: the hello, the transaction that
--- was begun, the delivery of the reply of the event at its place, or the stop. The plain store answers it as was noted.
+-- was begun, the stop or the hello of a raise, the delivery of the reply of the event at its place, or the stop. The plain
+-- store answers it as was noted.
 pub record IsTakenItem (input : Input) (trace : Trace) (place : ℕ) (transcript : Transcript) (n : ℕ) (item : TranscriptItem)
     : Type 0 where
   pub newer : Trace

@@ -87,12 +87,16 @@ fn caller_at(closed: &Closed, tenant: u32, partition: usize, place: u64) -> Opti
     caller_after(closed, tenant, partition, (place - 1) as usize)
 }
 
-/// Whether the act begins a transaction of the client.
+/// Whether the act begins a transaction of the client, or ends or begins its session, as a raise of its counter does.
 pub fn is_request(client: Client, act: &Act) -> bool
     ensures { IsTrue result ↔ IsRequest client act.now }
 {
     match act {
-        Act::Put(own, _) | Act::Get(own, _) | Act::Find(own, _) => *own == client,
+        Act::Put(own, _)
+        | Act::Get(own, _)
+        | Act::Find(own, _)
+        | Act::Stop(own)
+        | Act::Hello(own, _) => *own == client,
         _ => false,
     }
 }

@@ -340,7 +340,7 @@ impl Progress {
     }
 }
 
-/// The step of a request that the transcript at a place began; none where it is not a request of its client.
+/// The step of a request that the transcript at a place began, or of a raise; none where it is not of its client.
 fn request(place: usize, transcript: &Transcript, act: Act) -> Option<Next>
     ensures gives { (input : Input) (trace : Trace)
         → GivesNow input trace place transcript.now (Begins act) result }

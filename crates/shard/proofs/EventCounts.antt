@@ -1,13 +1,16 @@
 -- Events of seats that are counted, one after the other.
-use Rattle.std.proofs.Common.{◌≡◌, ℕ, zero, suc, ◌+◌, ◌<◌, ◌≤◌, ◌↔◌, Bool, true, List, [], ◌∷◌, length, Option, Some, None, Result, Ok, Err, refl, ap, sym, ◌∙◌, ⊎_elim, add-zero, add-suc, arith, length-append, subst}
+use Rattle.std.proofs.Common.{◌≡◌, ℕ, zero, suc, ◌+◌, ◌<◌, ◌≤◌, ◌↔◌, Bool, true, false, List, [], ◌∷◌, length, Option, Some, None, Result, Ok, Err, refl, ap, sym, ◌∙◌, ⊎_elim, add-zero, add-suc, arith, length-append, subst}
 use Rattle.std.specs.Prelude.{◌||◌, slice_get, IfOk, OnOk, OnErr, IsErrOf, IsSomeAnd}
 use Rattle.std.proofs.Math.Bool.{or-false, or_assoc}
 use Rattle.std.proofs.lemmas.Bool.{cases_lt}
 use Rattle.std.proofs.lemmas.Bool.Decides.{eqb_tells}
 use Rattle.std.proofs.lemmas.List.Sums.{sum_by-cons}
+use Rattle.std.proofs.lemmas.Option.{same_Some}
 use Rattle.plain_store.specs.declared.calls.Reply.{Reply}
 use Rattle.partition.specs.Events.{Event}
 use Rattle.partition.specs.Accounts.{Account, IsEntered, events_at, places, with_event}
+use Rattle.traced_book.specs.Forgetting.{AreBegunAnew, BeginsAnew, IsTaken}
+use Rattle.traced_book.proofs.Forgetting.{none_left}
 use Rattle.shard.specs.declared.jobs.Fault.{Fault}
 use Rattle.shard.specs.declared.jobs.Fault.TheVariants.{NoTenant}
 use Rattle.shard.specs.declared.shard.FollowUp.{FollowUp}
@@ -49,6 +52,27 @@ places_more (a ∷ old) (b ∷ new) (suc tenant) e there entered =
     }) in
     omega (arith, first, rest, sum_by-cons places a old, sum_by-cons places b new)
 
+-- none more, where journals begin anew
+places_anew : (old new : List Account) → AreBegunAnew old new → places_given new ≡ places_given old
+places_anew [] [] begun = refl
+places_anew [] (b ∷ new) begun = let none : length (b ∷ new) ≡ 0 = begun.tenants in absurd (omega (arith, none))
+places_anew (a ∷ old) [] begun = let none : 0 ≡ length (a ∷ old) = begun.tenants in absurd (omega (arith, none))
+places_anew (a ∷ old) (b ∷ new) begun =
+    let its = begun.each zero a refl in
+    let same : its.0 ≡ b = same_Some its.0 b (sym its.2) in
+    let first : BeginsAnew a b = subst (BeginsAnew a) same its.1 in
+    let rest = places_anew old new (record {
+      each = λ tenant account is. begun.each (suc tenant) account is;
+      tenants = let long : length (b ∷ new) ≡ length (a ∷ old) = begun.tenants in omega (arith, long);
+    }) in
+    omega (arith, first.places, ap length first.none, rest, sum_by-cons places a old, sum_by-cons places b new)
+
+-- one more, which is kept or not
+places_taken : (journals : Bool) (old new : List Account) (tenant : ℕ) (e : Event) → tenant < length old → IsTaken journals old new tenant e
+    → places_given new ≡ places_given old + 1
+places_taken true old new tenant e there taken = places_more old new tenant e there taken
+places_taken false old new tenant e there taken = places_anew taken.0 new taken.2 ∙ places_more old taken.0 tenant e there taken.1
+
 -- ---- events that were counted
 
 -- none came
@@ -56,18 +80,18 @@ pub none_counted : (every : ℕ) (accounts : List Account) (events : ℕ) (was :
 none_counted every accounts events was = record { n = 0; came = sym (add-zero (places_given accounts)); events = refl; due = sym (or-false was) }
 
 -- one came where the call was served, and none where it was not
-pub one_counted : (every : ℕ) (old new : List Account) (tenant : ℕ) (result : Result ℕ Fault) (reply : Option Reply) (e : Reply → Event) (before after : ℕ) (was now : FollowUp)
-    → (IsErrOf result NoTenant ↔ (length old ≤ tenant)) → IfOk result (λ _. IsSomeAnd reply (λ r. IsEntered old new tenant (e r))) → OnErr result (new ≡ old)
+pub one_counted : (journals : Bool) (every : ℕ) (old new : List Account) (tenant : ℕ) (result : Result ℕ Fault) (reply : Option Reply) (e : Reply → Event) (before after : ℕ) (was now : FollowUp)
+    → (IsErrOf result NoTenant ↔ (length old ≤ tenant)) → IfOk result (λ _. IsSomeAnd reply (λ r. IsTaken journals old new tenant (e r))) → OnErr result (new ≡ old)
     → OnOk result (IsCounted every before after was.collects now.collects) → OnErr result ((after ≡ before) × (now ≡ was))
     → AreEventsCounted every old new before after was.collects now.collects
-one_counted every old new tenant (Ok place) None e before after was now there entered same counted uncounted = absurd entered
-one_counted every old new tenant (Ok place) (Some r) e before after was now there entered same counted uncounted =
+one_counted journals every old new tenant (Ok place) None e before after was now there taken same counted uncounted = absurd taken
+one_counted journals every old new tenant (Ok place) (Some r) e before after was now there taken same counted uncounted =
     let within : tenant < length old = omega (arith, λ (past : length old ≤ tenant). absent (there.1 past)) in
-    record { n = 1; came = places_more old new tenant (e r) within entered; events = counted.events; due = counted.due }
+    record { n = 1; came = places_taken journals old new tenant (e r) within taken; events = counted.events; due = counted.due }
   where
     absent : Ok place ≡ Err NoTenant → ⊥
     absent is = cc
-one_counted every old new tenant (Err f) reply e before after was now there entered same counted uncounted =
+one_counted journals every old new tenant (Err f) reply e before after was now there taken same counted uncounted =
     rw (same, uncounted.0, uncounted.1) (none_counted every old before was.collects)
 
 events_on : (every events n m : ℕ) → events_after every (events_after every events n) m ≡ events_after every events (n + m)
@@ -99,28 +123,47 @@ counted_on every old mid new before between after was is now first then =
 pub none_long : (epoch : ℕ) (accounts : List Account) (was : Bool) → NotesLong epoch accounts accounts was was
 none_long epoch accounts was = record { before = λ is. is; long = λ some tenant few many. absurd (omega (arith, few, many)) }
 
+-- with an event that is kept
+kept_long : (epoch : ℕ) (old new : List Account) (tenant : ℕ) (e : Event) (was now : Bool) → tenant < length old → IsEntered old new tenant e
+    → (0 < epoch → length (events_at new tenant) ≡ epoch → now ≡ true) → (was ≡ true → now ≡ true) → NotesLong epoch old new was now
+kept_long epoch old new tenant e was now within entered cuts still = record {
+  before = still;
+  long = λ some other few many.
+      ⊎_elim
+      (λ h. let own = events_own old new tenant e within entered in
+      let was_few : length (events_at old tenant) < epoch = subst (λ t. length (events_at old t) < epoch) h.1 few in
+      let is_many : epoch ≤ length (events_at new tenant) = subst (λ t. epoch ≤ length (events_at new t)) h.1 many in
+      cuts some (omega (arith, own, was_few, is_many)))
+      (λ h. let kept = events_other old new tenant other e entered h.1 in absurd (omega (arith, kept, few, many)))
+      (eqb_tells other tenant);
+}
+
+-- none gets long where none is kept
+anew_long : (epoch : ℕ) (old mid new : List Account) (was now : Bool) → AreBegunAnew mid new → (was ≡ true → now ≡ true) → NotesLong epoch old new was now
+anew_long epoch old mid new was now begun still = record {
+  before = still;
+  long = λ some other few many.
+      let none : length (events_at new other) ≡ 0 = ap length (none_left mid new other begun) in
+      absurd (omega (arith, none, some, many));
+}
+
+taken_long : (journals : Bool) (epoch : ℕ) (old new : List Account) (tenant : ℕ) (e : Event) (was now : Bool) → tenant < length old → IsTaken journals old new tenant e
+    → (0 < epoch → length (events_at new tenant) ≡ epoch → now ≡ true) → (was ≡ true → now ≡ true) → NotesLong epoch old new was now
+taken_long true epoch old new tenant e was now within taken cuts still = kept_long epoch old new tenant e was now within taken cuts still
+taken_long false epoch old new tenant e was now within taken cuts still = anew_long epoch old taken.0 new was now taken.2 still
+
 -- with the event of a call that was served
-pub one_long : (epoch : ℕ) (old new : List Account) (tenant : ℕ) (result : Result ℕ Fault) (reply : Option Reply) (e : Reply → Event) (was now : Bool)
-    → (IsErrOf result NoTenant ↔ (length old ≤ tenant)) → IfOk result (λ _. IsSomeAnd reply (λ r. IsEntered old new tenant (e r))) → OnErr result (new ≡ old)
+pub one_long : (journals : Bool) (epoch : ℕ) (old new : List Account) (tenant : ℕ) (result : Result ℕ Fault) (reply : Option Reply) (e : Reply → Event) (was now : Bool)
+    → (IsErrOf result NoTenant ↔ (length old ≤ tenant)) → IfOk result (λ _. IsSomeAnd reply (λ r. IsTaken journals old new tenant (e r))) → OnErr result (new ≡ old)
     → IfOk result (λ _. 0 < epoch → length (events_at new tenant) ≡ epoch → now ≡ true) → (was ≡ true → now ≡ true) → NotesLong epoch old new was now
-one_long epoch old new tenant (Ok place) None e was now there entered same cuts still = absurd entered
-one_long epoch old new tenant (Ok place) (Some r) e was now there entered same cuts still =
+one_long journals epoch old new tenant (Ok place) None e was now there taken same cuts still = absurd taken
+one_long journals epoch old new tenant (Ok place) (Some r) e was now there taken same cuts still =
     let within : tenant < length old = omega (arith, λ (past : length old ≤ tenant). absent (there.1 past)) in
-    record {
-      before = still;
-      long = λ some other few many.
-          ⊎_elim
-          (λ h. let own = events_own old new tenant (e r) within entered in
-          let was_few : length (events_at old tenant) < epoch = subst (λ t. length (events_at old t) < epoch) h.1 few in
-          let is_many : epoch ≤ length (events_at new tenant) = subst (λ t. epoch ≤ length (events_at new t)) h.1 many in
-          cuts some (omega (arith, own, was_few, is_many)))
-          (λ h. let kept = events_other old new tenant other (e r) entered h.1 in absurd (omega (arith, kept, few, many)))
-          (eqb_tells other tenant);
-    }
+    taken_long journals epoch old new tenant (e r) was now within taken cuts still
   where
     absent : Ok place ≡ Err NoTenant → ⊥
     absent is = cc
-one_long epoch old new tenant (Err f) reply e was now there entered same cuts still =
+one_long journals epoch old new tenant (Err f) reply e was now there taken same cuts still =
     record {
       before = still;
       long = λ some other few many. let kept = ap (λ accounts. length (events_at accounts other)) same in absurd (omega (arith, kept, few, many));

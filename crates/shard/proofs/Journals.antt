@@ -1,5 +1,5 @@
 -- The journals of a partition, from one event to the next.
-use Rattle.std.proofs.Common.{◌≡◌, ◌<◌, ◌≤◌, ◌+◌, ℕ, zero, suc, List, [], ◌∷◌, ◌++◌, length, get_or, Option, Some, None, Result, Ok, Err, ⊎_elim, refl, ap, sym, subst, ◌∙◌, arith, map}
+use Rattle.std.proofs.Common.{◌≡◌, ◌<◌, ◌≤◌, ℕ, zero, suc, List, [], ◌∷◌, ◌++◌, length, get_or, Bool, true, false, Option, Some, None, Result, Ok, Err, ⊎_elim, refl, ap, sym, subst, ◌∙◌, arith, map}
 use Rattle.std.specs.Prelude.{◌↔◌, slice_get, reverse, IfOk, OnErr, IfSome, IsErrOf, IsSomeAnd, All}
 use Rattle.std.specs.Option.{option_map}
 use Rattle.std.proofs.Math.Logic.{∥∥₁_map}
@@ -19,7 +19,7 @@ use Rattle.prepare_commit.specs.Bases.{Leaves}
 use Rattle.partition.specs.declared.journal.Epoch.{Epoch}
 use Rattle.partition.specs.Events.{Event, event}
 use Rattle.partition.specs.Journals.{EachFollowsFrom, FollowsFrom, IsSoundFrom, IsLate, last_number, log_after, room_for}
-use Rattle.partition.specs.Accounts.{Account, IsCut, IsEntered, IsReplyInEpoch, account_room, base_at, base_in, before_at, events_at, events_in, room_in, new_account, next_account, with_event}
+use Rattle.partition.specs.Accounts.{Account, IsCut, IsEntered, IsReplyInEpoch, account_room, base_at, base_in, events_at, events_in, room_in, new_account, next_account, with_event}
 use Rattle.history.specs.declared.entry.HistoryEntry.{HistoryEntry}
 use Rattle.history.specs.declared.entry.Mark.{Mark}
 use Rattle.history.specs.Entries.{HasMark, StandsBehind}
@@ -30,6 +30,8 @@ use Rattle.shard.specs.declared.jobs.PlacedReply.{PlacedReply as Answered}
 use Rattle.shard.specs.Homes.{HasHome}
 use Rattle.shard.specs.Journals.{WasCut}
 use Rattle.shard.specs.Journals.{AreOf, CameSo, IsServedIn, served_call}
+use Rattle.traced_book.specs.Forgetting.{AreBegunAnew, IsTaken}
+use Rattle.traced_book.proofs.Forgetting.{begun_of, none_left}
 use Rattle.shard.proofs.Homed.{all_snoc}
 
 -- a journal is sound from its base, which is one of its own limits
@@ -117,15 +119,42 @@ module _ (parts partition : ℕ) (old new : List Account) (tenant : ℕ) (e : Ev
         (λ account is all. (with_event account e, entered.own account is, all_snoc (λ (x : Event). HasHome x.call parts partition) account.events e all home));
   }
 
+-- ---- accounts that begin anew
+
+anew_sound : (old new : List Account) → AreBegunAnew old new → All Sound old → All Sound new
+anew_sound old new begun sound k d lt =
+    let now = get_or new k d in
+    let is = slice_get-get_or new k d lt in
+    let its = begun_of old new k now begun is in
+    let b = its.2 in
+    (b.content.room ∙ (told Sound old k its.0 sound its.1).0 ∙ ap room_for (sym b.limits), subst (IsSoundFrom now.start.base) (sym b.none) tt)
+
+anew_of : (parts partition : ℕ) (old new : List Account) → AreBegunAnew old new → AreOf parts partition old → AreOf parts partition new
+anew_of parts partition old new begun of = record {
+  sound = anew_sound old new begun of.sound;
+  home = λ tenant. subst (AreHome parts partition) (sym (none_left old new tenant begun)) (All-nil (λ (x : Event). HasHome x.call parts partition));
+}
+
+-- journals that begin anew are as sound
+pub anew-of : (parts partition : ℕ) (old new : List Account) → AreBegunAnew old new → ∥ AreOf parts partition old ∥₁ → ∥ AreOf parts partition new ∥₁
+anew-of parts partition old new begun of = ∥∥₁_map of (anew_of parts partition old new begun)
+
+-- the journals after an event that was kept, or not
+module _ (parts partition tenant : ℕ) (old new : List Account) (e : Event) (there : tenant < length old) (reply : IsReplyInEpoch old tenant e.call e.reply)
+    (in_time : IsLate (events_at old tenant) e.seat e.number → ⊥) (home : HasHome e.call parts partition) where
+  pub taken-of : (journals : Bool) → IsTaken journals old new tenant e → AreOf parts partition old → AreOf parts partition new
+  taken-of true taken of = entered-of parts partition old new tenant e there taken reply in_time home of
+  taken-of false taken of = anew_of parts partition taken.0 new taken.2 (entered-of parts partition old taken.0 tenant e there taken.1 reply in_time home of)
+
 -- where the call was served, its event is one more
-pub served-of : (parts partition tenant seat number place : ℕ) (old new : List Account) (call : Call) (reply : Option Reply) (outcome : Result ℕ Fault)
+pub served-of : (journals : Bool) (parts partition tenant seat number place : ℕ) (old new : List Account) (call : Call) (reply : Option Reply) (outcome : Result ℕ Fault)
     → outcome ≡ Ok place → (IsErrOf outcome NoTenant ↔ (length old ≤ tenant)) → (tenant < length old → (IsErrOf outcome Late ↔ IsLate (events_at old tenant) seat number))
-    → IsSomeAnd reply (λ r. IsEntered old new tenant (event seat number call r)) → IsSomeAnd reply (λ r. IsReplyInEpoch old tenant call r)
+    → IsSomeAnd reply (λ r. IsTaken journals old new tenant (event seat number call r)) → IsSomeAnd reply (λ r. IsReplyInEpoch old tenant call r)
     → HasHome call parts partition → AreOf parts partition old → AreOf parts partition new
-served-of parts partition tenant seat number place old new call None outcome is there late entered told home of = absurd entered
-served-of parts partition tenant seat number place old new call (Some r) outcome is there late entered told home of =
+served-of journals parts partition tenant seat number place old new call None outcome is there late taken told home of = absurd taken
+served-of journals parts partition tenant seat number place old new call (Some r) outcome is there late taken told home of =
     let within : tenant < length old = omega (arith, λ (past : length old ≤ tenant). absent (there.1 past)) in
-    entered-of parts partition old new tenant (event seat number call r) within entered told (λ l. in_time ((late within).1 l)) home of
+    taken-of parts partition tenant old new (event seat number call r) within told (λ l. in_time ((late within).1 l)) home journals taken of
   where
     absent : outcome ≡ Err NoTenant → ⊥
     absent was = cc (is, was)
@@ -141,61 +170,52 @@ moved_to parts partition ours at accounts same here journals =
     subst Q here (subst P same journals)
 
 -- the journals after a call that came to its partition, and may not have been served
-pub called-of : (ours at parts partition tenant seat number : ℕ) (old new : List Account) (call : Call) (reply : Option Reply) (result : Result ℕ Fault)
+pub called-of : (keeps : Bool) (ours at parts partition tenant seat number : ℕ) (old new : List Account) (call : Call) (reply : Option Reply) (result : Result ℕ Fault)
     → (IsErrOf result NoTenant ↔ (length old ≤ tenant)) → (tenant < length old → (IsErrOf result Late ↔ IsLate (events_at old tenant) seat number))
-    → IfOk result (λ _. IsSomeAnd reply (λ r. IsEntered old new tenant (event seat number call r)))
+    → IfOk result (λ _. IsSomeAnd reply (λ r. IsTaken keeps old new tenant (event seat number call r)))
     → IfOk result (λ _. IsSomeAnd reply (λ r. IsReplyInEpoch old tenant call r))
     → OnErr result (new ≡ old) → HasHome call parts partition
     → (partition ≡ at) × (parts ≡ ours) → ∥ AreOf ours at old ∥₁ → ∥ AreOf ours at new ∥₁
-called-of ours at parts partition tenant seat number old new call reply (Ok place) there late entered told unchanged home here journals =
+called-of keeps ours at parts partition tenant seat number old new call reply (Ok place) there late entered told unchanged home here journals =
     moved_to parts partition ours at new here.1 here.0
     (∥∥₁_map (moved_to ours at parts partition old (sym here.1) (sym here.0) journals)
-    (served-of parts partition tenant seat number place old new call reply (Ok place) refl there late entered told home))
-called-of ours at parts partition tenant seat number old new call reply (Err fault) there late entered told unchanged home here journals =
+    (served-of keeps parts partition tenant seat number place old new call reply (Ok place) refl there late entered told home))
+called-of keeps ours at parts partition tenant seat number old new call reply (Err fault) there late entered told unchanged home here journals =
     subst (λ (xs : List Account). ∥ AreOf ours at xs ∥₁) (sym unchanged) journals
 
--- a call that was served is an event of the journals, and stands in the history that was seen
-served-in : (seen past : List HistoryEntry) (mark : Mark) (parts partition tenant seat number place : ℕ) (old new : List Account) (call : Call) (reply : Option Reply) → tenant < length old
-    → AreOf parts partition new → IsSomeAnd reply (λ r. IsEntered old new tenant (event seat number call r))
-    → place ≡ before_at old tenant + length (events_at old tenant) + 1 → IsSomeAnd reply (λ r. StandsBehind past seen (served_call partition tenant seat number call) place r) → HasMark past mark
+-- a call that was served stands in the history that was seen, behind the mark
+served-in : (seen past : List HistoryEntry) (mark : Mark) (partition tenant seat number place : ℕ) (call : Call) (reply : Option Reply)
+    → IsSomeAnd reply (λ r. StandsBehind past seen (served_call partition tenant seat number call) place r) → HasMark past mark
     → IsSomeAnd reply (λ r. IsServedIn seen mark partition tenant seat number place call r)
-served-in seen past mark parts partition tenant seat number place old new call None there of entered at stands marked = absurd entered
-served-in seen past mark parts partition tenant seat number place old new call (Some r) there of entered at stands marked =
-    record { parts = parts; before = old; after = new; journals = of; there = there; entered = entered; place = at; stands = stands.stands; late = mark_later past stands.stands.before mark stands.behind marked }
+served-in seen past mark partition tenant seat number place call None stands marked = absurd stands
+served-in seen past mark partition tenant seat number place call (Some r) stands marked =
+    record { stands = stands.stands; late = mark_later past stands.stands.before mark stands.behind marked }
 
 -- the same of a message with its reply in it, whose partition goes by three names
-pub came-so : (seen past : List HistoryEntry) (mark : Mark) (ours at own parts partition tenant seat number place : ℕ) (old new : List Account) (before after : Message)
-    → (IsErrOf (Ok place) NoTenant ↔ (length old ≤ tenant)) → IsSomeAnd after.reply (λ r. IsEntered old new tenant (event seat number before.call r))
-    → place ≡ before_at old tenant + length (events_at old tenant) + 1 → after ≡ record before { reply = after.reply }
-    → IsSomeAnd after.reply (λ r. StandsBehind past seen (served_call own tenant seat number before.call) place r) → HasMark past mark
-    → (partition ≡ at) × (parts ≡ ours) → own ≡ at → ∥ AreOf ours at new ∥₁ → CameSo seen mark partition tenant seat number after (Ok place)
-came-so seen past mark ours at own parts partition tenant seat number place old new before after there entered place_is same stands marked here its journals =
-    let within : tenant < length old = omega (arith, λ (past : length old ≤ tenant). absent (there.1 past)) in
+pub came-so : (seen past : List HistoryEntry) (mark : Mark) (at own partition tenant seat number place : ℕ) (before after : Message)
+    → after ≡ record before { reply = after.reply } → IsSomeAnd after.reply (λ r. StandsBehind past seen (served_call own tenant seat number before.call) place r)
+    → HasMark past mark → partition ≡ at → own ≡ at → CameSo seen mark partition tenant seat number after (Ok place)
+came-so seen past mark at own partition tenant seat number place before after same stands marked here its =
     let call : before.call ≡ after.call = ap (λ (m : Message). m.call) (sym same) in
     let P : Call → Type 0 = λ k. IsSomeAnd after.reply (λ r. IsServedIn seen mark partition tenant seat number place k r) in
     let S : ℕ → Type 0 = λ p. IsSomeAnd after.reply (λ r. StandsBehind past seen (served_call p tenant seat number before.call) place r) in
-    let stands_here : S partition = subst S (its ∙ sym here.0) stands in
-    ∥∥₁_map (moved_to ours at parts partition new (sym here.1) (sym here.0) journals)
-    (λ of. subst P call (served-in seen past mark parts partition tenant seat number place old new before.call after.reply within of entered place_is stands_here marked))
-  where
-    absent : Ok place ≡ Err NoTenant → ⊥
-    absent was = cc
+    ∣ subst P call (served-in seen past mark partition tenant seat number place before.call after.reply (subst S (its ∙ sym here) stands) marked) ∣₁
 
 -- what was answered without a message
-pub answered-of : (parts partition tenant seat number : ℕ) (old new : List Account) (call : Call) (result : Result Answered Fault)
+pub answered-of : (keeps : Bool) (parts partition tenant seat number : ℕ) (old new : List Account) (call : Call) (result : Result Answered Fault)
     → (IsErrOf result NoTenant ↔ (length old ≤ tenant)) → (tenant < length old → (IsErrOf result Late ↔ IsLate (events_at old tenant) seat number))
-    → IfOk result (λ r. IsEntered old new tenant (event seat number call r.reply)) → IfOk result (λ r. IsReplyInEpoch old tenant call r.reply) → OnErr result (new ≡ old)
+    → IfOk result (λ r. IsTaken keeps old new tenant (event seat number call r.reply)) → IfOk result (λ r. IsReplyInEpoch old tenant call r.reply) → OnErr result (new ≡ old)
     → HasHome call parts partition → AreOf parts partition old → AreOf parts partition new
-answered-of parts partition tenant seat number old new call (Ok r) there late entered told same home of =
+answered-of keeps parts partition tenant seat number old new call (Ok r) there late taken told same home of =
     let within : tenant < length old = omega (arith, λ (past : length old ≤ tenant). absent (there.1 past)) in
-    entered-of parts partition old new tenant (event seat number call r.reply) within entered told (λ l. in_time ((late within).1 l)) home of
+    taken-of parts partition tenant old new (event seat number call r.reply) within told (λ l. in_time ((late within).1 l)) home keeps taken of
   where
     absent : Ok r ≡ Err NoTenant → ⊥
     absent was = cc
 
     in_time : Ok r ≡ Err Late → ⊥
     in_time was = cc
-answered-of parts partition tenant seat number old new call (Err f) there late entered told same home of = subst (λ (xs : List Account). AreOf parts partition xs) (sym same) of
+answered-of keeps parts partition tenant seat number old new call (Err f) there late taken told same home of = subst (λ (xs : List Account). AreOf parts partition xs) (sym same) of
 
 -- what stays where a call failed, seen otherwise
 pub stays_as : {X E A B : Type 0} (f : A → B) (x y : A) (result : Result X E) → OnErr result (x ≡ y) → OnErr result (f x ≡ f y)

@@ -35,5 +35,6 @@ stays_on first then =
     record {
       partition = then.partition ∙ first.partition;
       parts = then.parts ∙ first.parts;
+      keeps = then.keeps ∙ first.keeps;
       collections = then.collections ∙ first.collections;
     }

@@ -1,5 +1,5 @@
 -- Journals that stay short.
-use Rattle.std.proofs.Common.{◌≡◌, ◌<◌, ◌≤◌, ◌+◌, ◌*◌, ℕ, List, [], ◌∷◌, length, Option, Some, None, Result, Ok, Err, ⊎_elim, ap, sym, ◌∙◌, arith, length-append}
+use Rattle.std.proofs.Common.{◌≡◌, ◌<◌, ◌≤◌, ◌+◌, ◌*◌, ℕ, Bool, true, false, List, [], ◌∷◌, length, Option, Some, None, Result, Ok, Err, ⊎_elim, ap, sym, ◌∙◌, arith, length-append}
 use Rattle.std.specs.Prelude.{slice_get, IfOk, OnErr, IsErrOf, IsSomeAnd, ◌↔◌}
 use Rattle.std.proofs.lemmas.Option.{slice_get_cases, slice_get_past}
 use Rattle.std.proofs.lemmas.Bool.Decides.{eqb_tells}
@@ -9,6 +9,8 @@ use Rattle.partition.specs.Accounts.{Account, IsEntered, events_at, events_in}
 use Rattle.shard.specs.declared.jobs.PlacedReply.{PlacedReply}
 use Rattle.shard.specs.declared.jobs.Fault.{Fault}
 use Rattle.shard.specs.declared.jobs.Fault.TheVariants.{NoTenant}
+use Rattle.traced_book.specs.Forgetting.{AreBegunAnew, IsTaken}
+use Rattle.traced_book.proofs.Forgetting.{none_left}
 use Rattle.shard.specs.Rounds.{AreShort}
 
 -- the events of the tenant whose event was entered, and of each other
@@ -40,6 +42,18 @@ entered-short epoch old new tenant e there entered room short some other =
     omega (arith, kept, before))
     (eqb_tells other tenant)
 
+-- journals that begin anew have no event
+pub anew-short : (epoch : ℕ) (old new : List Account) → AreBegunAnew old new → AreShort epoch new
+anew-short epoch old new begun some other =
+    let none : length (events_at new other) ≡ 0 = ap length (none_left old new other begun) in
+    omega (arith, none)
+
+-- one event more, which is kept or not
+pub taken-short : (journals : Bool) (epoch : ℕ) (old new : List Account) (tenant : ℕ) (e : Event) → tenant < length old → IsTaken journals old new tenant e
+    → (0 < epoch → length (events_at old tenant) < 2 * epoch) → AreShort epoch old → AreShort epoch new
+taken-short true epoch old new tenant e there taken room short = entered-short epoch old new tenant e there taken room short
+taken-short false epoch old new tenant e there taken room short = anew-short epoch taken.0 new taken.2
+
 -- a journal that is not there is not full
 pub absent-short : (accounts : List Account) (tenant epoch : ℕ) → length accounts ≤ tenant → 0 < epoch → length (events_at accounts tenant) < 2 * epoch
 unfolding events_at
@@ -48,25 +62,25 @@ absent-short accounts tenant epoch past some =
     omega (arith, none, some)
 
 -- what was served, with the reply in its message
-pub served-short : (epoch place : ℕ) (old new : List Account) (tenant : ℕ) (result : Result ℕ Fault) (reply : Option Reply) (e : Reply → Event)
-    → result ≡ Ok place → (IsErrOf result NoTenant ↔ (length old ≤ tenant)) → IsSomeAnd reply (λ r. IsEntered old new tenant (e r))
+pub served-short : (journals : Bool) (epoch place : ℕ) (old new : List Account) (tenant : ℕ) (result : Result ℕ Fault) (reply : Option Reply) (e : Reply → Event)
+    → result ≡ Ok place → (IsErrOf result NoTenant ↔ (length old ≤ tenant)) → IsSomeAnd reply (λ r. IsTaken journals old new tenant (e r))
     → (0 < epoch → length (events_at old tenant) < 2 * epoch) → AreShort epoch old → AreShort epoch new
-served-short epoch place old new tenant result None e is there entered room short = absurd entered
-served-short epoch place old new tenant result (Some r) e is there entered room short =
+served-short journals epoch place old new tenant result None e is there taken room short = absurd taken
+served-short journals epoch place old new tenant result (Some r) e is there taken room short =
     let within : tenant < length old = omega (arith, λ (past : length old ≤ tenant). absent (there.1 past)) in
-    entered-short epoch old new tenant (e r) within entered room short
+    taken-short journals epoch old new tenant (e r) within taken room short
   where
     absent : result ≡ Err NoTenant → ⊥
     absent was = cc (is, was)
 
 -- what was answered, or refused
-pub answered-short : (epoch : ℕ) (old new : List Account) (tenant : ℕ) (result : Result PlacedReply Fault) (e : PlacedReply → Event)
-    → (IsErrOf result NoTenant ↔ (length old ≤ tenant)) → IfOk result (λ r. IsEntered old new tenant (e r)) → OnErr result (new ≡ old)
+pub answered-short : (journals : Bool) (epoch : ℕ) (old new : List Account) (tenant : ℕ) (result : Result PlacedReply Fault) (e : PlacedReply → Event)
+    → (IsErrOf result NoTenant ↔ (length old ≤ tenant)) → IfOk result (λ r. IsTaken journals old new tenant (e r)) → OnErr result (new ≡ old)
     → (0 < epoch → length (events_at old tenant) < 2 * epoch) → AreShort epoch old → AreShort epoch new
-answered-short epoch old new tenant (Ok r) e there entered same room short =
+answered-short journals epoch old new tenant (Ok r) e there taken same room short =
     let within : tenant < length old = omega (arith, λ (past : length old ≤ tenant). absent (there.1 past)) in
-    entered-short epoch old new tenant (e r) within entered room short
+    taken-short journals epoch old new tenant (e r) within taken room short
   where
     absent : Ok r ≡ Err NoTenant → ⊥
     absent is = cc
-answered-short epoch old new tenant (Err f) e there entered same room short = rw same short
+answered-short journals epoch old new tenant (Err f) e there taken same room short = rw same short

@@ -10,14 +10,17 @@ use Rattle.shard.specs.Journals.{AreOf}
 abbrev pub HasItsJournals : {J : Type 0} {naming : Ghosts J} → ShardState J naming → Type 0
 HasItsJournals state = ∥ AreOf state.parts state.partition state.book.accounts ∥₁
 
--- it is the same partition, one of as many, and its tenants had as many collections
+-- it is the same partition, one of as many, keeps journals where it did, and its tenants had as many collections
 pub record StaysAt {J : Type 0} {naming : Ghosts J} (old new : ShardState J naming) : Type 0 where
   pub partition : new.partition ≡ old.partition
   pub parts : new.parts ≡ old.parts
+  pub keeps : new.book.journals ≡ old.book.journals
   pub collections : new.collections ≡ old.collections
 
--- The book is that of the partition with this configuration, and its journals are those of this partition, one of each tenant.
+-- The book is that of the partition with this configuration, and keeps journals where that says so: those of this partition, one of
+-- each tenant.
 pub record IsHandedOut (config : ShardConfig) (book : Tracing) : Type 0 where
   pub partition : book.partition ≡ config.partition
+  pub keeps : book.journals ≡ config.journals
   pub journals : ∥ AreOf config.parts config.partition book.accounts ∥₁
   pub tenants : length book.accounts ≡ config.tenants

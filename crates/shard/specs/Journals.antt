@@ -1,12 +1,12 @@
 -- What the journals of a partition hold, and what a reply is by them.
-use Rattle.std.specs.Prelude.{◌≡◌, ◌<◌, ◌+◌, ℕ, Result, Err, IfOk, IsSomeAnd}
+use Rattle.std.specs.Prelude.{◌<◌, ℕ, Result, Err, IfOk, IsSomeAnd}
 use Rattle.std.specs.Prelude.{List, length, All}
 use Rattle.plain_store.specs.declared.calls.Call.{Call}
 use Rattle.plain_store.specs.declared.calls.Reply.{Reply}
 use Rattle.plain_store.specs.declared.message.Message.{Message}
 use Rattle.partition.specs.declared.journal.Epoch.{Epoch}
-use Rattle.partition.specs.Events.{Event, event}
-use Rattle.partition.specs.Accounts.{Account, AreSound, IsCut, IsEntered, before_at, events_at}
+use Rattle.partition.specs.Events.{Event}
+use Rattle.partition.specs.Accounts.{Account, AreSound, IsCut, events_at}
 use Rattle.history.specs.declared.entry.HistoryEntry.{HistoryEntry}
 use Rattle.history.specs.declared.entry.ServedCall.{ServedCall}
 use Rattle.history.specs.declared.entry.Mark.{Mark}
@@ -28,19 +28,9 @@ abbrev pub served_call : ℕ → ℕ → ℕ → ℕ → Call → ServedCall
 served_call partition tenant seat number call =
     record { partition = partition; tenant = tenant; seat = seat; number = number; call = call }
 
--- The seat's call of this number was served for this tenant at this partition: among the journals of that
--- partition it is the
--- event at this place of the tenant's, with this reply. They are sound, so the reply is the definition's after
--- the events before it. And the history that was seen has the call there, at that place of the tenant's calls, with that reply,
--- behind the mark.
+-- The seat's call of this number was served for this tenant at this partition: the history that was seen has the call there, at this
+-- place of the tenant's calls, behind the mark, and the reply is the definition's after the tenant's calls before it.
 pub record IsServedIn (seen : List HistoryEntry) (mark : Mark) (partition tenant seat number at : ℕ) (call : Call) (reply : Reply) : Type 0 where
-  pub parts : ℕ
-  pub before : List Account
-  pub after : List Account
-  pub journals : AreOf parts partition after
-  pub there : tenant < length before
-  pub entered : IsEntered before after tenant (event seat number call reply)
-  pub place : at ≡ before_at before tenant + length (events_at before tenant) + 1
   pub stands : StandsInHistory seen (served_call partition tenant seat number call) at reply
   pub late : HasMark stands.before mark
 

@@ -62,7 +62,7 @@ fn cut_long<J: Naming>(
     ensures unchanged { OnErr result (state.new.book.accounts ≡ state.old.book.accounts) }
     ensures stays { StaysAt state.old state.new }
 {
-    if state.book.book().events(tenant) < least as u64 {
+    if state.book.events(tenant) < least as u64 {
         return Err(Uncut::Short);
     }
     match state.book.cut(tenant) {
@@ -93,7 +93,7 @@ pub fn cut_full<J: Naming>(
     ensures unchanged { OnErr result (state.new.book.accounts ≡ state.old.book.accounts) }
     ensures stays { StaysAt state.old state.new }
 {
-    if is_full(state.book.book(), epoch, tenant) {
+    if is_full(&state.book, epoch, tenant) {
         cut_long(state, tenant, epoch)
     } else {
         Err(Uncut::Short)
@@ -131,7 +131,7 @@ impl Search {
         ensures stays { StaysAt state.old state.new }
     {
         let mut refused = 0;
-        for tenant in self.from..state.book.book().tenants() {
+        for tenant in self.from..state.book.tenants() {
             match cut_long(state, tenant, least) {
                 Ok(cut) => {
                     self.from = tenant + 1;

@@ -40,15 +40,15 @@ impl From<Fault> for Refusal {
     }
 }
 
-/// A reply, and its event's place in the journal.
+/// A reply, and which one of the tenant's calls it is to, from 1.
 #[derive(Clone, Copy)]
 pub struct PlacedReply {
     pub place: u64,
     pub reply: Reply,
 }
 
-/// What came of one call of a seat: the event's place in the tenant's journal, and the message with its reply in it. It is in
-/// the box that the call came in.
+/// What came of one call of a seat: which one of the tenant's calls it is, from 1, and the message with its reply in it. It is in the
+/// box that the call came in.
 #[derive(Drop)]
 pub struct SeatReply<J: Naming> {
     pub tenant: u32,

@@ -76,7 +76,7 @@ impl Round {
     {
         self.next += 1;
         let tenant = its.tenant();
-        if is_full(state.book.book(), config.epoch, tenant) {
+        if is_full(&state.book, config.epoch, tenant) {
             return Err(Skipped::Full);
         }
         let Some(number) = collector.next_number() else {
@@ -86,7 +86,7 @@ impl Round {
         match answer(&mut state.book, COLLECTOR, number, tenant, &call) {
             Ok(_) => {
                 state.collections.count(tenant);
-                self.cuts = self.cuts || is_long(state.book.book(), config.epoch, tenant);
+                self.cuts = self.cuts || is_long(&state.book, config.epoch, tenant);
                 Ok(())
             }
             Err(fault) => Err(Skipped::Refused(fault)),

@@ -1,4 +1,4 @@
-//! One partition, as all that serve there reach it: its book behind a lock, and the numbers of its calls.
+//! One partition, as all that serve there reach it: its cells and journals behind a lock, and the numbers of its calls.
 ghost use Rattle.std.specs.Prelude.{◌≡◌, ◌+◌, ◌<◌, ◌≤◌, ◌*◌, ◌^◌, ◌↔◌, ◌⊎◌, Some, false, true, All, map, length, replicate, IfOk, IfSome, OnErr, IsSomeAnd, IsTrue};
 ghost use Rattle.std.specs.Sync.Mutex.{mutex_guard_value};
 ghost use Rattle.std.specs.VecDeque.{deque_capacity, deque_len};
@@ -9,7 +9,7 @@ ghost use Rattle.history.specs.Legal.{MayServe};
 ghost use Rattle.shard.specs.Counted.{IsCounted, NotesEvent, NotesEvents, nothing_due};
 ghost use Rattle.shard.specs.Journals.{AreOf, CameSo, came_to};
 ghost use Rattle.shard.specs.Rounds.{AreShort, IsLongAt};
-ghost use Rattle.partition.specs.Serving.{EntersCall};
+ghost use Rattle.traced_book.specs.Forgetting.{TakesCall};
 ghost use Rattle.shard.specs.Serving.{RefusesSo};
 ghost use Rattle.stamps.specs.Limits.{max_tenants};
 
@@ -20,7 +20,7 @@ use crate::gate::Gate;
 use crate::jobs::{Fault, PlacedReply};
 use crate::seat_call::SeatCall;
 use history::{Front, Naming};
-use partition::{Book, Caller};
+use partition::Caller;
 use plain_store::{Call, Message, Refusal};
 use std::collections::VecDeque;
 use std::hint::spin_loop;
@@ -45,19 +45,20 @@ type Gap = [u64; 16];
 
 const GAP: Gap = [0; 16];
 
-/// Which partition it is, of how many, how often it collects, and how long its journals grow.
+/// Which partition it is, of how many, how often it collects, whether it keeps journals, and how long they grow.
 #[derive(Clone, Copy)]
 pub struct ShardConfig {
     pub partition: u32,
     pub parts: u32,
     pub tenants: u32,
     pub every: u32,
+    pub journals: bool,
     pub epoch: u32,
     ghost some_events: { 0 < every },
     ghost few_tenants: { tenants ≤ max_tenants },
 }
 
-/// What stands behind a partition's lock: its book, whose journals are those of this partition.
+/// What stands behind a partition's lock: its book, whose journals, if it keeps any, are those of this partition.
 #[derive(Drop)]
 pub struct ShardState<J: Naming> {
     /// The lock's word lies before it, and is written by those that wait.
@@ -101,11 +102,11 @@ pub enum CallState {
     Pending,
     /// Its journal was full: the worker serves it.
     Deferred,
-    /// Its event's place in the journal, or why there is none.
+    /// Which one of the tenant's calls it is, from 1, or why it is none.
     Served(Result<u64, Fault>),
 }
 
-/// A call of a seat's round. Where it was served, its reply is that of its place in the tenant's journal.
+/// A call of a seat's round. Where it was served, its reply is that of its place among the tenant's calls.
 #[derive(Drop)]
 pub struct Staged<J: Naming> {
     pub call: SeatCall<J>,
@@ -114,7 +115,7 @@ pub struct Staged<J: Naming> {
 }
 
 impl CallState {
-    /// What came of the call: its event's place, or why there is none. One that was not served has no tenant.
+    /// What came of the call: its place, or why it has none. One that was not served has no tenant.
     pub fn outcome(self) -> Result<u64, Fault>
         ensures { result ≡ came_to self }
     {
@@ -144,7 +145,7 @@ impl<J: Naming> Shard<J> {
     /// A partition with this book, whose journals are its own. What it begins with behind its lock is that of `ShardState::new`.
     pub fn new(config: ShardConfig, collector: Arc<Collector>, book: TracedBook<J>) -> Shard<J>
         requires journals { ∥ AreOf config.parts config.partition book.accounts ∥₁ }
-        requires its { book.partition ≡ config.partition }
+        requires its { (book.partition ≡ config.partition) × (book.journals ≡ config.journals) }
         ensures { result.config ≡ config }
     {
         let state = Mutex::new(ShardState::new(&config, book));
@@ -230,8 +231,8 @@ impl<J: Naming> Shard<J> {
         state.book.look(seen)
     }
 
-    /// The book, which no thread has any more. None where it is not this partition's, or has not so many tenants: what lies
-    /// behind a lock is known only by its type.
+    /// The book, which no thread has any more. None where it is not this partition's, has not so many tenants, or keeps journals where
+    /// this one does not, or none where it does: what lies behind a lock is known only by its type.
     pub fn into_book(self) -> Option<TracedBook<J>>
         ensures { IfSome result (λ book. IsHandedOut self.config book) }
     {
@@ -250,7 +251,8 @@ impl<J: Naming> Shard<J> {
             ..
         } = state.into_inner();
         let is_here = partition == config.partition && parts == config.parts;
-        if is_here && book.book().tenants() == config.tenants {
+        let is_alike = book.tenants() == config.tenants && book.has_journals() == config.journals;
+        if is_here && is_alike {
             Some(book)
         } else {
             None
@@ -346,7 +348,7 @@ impl<J: Naming> ShardState<J> {
             self.new.book.accounts self.old.events self.new.events follow_up.old follow_up.new }
         ensures stays { StaysAt self.old self.new }
     {
-        if is_full(self.book.book(), config.epoch, staged.call.tenant) {
+        if is_full(&self.book, config.epoch, staged.call.tenant) {
             staged.stage = CallState::Deferred;
             return;
         }
@@ -366,8 +368,9 @@ impl<J: Naming> ShardState<J> {
             call.new.number call.new.message.value result }
         ensures asked { asked_of call.new ≡ asked_of call.old }
         ensures mark { call.new.mark ≡ call.old.mark }
-        ensures enters { EntersCall self.old.book.accounts self.new.book.accounts call.old.tenant
-            call.old.seat call.old.number call.old.message.value.call (λ place. place)
+        ensures takes { TakesCall self.old.book.journals self.old.book.accounts
+            self.new.book.accounts call.old.tenant call.old.seat call.old.number
+            call.old.message.value.call (λ place. place)
             (λ _. call.new.message.value.reply) result }
         ensures refuses { call.old.partition ≡ self.old.partition → call.old.parts ≡ self.old.parts
             → RefusesSo self.old.book.accounts call.old.tenant call.old.seat call.old.number result }
@@ -395,8 +398,9 @@ impl<J: Naming> ShardState<J> {
             call.new.number call.new.message.value result }
         ensures asked { asked_of call.new ≡ asked_of call.old }
         ensures mark { call.new.mark ≡ call.old.mark }
-        ensures enters { EntersCall self.old.book.accounts self.new.book.accounts call.old.tenant
-            call.old.seat call.old.number call.old.message.value.call (λ place. place)
+        ensures takes { TakesCall self.old.book.journals self.old.book.accounts
+            self.new.book.accounts call.old.tenant call.old.seat call.old.number
+            call.old.message.value.call (λ place. place)
             (λ _. call.new.message.value.reply) result }
         ensures refuses { RefusesSo self.old.book.accounts call.old.tenant call.old.seat
             call.old.number result }
@@ -424,7 +428,7 @@ impl<J: Naming> ShardState<J> {
             &mut call.front,
         )?;
         self.count(config, follow_up);
-        if is_long(self.book.book(), config.epoch, call.tenant) {
+        if is_long(&self.book, config.epoch, call.tenant) {
             follow_up.cuts = true;
         }
         Ok(place)
@@ -447,11 +451,12 @@ impl<J: Naming> ShardState<J> {
 }
 
 /// Whether a tenant's journal has twice as many events as an epoch, so that a seat waits until it was cut.
-pub fn is_full(book: &Book, epoch: u32, tenant: u32) -> bool
+pub fn is_full<J: Naming>(book: &TracedBook<J>, epoch: u32, tenant: u32) -> bool
     ensures full { IsTrue result
-        → (0 < epoch) × (tenant < length book.now)
-        × (2 * epoch ≤ length (events_at book.now tenant)) }
-    ensures short { result ≡ false → 0 < epoch → length (events_at book.now tenant) < 2 * epoch }
+        → (0 < epoch) × (tenant < length book.now.accounts)
+        × (2 * epoch ≤ length (events_at book.now.accounts tenant)) }
+    ensures short { result ≡ false → 0 < epoch
+        → length (events_at book.now.accounts tenant) < 2 * epoch }
 {
     if tenant >= book.tenants() {
         return false;
@@ -460,8 +465,8 @@ pub fn is_full(book: &Book, epoch: u32, tenant: u32) -> bool
 }
 
 /// Whether a tenant's journal has just as many events as an epoch.
-pub fn is_long(book: &Book, epoch: u32, tenant: u32) -> bool
-    ensures { IsTrue result ↔ IsLongAt epoch book.now tenant }
+pub fn is_long<J: Naming>(book: &TracedBook<J>, epoch: u32, tenant: u32) -> bool
+    ensures { IsTrue result ↔ IsLongAt epoch book.now.accounts tenant }
 {
     epoch > 0 && tenant < book.tenants() && book.events(tenant) == u64::from(epoch)
 }
@@ -475,12 +480,13 @@ pub fn answer<J: Naming>(
     call: &Call,
 ) -> Result<PlacedReply, Fault>
     requires { ∥ MayServe book.old.seen book.old.partition tenant call.now ∥₁ }
-    ensures enters { EntersCall book.old.accounts book.new.accounts tenant seat number call.now
-        (λ told. told.place) (λ told. Some told.reply) result }
+    ensures takes { TakesCall book.old.journals book.old.accounts book.new.accounts tenant seat
+        number call.now (λ told. told.place) (λ told. Some told.reply) result }
     ensures refuses { RefusesSo book.old.accounts tenant seat number result }
-    ensures partition { book.new.partition ≡ book.old.partition }
+    ensures partition { (book.new.partition ≡ book.old.partition)
+        × (book.new.journals ≡ book.old.journals) }
 {
-    if tenant >= book.book().tenants() {
+    if tenant >= book.tenants() {
         return Err(Fault::NoTenant);
     }
     let mut reply = None;
@@ -511,8 +517,8 @@ fn serve_message<G: Gate, J: Naming>(
 ) -> Result<u64, Fault>
     requires inside { G.is_inside _gate.now _partition _nth }
     requires may { ∥ MayServe evidence.old book.old.partition tenant message.old.call ∥₁ }
-    ensures enters { EntersCall book.old.accounts book.new.accounts tenant caller.seat
-        caller.number message.old.call (λ place. place) (λ _. message.new.reply) result }
+    ensures takes { TakesCall book.old.journals book.old.accounts book.new.accounts tenant
+        caller.seat caller.number message.old.call (λ place. place) (λ _. message.new.reply) result }
     ensures refuses { RefusesSo book.old.accounts tenant caller.seat caller.number result }
     ensures served { IfOk result
         (λ place.
@@ -523,9 +529,10 @@ fn serve_message<G: Gate, J: Naming>(
     ensures message { message.new ≡ record message.old { reply = message.new.reply } }
     ensures unwritten { OnErr result (message.new ≡ message.old) }
     ensures evidence { IsPrefix evidence.old evidence.new }
-    ensures partition { book.new.partition ≡ book.old.partition }
+    ensures partition { (book.new.partition ≡ book.old.partition)
+        × (book.new.journals ≡ book.old.journals) }
 {
-    if tenant >= book.book().tenants() {
+    if tenant >= book.tenants() {
         return Err(Fault::NoTenant);
     }
     match book.serve_into(caller, tenant, &message.call, &mut message.reply, evidence) {

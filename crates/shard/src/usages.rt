@@ -28,11 +28,11 @@ impl<J: Naming> ShardState<J> {
             ↔ (length self.now.book.accounts ≤ max_tenants)) }
     {
         usages.clear();
-        for tenant in 0..self.book.book().tenants() {
+        for tenant in 0..self.book.tenants() {
             let Some(collections) = self.collections.of_tenant(tenant) else {
                 return Ok(false);
             };
-            let usage = self.book.book().usage(tenant);
+            let usage = self.book.usage(tenant);
             usages.push(TenantUsage { usage, collections })?;
         }
         Ok(true)

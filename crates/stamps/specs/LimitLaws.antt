@@ -1,7 +1,8 @@
 -- What the crates above take from the limits: a limit that breaks one of these is refused here, in the lowest crate.
 use Rattle.std.specs.Prelude.{◌*◌, ◌≤◌}
 use Rattle.std.proofs.Common.{arith}
-use Rattle.stamps.specs.Limits.{max_keys, max_found, max_key_len, max_tag_len, max_value_len, max_parts, max_tenants, max_name_len, max_room}
+use Rattle.stamps.specs.Limits.{max_keys, max_found, max_key_len, max_tag_len, max_value_len}
+use Rattle.stamps.specs.Limits.{max_parts, max_tenants, max_name_len, max_room}
 
 -- what a search returns is read as one transaction
 pub found_are_read : max_found ≤ max_keys

@@ -47,6 +47,17 @@ impl Key {
         })
     }
 
+    /// The key of these bytes, which are known to be one's. It checks none of them.
+    #[inline(always)]
+    pub fn of_stored(bytes: &[u8]) -> Key
+        requires { IsKey bytes.now }
+        ensures { result ≡ bytes.now }
+    {
+        Key {
+            text: Text::new(bytes),
+        }
+    }
+
     /// Its bytes, and zeros behind them: `MAX_KEY_LEN` bytes in all.
     pub fn padded(&self) -> &[u8; Key::MAX_LEN]
         ensures bytes { take (length self.now) result.now ≡ self.now }

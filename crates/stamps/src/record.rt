@@ -65,6 +65,25 @@ impl Record {
 }
 
 impl Record {
+    /// The record of these parts, which are known to make one. It checks nothing.
+    #[inline(always)]
+    pub fn of_stored(key: Key, tag: Tag, value: Value, stamp: Stamp, writes: WriteSet) -> Record
+        requires { IsRecord
+            (record { key = key; tag = tag; value = value; stamp = stamp; writes = writes }) }
+        ensures { result
+            ≡ record { key = key; tag = tag; value = value; stamp = stamp; writes = writes } }
+    {
+        Record {
+            key,
+            tag,
+            value,
+            stamp,
+            writes,
+        }
+    }
+}
+
+impl Record {
     ghost use Rattle.stamps.specs.Record.{record_eq};
 
     /// Whether all parts are the same.

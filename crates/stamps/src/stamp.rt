@@ -15,36 +15,26 @@ use std::marker::Model;
 /// `counter * 65536 + client`, and stamps compare as these numbers do.
 #[derive(Clone, Copy, Debug)]
 pub struct Stamp {
-    counter: u64,
-    client: u16,
+    number: u64,
 }
 
 impl Model for Stamp {
-    ghost use Rattle.std.specs.Prelude.{ℕ, ◌<◌};
+    ghost use Rattle.std.specs.Prelude.{ℕ};
 
     ghost Value = { ℕ };
 
-    ghost use Rattle.stamps.specs.Stamp.{IsStamp, stamp, counter_of, client_of};
-    ghost use Rattle.stamps.specs.StampLaws.{counter_of-stamp, client_of-stamp};
+    ghost use Rattle.stamps.specs.Stamp.{IsStamp};
 
-    ghost view = { λ s. stamp s.counter s.client };
+    ghost view = { λ s. s.number };
 
-    ghost invariant = { λ s. IsStamp (stamp s.counter s.client) × (s.client < 65536) };
+    ghost invariant = { λ s. IsStamp s.number };
 
-    ghost inverse = { λ s. record { counter = counter_of s; client = client_of s } };
-
-    ghost inverse_ok = { λ s h i. record {
-      counter = counter_of-stamp s.counter s.client h.1 i;
-      client = client_of-stamp s.counter s.client h.1 i;
-    } };
+    ghost inverse = { λ s. record { number = s } };
 }
 
 impl Stamp {
     /// `0.0`, the stamp of every item's initial version, below all others. A contract sees it as 0.
-    pub const ZERO: Stamp = Stamp {
-        counter: 0,
-        client: 0,
-    };
+    pub const ZERO: Stamp = Stamp { number: 0 };
 
     /// The greatest counter, 2^40 - 1.
     pub const MAX_COUNTER: u64 = limits::MAX_COUNTER;
@@ -57,7 +47,18 @@ impl Stamp {
         if counter == 0 || counter > Stamp::MAX_COUNTER || client == 0 {
             return None;
         }
-        Some(Stamp { counter, client })
+        Some(Stamp {
+            number: stamp_number(counter, client),
+        })
+    }
+
+    /// The stamp of this number, which is known to be one's. It checks nothing.
+    #[inline(always)]
+    pub fn of_number(number: u64) -> Stamp
+        requires { IsStamp number }
+        ensures { result ≡ number }
+    {
+        Stamp { number }
     }
 
     /// The stamp that the client of this one, which is not `0.0`, draws next: its counter is one above the greater of
@@ -67,13 +68,12 @@ impl Stamp {
         ensures exact { IsSome result ↔ (max (counter_of self) seen + 1 ≤ max_counter) }
         ensures value { IfSome result (λ s. s ≡ drawn_stamp self seen) }
     {
-        let greatest = self.counter.max(seen);
+        let greatest = self.counter().max(seen);
         if greatest >= Stamp::MAX_COUNTER {
             return None;
         }
         Some(Stamp {
-            counter: greatest + 1,
-            client: self.client,
+            number: stamp_number(greatest + 1, self.client()),
         })
     }
 
@@ -82,7 +82,7 @@ impl Stamp {
         ensures value { result ≡ counter_of self }
         ensures in_range { result ≤ max_counter }
     {
-        self.counter
+        self.number / 65536
     }
 
     /// The number as which contracts see the stamp, `counter * 65536 + client`.
@@ -90,15 +90,23 @@ impl Stamp {
         ensures value { result ≡ self }
         ensures valid { IsStamp result }
     {
-        self.counter * 65536 + u64::from(self.client)
+        self.number
     }
 
     /// The number of the client that drew the stamp, 1 to 65535, or 0 for `0.0`.
     pub fn client(self) -> u16
         ensures { result ≡ client_of self }
     {
-        self.client
+        (self.number % 65536) as u16
     }
+}
+
+// The number of the stamp `counter.client`.
+fn stamp_number(counter: u64, client: u16) -> u64
+    requires { counter ≤ max_counter }
+    ensures { result ≡ stamp counter client }
+{
+    counter * 65536 + u64::from(client)
 }
 
 impl PartialEq for Stamp {
@@ -107,7 +115,7 @@ impl PartialEq for Stamp {
     ghost laws = { partial_equiv_from_equiv nat_eq_equiv };
 
     fn eq(&self, other: &Stamp) -> bool {
-        self.counter == other.counter && self.client == other.client
+        self.number == other.number
     }
 }
 
@@ -139,9 +147,7 @@ impl Ord for Stamp {
         ensures by_counter_then_client { result ≡ ordering_then
             (nat_cmp (counter_of self.now) (counter_of other.now)) (nat_cmp (client_of self.now) (client_of other.now)) }
     {
-        self.counter
-            .cmp(&other.counter)
-            .then(self.client.cmp(&other.client))
+        self.number.cmp(&other.number)
     }
 }
 

@@ -46,6 +46,17 @@ impl Tag {
         })
     }
 
+    /// The tag of these bytes, which are known to be one's. It checks none of them.
+    #[inline(always)]
+    pub fn of_stored(bytes: &[u8]) -> Tag
+        requires { IsTag bytes.now }
+        ensures { result ≡ bytes.now }
+    {
+        Tag {
+            text: Text::new(bytes),
+        }
+    }
+
     /// Its bytes, and zeros behind them: `MAX_TAG_LEN` bytes in all.
     pub fn padded(&self) -> &[u8; Tag::MAX_LEN]
         ensures bytes { take (length self.now) result.now ≡ self.now }

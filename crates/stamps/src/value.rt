@@ -46,6 +46,17 @@ impl Value {
         })
     }
 
+    /// The value of these bytes, which are known to be one's. It checks none of them.
+    #[inline(always)]
+    pub fn of_stored(bytes: &[u8]) -> Value
+        requires { IsValue bytes.now }
+        ensures { result ≡ bytes.now }
+    {
+        Value {
+            text: Text::new(bytes),
+        }
+    }
+
     /// Its bytes, and zeros behind them: 128 bytes in all.
     pub fn padded(&self) -> &[u8; Value::MAX_LEN]
         ensures bytes { take (length self.now) result.now ≡ self.now }

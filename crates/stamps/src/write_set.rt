@@ -95,6 +95,21 @@ impl WriteSet {
         })
     }
 
+    /// The write set of the first `len` of these keys, which are known to be one's, as the others are to repeat the first key. It
+    /// checks none of them.
+    #[inline(always)]
+    pub fn of_stored(keys: [Key; WriteSet::MAX_LEN], len: usize) -> WriteSet
+        requires valid { IsWriteSet (take len keys) }
+        requires few { len ≤ max_keys }
+        requires rest { drop len keys ≡ replicate (max_keys - len) (first_key (take len keys)) }
+        ensures { result ≡ take len keys }
+    {
+        WriteSet {
+            keys,
+            len: len as u8,
+        }
+    }
+
     /// Whether there is a write set of these keys, in any order: they are 1 to `MAX_KEYS`, and none stands twice.
     pub fn are_keys(keys: &[Key]) -> bool
         ensures { IsTrue result ↔ IsTransactionKeys keys.now }

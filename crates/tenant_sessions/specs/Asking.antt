@@ -1,5 +1,6 @@
 -- What the calls that begin a transaction, put a call and take a reply ask for, and what they promise.
-use Rattle.std.specs.Prelude.{◌≡◌, ◌≢◌, ℕ, ◌+◌, ◌<◌, ◌≤◌, Bool, true, false, is_some, List, [], Option, Some, None, Result, Ok, Err, IfOk, IfErr, OnOk, OnErr, IsSome}
+use Rattle.std.specs.Prelude.{◌≡◌, ◌≢◌, ℕ, ◌+◌, ◌<◌, ◌≤◌, Bool, true, false, is_some, List, []}
+use Rattle.std.specs.Prelude.{Option, Some, None, Result, Ok, Err, IfOk, IfErr, OnOk, OnErr, IsSome}
 use Rattle.std.specs.Prelude.{cond, length, slice_get}
 use Rattle.stamps.specs.Key.{IsTransactionKeys, sorted_keys}
 use Rattle.stamps.specs.Limits.{max_parts}
@@ -52,7 +53,8 @@ pub record Awaits (sent : List Outgoing) (most : ℕ) (waiting : List Outgoing) 
   pub few : length waiting ≤ most
 
 -- what may begin is this request's transaction, which sends so many calls first; it is refused for what the test reports
-pub record BeginsIf (test : Result (Unit {0}) Refusal) (client : ℕ) (request : Intent) (calls : ℕ) (result : Result Begin Refusal)
+pub record BeginsIf (test : Result (Unit {0}) Refusal) (client : ℕ) (request : Intent) (calls : ℕ)
+    (result : Result Begin Refusal)
     : Type 0 where
   pub refused : IfErr result (λ refusal. test ≡ Err refusal)
   pub passed : IfOk result (λ begin. test ≡ Ok tt)
@@ -67,12 +69,13 @@ pub record StartsIf (test : Result (Unit {0}) Refusal) (parts : ℕ) (request : 
   pub begun : OnOk result (HasBegun parts request old new)
   pub still_open : new.is_open ≡ old.is_open
 
--- What a session does when a message comes. Where no transaction runs, where the message's ticket is another one, and where its
--- reply is of another kind than its call, it ignores it, and nothing changes. A reply to what runs is taken as the plain store takes it. Whatever the message is: what runs
--- is forgotten where the answer ends it, and else goes on; what is answered was shown by the replies, what is sent with it and may
--- be asked for after it is no more than what might be before, and a write that is decided sends COMMITs of its stamp and a read
--- GETs.
-pub record TakesIn (message : Message) (old : ClientSession) (kind : MoveKind) (readings : List Reading) (new : ClientSession)
+-- What a session does when a message comes. Where no transaction runs, where the message's ticket is another one, and
+-- where its reply is of another kind than its call, it ignores it, and nothing changes. A reply to what runs is taken
+-- as the plain store takes it. Whatever the message is: what runs is forgotten where the answer ends it, and else goes
+-- on; what is answered was shown by the replies, what is sent with it and may be asked for after it is no more than
+-- what might be before, and a write that is decided sends COMMITs of its stamp and a read GETs.
+pub record TakesIn (message : Message) (old : ClientSession) (kind : MoveKind) (readings : List Reading)
+    (new : ClientSession)
     : Type 0 where
   pub idle : old.running ≡ None → (kind ≡ Ignored) × (new ≡ old)
   pub late : message.ticket ≢ old.ticket → (kind ≡ Ignored) × (new ≡ old)

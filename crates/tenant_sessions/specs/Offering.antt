@@ -8,21 +8,24 @@ use Rattle.plain_store.specs.Words.{Key, Stamp, Tag, Setup}
 use Rattle.put_all.specs.declared.writer.Writer.{Writer}
 use Rattle.put_all.specs.declared.writer.WriteMove.{WriteMove}
 use Rattle.put_all.specs.declared.writer.WriteMove.TheVariants.{Ignored as IgnoredWrite}
-use Rattle.put_all.specs.Writer.{StandsFor as StandsForWrite, TakesWrite, calls_left as write_left, calls_asked as write_asked}
+use Rattle.put_all.specs.Writer.{StandsFor as StandsForWrite, TakesWrite}
+use Rattle.put_all.specs.Writer.{calls_left as write_left, calls_asked as write_asked}
 use Rattle.get_all.specs.declared.reader.Reader.{Reader}
 use Rattle.get_all.specs.declared.reader.ReadMoveKind.{ReadMoveKind}
 use Rattle.get_all.specs.declared.reader.ReadMoveKind.TheVariants.{Ignored as IgnoredRead}
-use Rattle.get_all.specs.Reader.{StandsFor as StandsForRead, TakesRead, told_by, calls_left as read_left, calls_asked as read_asked}
+use Rattle.get_all.specs.Reader.{StandsFor as StandsForRead, TakesRead, told_by}
+use Rattle.get_all.specs.Reader.{calls_left as read_left, calls_asked as read_asked}
 use Rattle.get_all.specs.declared.tag_search.TagSearch.{TagSearch}
 use Rattle.get_all.specs.declared.tag_search.FindMove.{FindMove}
 use Rattle.get_all.specs.declared.tag_search.FindMove.TheVariants.{Ignored as IgnoredFind}
-use Rattle.get_all.specs.TagSearch.{StandsFor as StandsForFind, TakesFind, calls_left as find_left, calls_asked as find_asked}
+use Rattle.get_all.specs.TagSearch.{StandsFor as StandsForFind, TakesFind}
+use Rattle.get_all.specs.TagSearch.{calls_left as find_left, calls_asked as find_asked}
 use Rattle.tenant_sessions.specs.Running.{IsReplyTo, is_reply_of}
 use Rattle.tenant_sessions.specs.Showing.{Offers, OffersWrite, Shows, found_move}
 
--- A writer ignores the message or takes its reply, whatever it is, and takes that to a call of the write as the write does. A message
--- whose reply is of another kind than its call is ignored, and nothing changes. What is asked for, and may be asked for after it,
--- is no more than what might be before.
+-- A writer ignores the message or takes its reply, whatever it is, and takes that to a call of the write as the write
+-- does. A message whose reply is of another kind than its call is ignored, and nothing changes. What is asked for, and
+-- may be asked for after it, is no more than what might be before.
 pub record OffersToWriter (message : Message) (old : Writer) (answer : WriteMove) (new : Writer) : Type 0 where
   pub shown : (setup : Setup) (stamp : Stamp) (items : List Item) (taken : List Message)
       → StandsForWrite setup stamp items old taken → OffersWrite setup stamp items taken message answer new

@@ -13,7 +13,8 @@ use Rattle.plain_store.specs.Words.{Key, Stamp, Tag}
 use Rattle.plain_store.specs.Writing.{Outgoing}
 use Rattle.get_all.specs.declared.late.Late.{Late}
 use Rattle.tenant_sessions.specs.declared.call_batch.BatchKind.{BatchKind}
-use Rattle.tenant_sessions.specs.declared.call_batch.BatchKind.TheVariants.{Preparing, Committing, ReadingFirst, ReadingSecond, Searching}
+use Rattle.tenant_sessions.specs.declared.call_batch.BatchKind.TheVariants.{Preparing, Committing, ReadingFirst}
+use Rattle.tenant_sessions.specs.declared.call_batch.BatchKind.TheVariants.{ReadingSecond, Searching}
 
 -- The calls that a transaction sends at once: PREPAREs of these records, COMMITs of this stamp at these partitions, GETs of
 -- the latest versions of these keys, GETs of these late versions, or searches by this tag.

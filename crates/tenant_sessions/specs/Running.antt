@@ -133,8 +133,8 @@ pub record Starts (setup : Setup) (request : Intent) (running : Running) : Type 
 -- ---- what it does when a reply comes
 
 -- A reply in whose place one was taken is ignored. Any other is taken, and the answer reports the plain store's move:
--- unless this ends the transaction it then stands for the replies with this one, and where calls are sent, at most `max_keys`,
--- they are all that it waits for, or those of its end. Stands: for which replies it then stands
+-- unless this ends the transaction it then stands for the replies with this one, and where calls are sent, at most
+-- `max_keys`, they are all that it waits for, or those of its end. Stands: for which replies it then stands
 pub record TakesMessage (setup : Setup) (request : Intent) (taken : List Message) (message : Message) (answer : Move)
     (Stands : List Message → Type 0) : Type 0 where
   pub repeated : is_answered taken message.partition message.call ≡ true → (answer ≡ Ignored) × Stands taken

@@ -14,7 +14,8 @@ use Rattle.plain_store.specs.Words.{Key, Stamp, Tag, Setup}
 use Rattle.plain_store.specs.Writing.{all_prepared, all_committed}
 use Rattle.put_all.specs.declared.writer.Writer.{Writer}
 use Rattle.put_all.specs.declared.writer.WriteMove.{WriteMove}
-use Rattle.put_all.specs.declared.writer.WriteMove.TheVariants.{Decide as DecideWrite, Done as DoneWrite, Ignored as IgnoredWrite}
+use Rattle.put_all.specs.declared.writer.WriteMove.TheVariants.{Decide as DecideWrite, Done as DoneWrite}
+use Rattle.put_all.specs.declared.writer.WriteMove.TheVariants.{Ignored as IgnoredWrite}
 use Rattle.put_all.specs.Writer.{StandsFor as StandsForWrite}
 use Rattle.put_all.specs.Writing.{write_answer}
 use Rattle.get_all.specs.declared.tag_search.FindMove.{FindMove}
@@ -60,8 +61,8 @@ abbrev pub IsShown : Setup → Intent → List Message → Option Running → Ty
 IsShown setup request taken None = Unit {0}
 IsShown setup request taken (Some running) = HasTaken setup request taken running.machine
 
--- A write is reported as done by the last of these replies, after those that it took before: by those each item's PREPARE was
--- accepted, and by all of them the COMMIT was done at each home.
+-- A write is reported as done by the last of these replies, after those that it took before: by those each item's
+-- PREPARE was accepted, and by all of them the COMMIT was done at each home.
 pub record IsWritersAnswer (setup : Setup) (stamp : Stamp) (items : List Item) (taken : List Message) (last : Message)
     : Type 0 where
   pub answers : write_answer setup stamp items taken last ≡ Some (Finishes stamp)

@@ -149,8 +149,9 @@ fn closed_in<
     let mut left: Vec<Transcript> = Vec::new(alloc);
     let is_served = is_served(rt, alloc, &hub, &mut left);
     let is_abandoned = is_abandoned(rt, &hub);
+    let keeps: bool = hub.has_journals();
     let closed: Closed = hub.close(rt, left);
-    Some((is_served? && is_abandoned?, closed))
+    Some((is_served? && is_abandoned? && keeps, closed))
 }
 
 /// Whether what is left has its parts, of which another like it is made, and is joined with nothing.
@@ -180,6 +181,8 @@ fn has_its_calls<R: Threads + Wait + Clone + Send + Drop + 'static>(
     let (is_served, closed) = closed(rt, alloc)?;
     let is_left = is_left(alloc, closed)?;
     let is_thread = number_of_hub_fault(HubFault::Thread) == 1;
+    let bare: NewStore = NewStore::of(config(alloc)?).without_journals();
+    let is_thread = is_thread && !bare.journals;
     Some(is_served && is_left && is_thread && number_of_join_fault(JoinFault::Numbers) == 1)
 }
 

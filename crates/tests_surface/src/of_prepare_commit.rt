@@ -9,7 +9,7 @@ use version_chain::Block;
 /// The version's counter, or what stands in its place.
 fn number_of_reply(reply: &GetReply<'_>) -> u64 {
     match reply {
-        GetReply::Version(version) => version.stamp.counter(),
+        GetReply::Version(version) => version.stamp().counter(),
         GetReply::Initial => 0,
         GetReply::Collected(floor) => floor.counter(),
         GetReply::Unknown => 21,

@@ -1,8 +1,8 @@
 //! version_chain: the versions of items as falling chains, in a block that tenants share.
 use crate::values::{record, stamp};
-use stamps::{Keep, Record, Stamp};
+use stamps::{Keep, Key, Record, Stamp, Tag};
 use std::alloc::{AllocError, Global};
-use version_chain::{Block, Chains, Insert};
+use version_chain::{Block, Chains, Insert, StoredRecord};
 
 fn number_of_insert(insert: Insert) -> u8 {
     match insert {
@@ -14,11 +14,26 @@ fn number_of_insert(insert: Insert) -> u8 {
 }
 
 /// Whether this is that version, with this mark.
-fn is_marked(nth: Option<(&Record, bool)>, wanted: &Record) -> bool {
+fn is_marked(nth: Option<(StoredRecord<'_>, bool)>, wanted: &Record) -> bool {
     match nth {
-        Some((version, is_committed)) => *version == *wanted && is_committed,
+        Some((version, is_committed)) => version.is(wanted) && is_committed,
         None => false,
     }
+}
+
+/// Whether this is that record, by its parts and by its copies.
+fn is_stored(found: Option<StoredRecord<'_>>, wanted: &Record) -> bool {
+    let Some(stored) = found else {
+        return false;
+    };
+    let stamp: Stamp = stored.stamp();
+    let key: Key = stored.key();
+    let tag: Tag = stored.tag();
+    let mut copy: Record = *wanted;
+    stored.copy_into(&mut copy);
+    let other: Record = stored.unpacked();
+    let is_copied = copy == *wanted && other == *wanted;
+    is_copied && stamp == wanted.stamp && key == wanted.key && tag == wanted.tag
 }
 
 /// Whether a version goes into a chain and out of it, below a floor.
@@ -33,13 +48,13 @@ fn is_chained(
     let mut chains: Chains = Chains::open(alloc, 2, 1, 7)?;
     let added: Insert = chains.insert(&mut block, 0, version);
     let same: Insert = chains.insert(&mut block, 0, version);
-    let found: Option<&Record> = chains.find(&block, 0, version.stamp);
-    let is_found = found == Some(&version);
+    let found: Option<StoredRecord<'_>> = chains.find(&block, 0, version.stamp);
+    let is_found = is_stored(found, &version);
     let marked: bool = chains.mark(&mut block, 0, version.stamp);
-    let nth: Option<(&Record, bool)> = chains.nth(&block, 0, 0);
+    let nth: Option<(StoredRecord<'_>, bool)> = chains.nth(&block, 0, 0);
     let is_nth = is_marked(nth, &version);
-    let latest: Option<&Record> = chains.latest(&block, 0);
-    let is_latest = latest == Some(&version);
+    let latest: Option<StoredRecord<'_>> = chains.latest(&block, 0);
+    let is_latest = is_stored(latest, &version);
     let greatest: Stamp = chains.kth_committed(&block, 0, keep);
     let freed: u32 = chains.cut_below(&mut block, 0, floor);
     let is_put = number_of_insert(added) == 0 && number_of_insert(same) == 1;

@@ -1,1 +1,3 @@
 pub mod Tracing
+pub mod Bare
+pub mod Forgetting

@@ -1,10 +1,9 @@
--- What a book has of the history, from one step to the next.
-use Rattle.std.proofs.Common.{◌≡◌, ◌≢◌, ◌⊎◌, ◌∙◌, ℕ, ◌+◌, ◌<◌, ◌≤◌, Bool, true, false, List, [], ◌∷◌, ◌++◌, length, map, reverse, filter_map, Option, Some, None, ⊎_elim, inl, inr, refl, ap, sym, subst, arith, append_assoc, length-append}
+-- What a partition has of the history, from one step to the next.
+use Rattle.std.proofs.Common.{◌≡◌, ◌≢◌, ◌⊎◌, ◌∙◌, ℕ, ◌+◌, ◌<◌, ◌≤◌, Bool, true, false, List, [], ◌∷◌, ◌++◌, length, map, reverse, Option, Some, None, ⊎_elim, inl, inr, refl, ap, sym, subst, arith, append_assoc, length-append}
 use Rattle.std.specs.Prelude.{◌^◌, slice_get, IfOk, IfErr, IsErrAnd, IsSomeAnd, IsTrue, MatchBool, OnErr, Result, Ok, Err}
-use Rattle.std.specs.List.{cons_option}
+use Rattle.std.specs.List.{cons_option, filter_map}
 use Rattle.std.specs.Option.{option_map}
 use Rattle.std.proofs.lemmas.Bool.Decides.{eqb_tells}
-use Rattle.std.proofs.lemmas.List.Elements.{filter_map-append}
 use Rattle.std.proofs.lemmas.List.{append-nil, map-append, reverse-append, length-map, length-reverse}
 use Rattle.std.proofs.lemmas.Option.{slice_get_cases, slice_get-map}
 use mathlib.Core.List.{IsPrefix}
@@ -17,7 +16,7 @@ use Rattle.plain_store.specs.declared.calls.Reply.{Reply}
 use Rattle.prepare_commit.proofs.Freezing.{nothing_left}
 use Rattle.prepare_commit.specs.Bases.{Frozen, Leaves, empty_base}
 use Rattle.partition.specs.declared.journal.Epoch.{Epoch}
-use Rattle.partition.specs.Accounts.{Account, EpochStart, IsCut, IsEntered, IsReplyInEpoch, account_room, base_at, base_in, before_at, before_in, events_at, events_in, new_account, next_account, with_event}
+use Rattle.partition.specs.Accounts.{Account, IsCut, IsEntered, IsReplyInEpoch, account_room, base_at, base_in, before_at, before_in, events_at, events_in, new_account, next_account, places, with_event}
 use Rattle.partition.specs.Accounts.{room_in as room_of_account}
 use Rattle.partition.specs.Events.{Event, event}
 use Rattle.partition.specs.Journals.{event_exchange, log_after, room_for}
@@ -29,14 +28,16 @@ use Rattle.plain_store.specs.declared.refusal.Refusal.{Refusal}
 use Rattle.plain_store.specs.declared.refusal.Refusal.TheVariants.{Late, OutOfMemory, NoTenant}
 use Rattle.history.specs.declared.entry.ServedCall.{ServedCall}
 use Rattle.history.specs.declared.entry.StoreOpening.{StoreOpening}
-use Rattle.history.specs.Entries.{but_last, calls_of, calls_served, count, limits_of, reply_in, room_in, room_of, served_at, served_to, StandsBehind}
+use Rattle.history.specs.Entries.{but_last, calls_of, calls_served, count, limits_of, own, reply_in, room_in, room_of, served_at, served_to, StandsBehind}
 use Rattle.history.specs.Legal.{IsLegal}
 use Rattle.history.specs.Rules.{IsAdded, IsOvertaken, TakesNoEntry, is_opening}
 use Rattle.history.proofs.Counts.{count_later, equal_test, other_test}
 use Rattle.history.proofs.Shown.{to_is}
-use Rattle.history.proofs.Servings.{is_served, none_taken, room_later, served_added, served_same}
+use Rattle.history.proofs.Servings.{is_served, none_taken, room_later, served_added, served_own, served_same}
 use Rattle.history.proofs.Steps.{before_added}
 use Rattle.traced_book.specs.Entering.{HasEntered}
+use Rattle.traced_book.proofs.Forgetting.{begun_of}
+use Rattle.traced_book.specs.Forgetting.{AreBegunAnew, BeginsAnew, IsTaken}
 use Rattle.traced_book.specs.Traced.{AreTraced, IsLatestEpoch, IsStretch, IsTraced, WereMoreServed, served_of}
 
 -- a history with the same calls there has as much of the account
@@ -268,6 +269,47 @@ cut_latest log partition tenant epoch old new there cut traced =
           latest = subst L (sym given.2) (served_length log partition tenant ∙ places_of log partition tenant a r);
         }
 
+-- ---- accounts that begin anew
+
+begun_one : (log : List HistoryEntry) (partition tenant : ℕ) (account now : Account) → IsTraced log partition tenant account → BeginsAnew account now
+    → IsTraced log partition tenant now
+begun_one log partition tenant account now r begun =
+    let served = served_at tenant partition log in
+    let L : Limits → Log = λ its. log_of (room_for its) (calls_of served) in
+    record {
+      earlier = served;
+      calls = sym (ap (λ (es : List Event). served ++ map (served_of partition tenant) es) begun.none ∙ append-nil served);
+      places = served_length log partition tenant ∙ places_of log partition tenant account r ∙ sym begun.places;
+      room = r.room ∙ ap room_for (sym begun.limits);
+      base = subst (λ (its : Limits). Leaves now.start.base (L its)) (sym begun.limits)
+          (subst (Leaves now.start.base) r.replies (begun.content.leaves (log_of (room_for account.limits) (calls_of r.earlier)) r.base));
+      replies = ap (λ (es : List Event). log_after es ++ L now.limits) begun.none;
+    }
+
+pub begun_traced : (log : List HistoryEntry) (partition : ℕ) (old new : List Account) → AreBegunAnew old new → AreTraced log partition old → AreTraced log partition new
+begun_traced log partition old new begun traced tenant now is =
+    let its = begun_of old new tenant now begun is in
+    begun_one log partition tenant its.0 now (traced tenant its.0 its.1) its.2
+
+-- an account has no more places than the history has calls of the partition
+few_kept : {X Y : Type 0} (f : X → Option Y) (xs : List X) → length (filter_map f xs) ≤ length xs
+few_kept {X} {Y} f [] = omega arith
+few_kept {X} {Y} f (x ∷ xs) = go (f x) (few_kept f xs)
+  where
+    go : (o : Option Y) → length (filter_map f xs) ≤ length xs → length (cons_option o (filter_map f xs)) ≤ length (x ∷ xs)
+    go None few = omega (arith, few)
+    go (Some y) few = omega (arith, few)
+
+pub few_places : (log : List HistoryEntry) (partition tenant : ℕ) (account : Account) → IsTraced log partition tenant account → places account ≤ count (partition + 1) log
+few_places log partition tenant account r =
+    let few = few_kept (served_to tenant partition) (own (partition + 1) log) in
+    omega (arith, few, ap length (served_own tenant partition log), served_length log partition tenant, places_of log partition tenant account r)
+
+-- what stays where a call failed, seen otherwise
+pub stays_so : {X E A B : Type 0} (f : A → B) (x y : A) (result : Result X E) → OnErr result (x ≡ y) → OnErr result (f x ≡ f y)
+stays_so f x y (Ok value) same = tt
+stays_so f x y (Err e) same = ap f same
+
 -- where a cut may have failed
 pub cut_or_not : {E : Type 0} (log : List HistoryEntry) (partition tenant : ℕ) (old new : List Account) (result : Result Epoch E) → tenant < length old
     → IfOk result (λ epoch. IsCut old new tenant epoch) → OnErr result (new ≡ old) → AreTraced log partition old → AreTraced log partition new
@@ -344,12 +386,15 @@ place_at accounts tenant account is = ap (λ (o : Option Account). before_in o +
 module _ (log now evidence : List HistoryEntry) (partition tenant entries seat number : ℕ) (call : Call) (legal : IsLegal log) (counted : count (partition + 1) log ≡ entries)
     (add : IsAdded (partition + 1) entries (Served (record { partition = partition; tenant = tenant; seat = seat; number = number; call = call })) log now)
     (old new : List Account) (there : tenant < length old) (traced : AreTraced log partition old) where
-  -- the book has what the history has
-  pub served_traced : (reply : Option Reply) → IsSomeAnd reply (λ told. IsEntered old new tenant (event seat number call told))
+  -- the accounts have what the history has
+  pub served_traced : (journals : Bool) (reply : Option Reply) → IsSomeAnd reply (λ told. IsTaken journals old new tenant (event seat number call told))
       → IsSomeAnd reply (λ told. IsReplyInEpoch old tenant call told) → AreTraced now partition new
-  served_traced None entered told = absurd entered
-  served_traced (Some r) entered told =
-      are_added log now partition tenant entries (event seat number call r) legal counted add old new there entered told traced
+  served_traced journals None taken told = absurd taken
+  served_traced true (Some r) taken told =
+      are_added log now partition tenant entries (event seat number call r) legal counted add old new there taken told traced
+  served_traced false (Some r) taken told =
+      begun_traced now partition taken.0 new taken.2
+      (are_added log now partition tenant entries (event seat number call r) legal counted add old taken.0 there taken.1 told traced)
 
   told_at : (account : Account) (place : ℕ) (r : Reply) → IsPrefix evidence (but_last now) → slice_get old tenant ≡ Some account
       → place ≡ before_at old tenant + length (events_at old tenant) + 1 → IsReplyInEpoch old tenant call r

@@ -1,2 +1,5 @@
 pub mod Entering
+pub mod Forgetting
+pub mod Bare
+pub mod Kept
 pub mod Traced

@@ -1,5 +1,5 @@
--- What a partition's book has of the history.
-use Rattle.std.specs.Prelude.{ℕ, ◌≡◌, ◌+◌, ◌<◌, ◌++◌, List, length, map, slice_get, Some}
+-- What a partition has of the history.
+use Rattle.std.specs.Prelude.{ℕ, Bool, ◌≡◌, ◌+◌, ◌<◌, ◌++◌, List, length, map, slice_get, Some}
 use mathlib.Core.List.{IsPrefix}
 use Rattle.plain_store.specs.Replies.{log_of}
 use Rattle.prepare_commit.specs.Bases.{Leaves}
@@ -31,9 +31,10 @@ pub record IsTraced (log : List HistoryEntry) (partition tenant : ℕ) (account 
 abbrev pub AreTraced : List HistoryEntry → ℕ → List Account → Type 0
 AreTraced log partition accounts = (tenant : ℕ) (account : Account) → slice_get accounts tenant ≡ Some account → IsTraced log partition tenant account
 
--- which partition it is, the tenants' accounts, and what was seen of the history
+-- which partition it is, whether it keeps journals, the tenants' accounts, and what was seen of the history
 pub record Tracing : Type 0 where
   pub partition : ℕ
+  pub journals : Bool
   pub accounts : List Account
   pub seen : List HistoryEntry
 

@@ -1,43 +1,50 @@
-//! A partition's book beside what it has seen of the history.
-ghost use Rattle.std.specs.Prelude.{◌≡◌, ◌≢◌, ◌⊎◌, ◌+◌, ◌<◌, ◌≤◌, ◌↔◌, map, length, true, None, IfOk, IfErr, IfSome, OnErr, IsErrOf, IsSomeAnd};
+//! A partition's cells, with journals or without, beside what was seen of the history.
+ghost use Rattle.std.specs.Prelude.{◌≡◌, ◌≢◌, ◌⊎◌, ◌+◌, ◌<◌, ◌≤◌, ◌↔◌, map, length, slice_get, false, true, None, Some, IfOk, IfErr, IfSome, OnErr, IsErrOf, IsSomeAnd};
 ghost use mathlib.Core.List.{IsPrefix};
 ghost use Rattle.stamps.specs.Limits.{max_parts};
-ghost use Rattle.partition.specs.Accounts.{events_at, new_account, IsCut, IsPastAt};
+ghost use Rattle.partition.specs.Accounts.{Account, events_at, new_account, IsCut, IsPastAt};
 ghost use Rattle.partition.specs.Journals.{IsLate};
-ghost use Rattle.partition.specs.Serving.{EntersCall};
+ghost use Rattle.partition.specs.Used.{IsUsageOf};
 ghost use Rattle.history.specs.Entries.{count, limits_of, StandsBehind};
 ghost use Rattle.history.specs.Legal.{MayServe};
 ghost use Rattle.history.specs.Rules.{TakesNoEntry, is_opening};
+ghost use Rattle.traced_book.specs.Forgetting.{AreBegunAnew, TakesCall};
 ghost use Rattle.traced_book.specs.Traced.{AreTraced, IsLatestEpoch, WereMoreServed};
 
+use crate::bare_shelf::BareShelf;
 use crate::entering::Entering;
+use crate::keeping::Keeping;
 use history::{CallToServe, Front, Naming, Tally};
-use partition::{Book, Caller, Epoch};
+use partition::{Book, Caller, Epoch, Usage};
 use plain_store::{Call, Refusal, Reply};
+use stamps::Limits;
+use std::alloc::{AllocError, Global};
 use std::marker::Model;
 
-/// A partition's book, and the word that counts what the partition served. Contracts see which partition it is, the book's
-/// accounts, and what was seen of the history: of each tenant it has the account's calls, behind those of earlier epochs.
+/// A partition's cells, with journals or without, and the word that counts what the partition served. Contracts see which partition
+/// it is, whether it keeps journals, the tenants' accounts, and what was seen of the history: of each tenant it has the account's
+/// calls, behind those of earlier epochs. Without journals an account has no event: each call that is served is one before it.
 #[derive(Drop)]
 pub struct TracedBook<J: Naming> {
     partition: u32,
-    book: Book,
+    kept: Keeping,
     tally: Tally<J>,
     entries: u64,
     front: Front<J>,
 }
 
 impl<J: Naming> Model for TracedBook<J> {
-    ghost use Rattle.std.specs.Prelude.{◌≡◌, ◌+◌, ◌<◌};
+    ghost use Rattle.std.specs.Prelude.{◌≡◌, ◌+◌, ◌<◌, ◌≤◌, ◌^◌};
     ghost use Rattle.stamps.specs.Limits.{max_parts};
     ghost use Rattle.history.specs.Entries.{count};
+    ghost use Rattle.traced_book.specs.Kept.{accounts_in, has_journals};
     ghost use Rattle.traced_book.specs.Traced.{AreTraced, Tracing};
 
     ghost Value = { Tracing };
 
-    ghost view = { λ b. record { partition = b.partition; accounts = b.book; seen = b.front } };
+    ghost view = { λ b. record { partition = b.partition; journals = has_journals b.kept; accounts = accounts_in b.kept; seen = b.front } };
 
-    ghost invariant = { λ b. AreTraced b.front b.partition b.book × (count b.tally.key b.front ≡ b.entries) × (b.tally.key ≡ b.partition + 1) × (b.partition < max_parts) };
+    ghost invariant = { λ b. AreTraced b.front b.partition (accounts_in b.kept) × (count b.tally.key b.front ≡ b.entries) × (b.tally.key ≡ b.partition + 1) × (b.partition < max_parts) × (b.entries ≤ 2 ^ 62) };
 }
 
 impl<J: Naming> TracedBook<J> {
@@ -47,32 +54,85 @@ impl<J: Naming> TracedBook<J> {
         requires tally { tally.key ≡ partition + 1 }
         requires opened { is_opening front ≡ true }
         requires book { book ≡ map new_account (limits_of front) }
-        ensures { result ≡ record { partition = partition; accounts = book; seen = front } }
+        ensures { result
+            ≡ record { partition = partition; journals = true; accounts = book; seen = front } }
     {
         TracedBook {
             partition,
-            book,
+            kept: Keeping::Journals(book),
             tally,
             entries: 0,
             front,
         }
     }
 
-    /// The book, to be read.
-    pub fn book(&self) -> &Book
-        ensures { result.now ≡ self.now.accounts }
+    /// Empty cells without journals, of a store that was just opened and has tenants of these limits: its word, and what was seen of
+    /// the history. All memory that its calls will want is taken here. The one error is that it was refused, as `Shelf::open` reports.
+    pub fn without_journals(
+        alloc: Global,
+        limits: &[Limits],
+        partition: u32,
+        tally: Tally<J>,
+        front: Front<J>,
+    ) -> Result<TracedBook<J>, AllocError>
+        requires few { partition < max_parts }
+        requires tally { tally.key ≡ partition + 1 }
+        requires opened { is_opening front ≡ true }
+        requires limits { limits.now ≡ limits_of front }
+        ensures its { IfOk result (λ book. (book.partition ≡ partition) × (book.journals ≡ false)
+            × (book.seen ≡ front)) }
+        ensures accounts { IfOk result
+            (λ book. AreBegunAnew (map new_account limits.now) book.accounts) }
     {
-        &self.book
+        let shelf = BareShelf::open(alloc, limits)?;
+        Ok(TracedBook {
+            partition,
+            kept: Keeping::CellsAlone(shelf),
+            tally,
+            entries: 0,
+            front,
+        })
     }
 
-    /// What was seen of the history: it has each event of the book.
+    /// Whether it keeps journals.
+    pub fn has_journals(&self) -> bool
+        ensures { result ≡ self.now.journals }
+    {
+        self.kept.has_journals()
+    }
+
+    /// The number of tenants.
+    pub fn tenants(&self) -> u32
+        ensures { result ≡ length self.now.accounts }
+    {
+        self.kept.tenants()
+    }
+
+    /// How many events a tenant's epoch has: none where no journal is kept.
+    pub fn events(&self, tenant: u32) -> u64
+        requires { tenant < length self.now.accounts }
+        ensures { result ≡ length (events_at self.now.accounts tenant) }
+    {
+        self.kept.events(tenant)
+    }
+
+    /// How much a tenant uses now. It visits none of what the tenant's cell holds.
+    pub fn usage(&self, tenant: u32) -> Usage
+        requires { tenant < length self.now.accounts }
+        ensures { (account : Account) → slice_get self.now.accounts tenant ≡ Some account
+            → IsUsageOf account result }
+    {
+        self.kept.usage(tenant)
+    }
+
+    /// What was seen of the history: it has each call that was served.
     pub fn seen(&self) -> Front<J>
         ensures { result ≡ self.now.seen }
     {
         self.front.again()
     }
 
-    /// Sees the history as it is now, and answers how many calls it has of the book's partition.
+    /// Sees the history as it is now, and answers how many calls it has of this partition.
     pub fn look(&self, seen: &mut Front<J>) -> u64
         ensures seen { IsPrefix seen.old seen.new }
         ensures calls { result ≡ count (self.now.partition + 1) seen.new }
@@ -80,18 +140,18 @@ impl<J: Naming> TracedBook<J> {
         seen.look(&self.tally)
     }
 
-    /// The book, where it entered just so many calls and the history, as it is now, has no more of its partition; else None. What was
-    /// seen has as many of it, so all that it has of the partition are in the book, or in epochs that were cut off it.
+    /// The book, where journals are kept, it entered just so many calls and the history, as it is now, has no more of its partition; else
+    /// None. What was seen has as many of it, so all that it has of the partition are in the book, or in epochs that were cut off it.
     pub fn into_book(self, seen: &Front<J>, calls: u64) -> Option<Book>
         requires calls { calls ≤ count (self.partition + 1) seen.now }
         ensures whole { IfSome result
             (λ book. (book ≡ self.accounts) × AreTraced seen.now self.partition book) }
         ensures others { result ≡ None → (calls ≢ count (self.partition + 1) self.seen)
-            ⊎ WereMoreServed self.seen self.partition }
+            ⊎ (WereMoreServed self.seen self.partition ⊎ (self.journals ≡ false)) }
     {
         let TracedBook {
             partition: _,
-            book,
+            kept,
             tally,
             entries,
             front,
@@ -102,15 +162,19 @@ impl<J: Naming> TracedBook<J> {
         let mut now = front.again();
         now.learn(&seen.again());
         let found = now.look(&tally);
-        if found == calls { Some(book) } else { None }
+        if found != calls {
+            return None;
+        }
+        kept.into_book()
     }
 
-    /// Has a tenant's cell serve a call, enters its event, and enters the call into the history. Writes the reply
-    /// into the caller's buffer, and answers the event's place in the tenant's journal. The evidence shows that the call may be
-    /// served, and has seen then that it was.
+    /// Has a tenant's cell serve a call, enters its event, if journals are kept, and enters the call into the history. Writes the reply
+    /// into the caller's buffer, and answers which one of the tenant's calls it is, from 1: its event's place in the tenant's journal.
+    /// The evidence shows that the call may be served, and has seen then that it was.
     ///
     /// It fails where the number is not above the seat's last one in this epoch (25), where an allocation failed (30), and where the
-    /// history has other calls of the partition than were seen here, or 2^62 (10). Then nothing has changed.
+    /// history has other calls of the partition than were seen here, or 2^62 (10). Then nothing has changed. Without journals no number
+    /// is late, and nothing is allocated.
     pub fn serve_into(
         &mut self,
         caller: Caller,
@@ -122,8 +186,8 @@ impl<J: Naming> TracedBook<J> {
         requires tenant { tenant < length self.old.accounts }
         requires may { ∥ MayServe evidence.old self.old.partition tenant call.now ∥₁ }
 
-        ensures enters { EntersCall self.old.accounts self.new.accounts tenant caller.seat
-            caller.number call.now (λ place. place) (λ _. reply.new) result }
+        ensures takes { TakesCall self.old.journals self.old.accounts self.new.accounts tenant
+            caller.seat caller.number call.now (λ place. place) (λ _. reply.new) result }
         // The history that was seen has the call at that place, with this reply, behind all that the evidence had seen.
         ensures served { IfOk result
             (λ place.
@@ -131,7 +195,8 @@ impl<J: Naming> TracedBook<J> {
             (λ told.
             StandsBehind evidence.old evidence.new
             (record { partition = self.old.partition; tenant = tenant; seat = caller.seat; number = caller.number; call = call.now }) place told)) }
-        ensures partition { self.new.partition ≡ self.old.partition }
+        ensures partition { (self.new.partition ≡ self.old.partition)
+            × (self.new.journals ≡ self.old.journals) }
         ensures later { IsPrefix self.old.seen self.new.seen }
         ensures evidence { IsPrefix evidence.old evidence.new }
 
@@ -159,7 +224,7 @@ impl<J: Naming> TracedBook<J> {
             now: self.front.again(),
         };
         let place = self
-            .book
+            .kept
             .serve_admitted(caller, tenant, call, reply, &mut entering)?;
         let Entering { now, .. } = entering;
         *evidence = now.again();
@@ -169,7 +234,7 @@ impl<J: Naming> TracedBook<J> {
     }
 
     /// Hands out what a tenant's journal has, as an epoch, and begins the next one at what the tenant's cell holds, as `Book::cut`
-    /// reports. The epoch has the last of the calls that were seen of the tenant there.
+    /// reports; 10 where no journals are kept. The epoch has the last of the calls that were seen of the tenant there.
     pub fn cut(&mut self, tenant: u32) -> Result<Epoch, Refusal>
         requires { tenant < length self.old.accounts }
 
@@ -177,12 +242,17 @@ impl<J: Naming> TracedBook<J> {
             (λ epoch. IsCut self.old.accounts self.new.accounts tenant epoch) }
         ensures latest { IfOk result
             (λ epoch. IsLatestEpoch self.old.seen self.old.partition tenant epoch) }
-        ensures seen { (self.new.partition ≡ self.old.partition) × (self.new.seen ≡ self.old.seen) }
+        ensures seen { (self.new.partition ≡ self.old.partition) × (self.new.seen ≡ self.old.seen)
+            × (self.new.journals ≡ self.old.journals) }
 
-        ensures past { IsErrOf result Refusal.RowsUsed ↔ IsPastAt self.old.accounts tenant }
-        ensures refusals { IfErr result (λ e. (e ≡ Refusal.RowsUsed) ⊎ (e ≡ Refusal.OutOfMemory)) }
+        ensures past { self.old.journals ≡ true
+            → (IsErrOf result Refusal.RowsUsed ↔ IsPastAt self.old.accounts tenant) }
+        ensures none { self.old.journals ≡ false → IsErrOf result Refusal.NoTenant }
+        ensures refusals { IfErr result (λ e. (e ≡ Refusal.RowsUsed)
+            ⊎ ((e ≡ Refusal.OutOfMemory)
+            ⊎ ((e ≡ Refusal.NoTenant) × (self.old.journals ≡ false)))) }
         ensures unchanged { OnErr result (self.new ≡ self.old) }
     {
-        self.book.cut(tenant)
+        self.kept.cut(tenant)
     }
 }

@@ -6,3 +6,5 @@ pub mod Lends
 pub mod Ownership
 pub mod RawCells
 pub mod RawCellsLends
+pub mod SlotBytes
+pub mod Stripes

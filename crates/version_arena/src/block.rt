@@ -49,6 +49,17 @@ impl<C> RawBlock<C> {
         places.deallocate(&alloc, len);
     }
 
+    /// Gives the block back to its allocator. What its places hold is not dropped.
+    pub(crate) fn release(self) {
+        let RawBlock {
+            mut places,
+            len,
+            alloc,
+        } = self;
+        places.forget_all();
+        places.deallocate(&alloc, len);
+    }
+
     pub(crate) fn len(&self) -> usize
         ensures { result ≡ length self.now }
     {
@@ -60,6 +71,15 @@ impl<C> RawBlock<C> {
         requires { (index < length self.old) × (get_or self.old index None ≡ None) }
         ensures { self.new ≡ slice_set self.old index (Some value) }
     {
+        self.places.write(index, value);
+    }
+
+    /// Puts a value into a place. What the place held is not dropped.
+    pub(crate) fn overwrite(&mut self, index: usize, value: C)
+        requires { index < length self.old }
+        ensures { self.new ≡ slice_set self.old index (Some value) }
+    {
+        self.places.forget(index);
         self.places.write(index, value);
     }
 

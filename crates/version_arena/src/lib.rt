@@ -1,6 +1,8 @@
-//! An arena for versions: values in the cells of one block of memory, each beside the slot of another value.
+//! An arena for versions: values in the cells of one block of memory, each beside the slot of another value; and bytes by slot, which take
+//! memory by their number.
 //!
 //! From the top down: `arena` has the values of the live cells, and threads the freed ones through the list of the cells' states, `cell_state`;
+//! `slot_bytes` has the bytes of each slot in pieces;
 //! `block` is one block with its allocator, and `raw_cells` alone has a raw pointer.
 #![tactic(auto)]
 
@@ -9,6 +11,8 @@ mod block;
 mod cell_state;
 mod raw_cells;
 mod slot;
+mod slot_bytes;
 
 pub use arena::Arena;
 pub use slot::Slot;
+pub use slot_bytes::SlotBytes;

@@ -74,6 +74,19 @@ impl<C, A: Allocator> RawCells<C, A> {
         unsafe { self.at.add(index).write(value) }
     }
 
+    /// Forgets what a place holds, which is not dropped. There is no code for it.
+    pub(crate) fn forget(&mut self, index: usize)
+        requires { index < length self.old.held }
+        ensures emptied { self.new.held ≡ slice_set self.old.held index None }
+        ensures same_allocator { self.new.alloc ≡ self.old.alloc }
+    {}
+
+    /// Forgets what the places hold, of which nothing is dropped. There is no code for it.
+    pub(crate) fn forget_all(&mut self)
+        ensures emptied { self.new.held ≡ replicate (length self.old.held) None }
+        ensures same_allocator { self.new.alloc ≡ self.old.alloc }
+    {}
+
     /// The value in a place.
     pub(crate) fn get(&self, index: usize) -> &C
         requires { IsFilled self.now.held index }

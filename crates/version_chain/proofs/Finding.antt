@@ -1,7 +1,7 @@
 -- For `Chains::record_at` and `mark`. What a chain has at a stamp, by the last version that is not below it.
 use Rattle.std.proofs.Common.{◌≡◌, ◌≢◌, ℕ, ◌<◌, ◌≤◌, List, [], ◌∷◌, ◌++◌, length, Option, Some, None, IsSome, is_some, refl, sym, ap, subst, ◌∙◌, arith, append_assoc}
 use Rattle.version_arena.specs.Arena.{entry, next_beside}
-use Rattle.version_chain.specs.declared.version.Node.{Node}
+use Rattle.version_chain.specs.Node.{Node}
 use Rattle.version_chain.specs.declared.version.Version.{Version}
 use Rattle.version_chain.specs.Heads.{Heads, head}
 use Rattle.version_chain.specs.Chain.{Cells, IsPath, Falls, HoldsChains, chain_versions, at_stamp}

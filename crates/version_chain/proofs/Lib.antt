@@ -27,6 +27,7 @@ mod Runs
 mod Seeking
 pub mod SharedBlock
 mod StampParts
+mod StoredNodes
 pub mod Slots
 mod Sums
 pub mod Unpacking

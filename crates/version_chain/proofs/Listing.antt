@@ -3,7 +3,7 @@ use Rattle.std.proofs.Common.{◌≡◌, inl, inr, ℕ, zero, suc, ◌+◌, ◌�
 use Rattle.std.proofs.lemmas.Bool.{eq-eqb, ne_eqb, cases_Bool, eqb-true}
 use Rattle.std.proofs.lemmas.List.Sums.{sum_by-cons}
 use Rattle.version_arena.specs.Arena.{entry}
-use Rattle.version_chain.specs.declared.version.Node.{Node}
+use Rattle.version_chain.specs.Node.{Node}
 use Rattle.version_chain.specs.declared.stamp_list.Kept.{Kept}
 use Rattle.version_chain.specs.Heads.{Heads}
 use Rattle.version_chain.specs.Chain.{Cells, HoldsChains, is_of_tenant}

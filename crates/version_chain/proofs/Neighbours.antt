@@ -2,7 +2,7 @@
 use Rattle.std.proofs.Common.{◌≡◌, ◌≢◌, ℕ, ◌<◌, ◌==◌, Bool, true, false, if◌then◌else◌, List, [], ◌∷◌, length, cond, count_by, sum_by, Option, Some, None, is_some, refl, sym, ap, ◌∙◌}
 use Rattle.std.proofs.lemmas.Bool.{eq-eqb}
 use Rattle.version_arena.specs.Arena.{entry}
-use Rattle.version_chain.specs.declared.version.Node.{Node}
+use Rattle.version_chain.specs.Node.{Node}
 use Rattle.version_chain.specs.declared.version.Version.{Version}
 use Rattle.version_chain.specs.Heads.{Heads, head, latest_slot}
 use Rattle.version_chain.specs.Chain.{Cells, IsPath, HoldsChains, chain_versions, follow, is_of_tenant, cell_of, OthersKept}

@@ -1,11 +1,10 @@
 -- How the chains of a tenant lie in the cells of an arena.
-use Rattle.std.specs.Borrow.{Bor}
 use Rattle.std.specs.Prelude.{◌≡◌, ◌≢◌, ℕ, zero, suc, ◌+◌, ◌==◌, ◌||◌, ◌<◌, ◌≤◌, Bool, true, false, if◌then◌else◌}
 use Rattle.std.specs.Prelude.{List, [], ◌∷◌, ◌++◌, length, map, filter, Option, Some, None, count_by, sum_by}
 use Rattle.std.specs.Prelude.{nat_lt, slice_get, slice_set, ◌&&◌, not}
 use Rattle.stamps.specs.Record.{Record}
 use Rattle.version_arena.specs.Arena.{entry, live_count, next_beside}
-use Rattle.version_chain.specs.declared.version.Node.{Node}
+use Rattle.version_chain.specs.Node.{Node}
 use Rattle.version_chain.specs.declared.version.Version.{Version}
 use Rattle.version_chain.specs.Heads.{Heads, head, latest_slot}
 
@@ -91,10 +90,10 @@ abbrev pub at_stamp : List Version → ℕ → Option Record
 at_stamp [] stamp = None
 at_stamp (version ∷ rest) stamp = if version.prepared.stamp == stamp then Some version.prepared else at_stamp rest stamp
 
--- the borrowed version as its record and its mark
-abbrev pub lent_version : Option (Bor Record × Bool) → Option Version
+-- a version as its record and its mark
+abbrev pub lent_version : Option (Record × Bool) → Option Version
 lent_version None = None
-lent_version (Some lent) = Some (record { prepared = lent.0.now; committed = lent.1 })
+lent_version (Some lent) = Some (record { prepared = lent.0; committed = lent.1 })
 
 -- the record of the greatest stamp
 abbrev pub first_record : List Version → Option Record

@@ -4,7 +4,7 @@ use Rattle.std.specs.Prelude.{◌≡◌, ℕ, ◌+◌, ◌<◌, ◌≤◌, ◌==
 use Rattle.std.specs.Prelude.{List, [], ◌∷◌, ◌++◌, length, Option}
 use Rattle.std.specs.Prelude.{Some, None}
 use Rattle.version_arena.specs.Arena.{entry, next_beside, IsLive}
-use Rattle.version_chain.specs.declared.version.Node.{Node}
+use Rattle.version_chain.specs.Node.{Node}
 use Rattle.version_chain.specs.declared.version.Bound.{Bound}
 use Rattle.version_chain.specs.declared.version.Bound.TheVariants.{From, Above}
 use Rattle.version_chain.specs.declared.version.Version.{Version}

@@ -1,7 +1,7 @@
 -- The chains of several tenants in the cells of one block.
 use Rattle.std.specs.Prelude.{◌≡◌, ℕ, ◌+◌, ◌<◌, ◌≤◌, List, length, sum_by, slice_get, Option, Some}
 use Rattle.version_arena.specs.Arena.{entry, live_count}
-use Rattle.version_chain.specs.declared.version.Node.{Node}
+use Rattle.version_chain.specs.Node.{Node}
 use Rattle.version_chain.specs.Heads.{Heads}
 use Rattle.version_chain.specs.Chain.{Cells, HoldsChains, SameShape, OthersKept}
 

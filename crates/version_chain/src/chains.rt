@@ -1,5 +1,5 @@
 // The chains of one tenant.
-ghost use Rattle.std.specs.Prelude.{◌≡◌, ◌↔◌, ℕ, ◌+◌, ◌-◌, ◌^◌, ◌<◌, ◌≤◌, ◌==◌, ◌&&◌, if◌then◌else◌, List, replicate, IsTrue, IsSome, IsSomeAnd, true, false, ◌++◌, length, map, filter, slice_get, slice_index_or, option_copied, Option, Some, None, IfOk};
+ghost use Rattle.std.specs.Prelude.{◌≡◌, ◌↔◌, ℕ, ◌+◌, ◌-◌, ◌^◌, ◌<◌, ◌≤◌, ◌==◌, ◌&&◌, if◌then◌else◌, List, replicate, IsTrue, IsSome, IsSomeAnd, true, false, ◌++◌, length, map, filter, slice_get, slice_index_or, Option, Some, None, IfOk};
 ghost use Rattle.version_arena.specs.Arena.{entry, next_beside};
 ghost use Rattle.version_chain.specs.declared.version.Version.{Version};
 ghost use Rattle.version_chain.specs.Chain.{IsPath, KeepsLatest, HoldsChains, HasShare, chain_versions, at_stamp, first_record, latest_record, lent_version, committed_records, stamp_of, marked_by, not_below, without_open};
@@ -12,7 +12,8 @@ ghost use Rattle.version_chain.specs.Sharing.{ChangesOwn};
 use crate::kept_list::KeptList;
 use crate::shared_block::Block;
 use crate::stamp_list::{Kept, is_held};
-use crate::version::{Bound, Node, Version, stamp_of};
+use crate::stored::StoredRecord;
+use crate::version::{Bound, Version, stamp_of};
 use crate::version_list::VersionList;
 use stamps::{Keep, Record, Stamp, Visits};
 use std::alloc::{AllocError, Global};
@@ -100,9 +101,9 @@ impl Chains {
     }
 
     /// The record of this stamp in a chain, if there is one. It visits what a search for the stamp does.
-    pub fn find<'b>(&self, block: &'b Block, chain: u32, stamp: Stamp) -> Option<&'b Record>
+    pub fn find<'b>(&self, block: &'b Block, chain: u32, stamp: Stamp) -> Option<StoredRecord<'b>>
         requires { HasChain block.now self.now chain }
-        ensures { option_copied result ≡ at_stamp (chain_versions block.now self.now chain) stamp }
+        ensures { result ≡ at_stamp (chain_versions block.now self.now chain) stamp }
     {
         let (last, _) = self.seek(block, chain, stamp);
         self.record_at(block, chain, stamp, last)
@@ -143,7 +144,7 @@ impl Chains {
             let Some(slot) = here else {
                 return None;
             };
-            if block.get(slot).version.is_below(bound) {
+            if block.get(slot).is_below(bound) {
                 return None;
             }
             let Some(kept) = listed.take_least() else {
@@ -166,7 +167,7 @@ impl Chains {
             let Some(slot) = here else {
                 return false;
             };
-            if block.get(slot).version.is_below(bound) {
+            if block.get(slot).is_below(bound) {
                 return false;
             }
             here = block.next(slot);
@@ -183,7 +184,7 @@ impl Chains {
             return false;
         }
         let node = block.get(slot);
-        node.tenant == self.tenant && node.chain == chain && !node.version.is_below(bound)
+        node.tenant() == self.tenant && node.chain() == chain && !node.is_below(bound)
     }
 
     // The last slot of a chain that is within a bound, and the slot after it, found from a slot that is within it, or else
@@ -202,7 +203,7 @@ impl Chains {
         let mut last = near;
         let mut here = self.after(block, chain, near);
         while let Some(slot) = here {
-            if block.get(slot).version.is_below(bound) {
+            if block.get(slot).is_below(bound) {
                 return (last, here);
             }
             last = here;
@@ -230,14 +231,14 @@ impl Chains {
         chain: u32,
         stamp: Stamp,
         last: Option<Slot>,
-    ) -> Option<&'b Record>
+    ) -> Option<StoredRecord<'b>>
         requires chain { HasChain block.now self.now chain }
         requires place { (here : Option ℕ) × IsPlace block.now self.now chain stamp last here }
-        ensures { option_copied result ≡ at_stamp (chain_versions block.now self.now chain) stamp }
+        ensures { result ≡ at_stamp (chain_versions block.now self.now chain) stamp }
     {
-        let version = &block.get(last?).version;
-        if version.is_at(stamp) {
-            return Some(&version.prepared);
+        let node = block.get(last?);
+        if node.is_at(stamp) {
+            return Some(node.into_record());
         }
         None
     }
@@ -259,7 +260,7 @@ impl Chains {
         let (last, here) = self.seek(block, chain, stamp);
         let before = last;
         if let Some(found) = self.record_at(block, chain, stamp, before) {
-            return if *found == *added {
+            return if found.is(added) {
                 Insert::Same
             } else {
                 Insert::Other
@@ -350,17 +351,7 @@ impl Chains {
             (record { prepared = prepared.now; committed = committed }) }
     {
         let rises = self.rises(block, chain, stamp_of(prepared), committed);
-        let node = Node {
-            tenant: self.tenant,
-            chain,
-            version: Version {
-                prepared: *prepared,
-                committed,
-            },
-        };
-        let Ok(slot) = block.put(node, here) else {
-            unreachable!()
-        };
+        let slot = block.put(self.tenant, chain, prepared, committed, here);
         self.used += 1;
         self.latest[chain as usize] = latest_of(rises, slot, self.latest[chain as usize]);
         match last {
@@ -393,7 +384,7 @@ impl Chains {
         ensures known { result < length self.now.heads }
         ensures place { result ≡ chain_in block.now kept.slot }
     {
-        block.get(kept.slot).chain
+        block.get(kept.slot).chain()
     }
 
     // Whether a version is committed and its stamp above those of the committed versions of a chain.
@@ -410,7 +401,7 @@ impl Chains {
         ensures { result ≡ is_past (latest_record block.now self.now chain) stamp }
     {
         match self.latest(block, chain) {
-            Some(latest) => latest.stamp < stamp,
+            Some(latest) => latest.stamp() < stamp,
             None => true,
         }
     }
@@ -431,7 +422,7 @@ impl Chains {
         let Some(slot) = last else {
             return false;
         };
-        if !block.get(slot).version.is_at(stamp) {
+        if !block.get(slot).is_at(stamp) {
             return false;
         }
         let kept = Kept {
@@ -457,7 +448,7 @@ impl Chains {
             ≡ map (marked_by kept.stamp) (chain_versions block.old self.old result) }
         ensures found { IsSome (at_stamp (chain_versions block.old self.old result) kept.stamp) }
     {
-        let chain = block.get(kept.slot).chain;
+        let chain = block.get(kept.slot).chain();
         let rises = self.is_past(block, chain, kept.stamp);
         block.mark(kept.slot);
         self.latest[chain as usize] = latest_of(rises, kept.slot, self.latest[chain as usize]);
@@ -465,12 +456,12 @@ impl Chains {
     }
 
     /// The committed record of the greatest stamp in a chain, if any is committed. It visits this one alone.
-    pub fn latest<'b>(&self, block: &'b Block, chain: u32) -> Option<&'b Record>
+    pub fn latest<'b>(&self, block: &'b Block, chain: u32) -> Option<StoredRecord<'b>>
         requires { HasChain block.now self.now chain }
-        ensures { option_copied result ≡ latest_record block.now self.now chain }
+        ensures { result ≡ latest_record block.now self.now chain }
     {
         let slot = self.latest[chain as usize]?;
-        Some(&block.get(slot).version.prepared)
+        Some(block.get(slot).into_record())
     }
 
     /// The stamp of the committed version before which `keep - 1` others stand in a chain, the latest first; `0.0` where
@@ -481,27 +472,27 @@ impl Chains {
             result ≡ stamp_of (slice_get committed (keep - 1)) }
     {
         match self.nth_committed(block, chain, keep.get() - 1) {
-            Some(found) => found.stamp,
+            Some(found) => found.stamp(),
             None => Stamp::ZERO,
         }
     }
 
     // The committed record before which so many others stand.
-    fn nth_committed<'b>(&self, block: &'b Block, chain: u32, index: u8) -> Option<&'b Record>
+    fn nth_committed<'b>(&self, block: &'b Block, chain: u32, index: u8) -> Option<StoredRecord<'b>>
         requires { HasChain block.now self.now chain }
         ensures { let committed = committed_records (chain_versions block.now self.now chain) in
-            option_copied result ≡ slice_get committed index }
+            result ≡ slice_get committed index }
     {
         let mut left = index;
         let mut here = self.heads[chain as usize];
         while let Some(slot) = here {
-            let version = &block.get(slot).version;
+            let node = block.get(slot);
             here = block.next(slot);
-            if !version.committed {
+            if !node.is_committed() {
                 continue;
             }
             if left == 0 {
-                return Some(&version.prepared);
+                return Some(node.into_record());
             }
             left -= 1;
         }
@@ -509,27 +500,33 @@ impl Chains {
     }
 
     /// The record of the greatest stamp in a chain, if it has any. It visits this one alone.
-    pub fn first<'b>(&self, block: &'b Block, chain: u32) -> Option<&'b Record>
+    pub fn first<'b>(&self, block: &'b Block, chain: u32) -> Option<StoredRecord<'b>>
         requires { HasChain block.now self.now chain }
-        ensures { option_copied result ≡ first_record (chain_versions block.now self.now chain) }
+        ensures { result ≡ first_record (chain_versions block.now self.now chain) }
     {
         let slot = self.heads[chain as usize]?;
-        Some(&block.get(slot).version.prepared)
+        Some(block.get(slot).into_record())
     }
 
     /// The version at a place of a chain, from 0, the latest first: its record, and whether it is committed. `None` past the
     /// chain's end. It visits the versions down to that one.
-    pub fn nth<'b>(&self, block: &'b Block, chain: u32, index: u32) -> Option<(&'b Record, bool)>
+    pub fn nth<'b>(
+        &self,
+        block: &'b Block,
+        chain: u32,
+        index: u32,
+    ) -> Option<(StoredRecord<'b>, bool)>
         requires { HasChain block.now self.now chain }
         ensures { lent_version result ≡ slice_get (chain_versions block.now self.now chain) index }
     {
         let mut left = index;
         let mut here = self.heads[chain as usize];
         while let Some(slot) = here {
-            let version = &block.get(slot).version;
+            let node = block.get(slot);
             here = block.next(slot);
             if left == 0 {
-                return Some((&version.prepared, version.committed));
+                let committed = node.is_committed();
+                return Some((node.into_record(), committed));
             }
             left -= 1;
         }
@@ -552,7 +549,7 @@ impl Chains {
         while let Some(slot) = here {
             let node = block.get(slot);
             here = block.next(slot);
-            list.push(&node.version)?;
+            list.push(&node.version())?;
         }
         Ok(())
     }
@@ -575,7 +572,7 @@ impl Chains {
         let mut here = first;
         while let Some(slot) = here {
             here = block.next(slot);
-            let stamp = stamp_of(&block.get(slot).version.prepared);
+            let stamp = block.get(slot).stamp();
             let before = last;
             self.unlink(block, chain, before, slot);
             self.kept.note_cut(stamp, slot);
@@ -655,7 +652,7 @@ impl Chains {
         if !is_held(block, self.tenant, &kept) {
             return 0;
         }
-        let chain = block.get(slot).chain;
+        let chain = block.get(slot).chain();
         self.discard(block, chain, stamp)
     }
 
@@ -673,8 +670,8 @@ impl Chains {
         let Some(slot) = here else {
             return 0;
         };
-        let version = &block.get(slot).version;
-        if version.committed || !version.is_at(stamp) {
+        let node = block.get(slot);
+        if node.is_committed() || !node.is_at(stamp) {
             return 0;
         }
         self.unlink(block, chain, last, slot);
@@ -704,7 +701,7 @@ impl Chains {
     {
         let next = block.next(here);
         let latest = self.latest_without(block, chain, here);
-        block.take(here);
+        block.free(here);
         self.used -= 1;
         self.latest[chain as usize] = latest;
         match last {
@@ -721,7 +718,7 @@ impl Chains {
             × IsPlace block.now self.now chain stamp last (Some here) }
         ensures { KeepsLatestBut block.now self.now chain here result }
     {
-        let stamp = stamp_of(&block.get(here).version.prepared);
+        let stamp = block.get(here).stamp();
         if self.is_latest(block, chain, stamp) {
             return self.committed_from(block, chain, block.next(here));
         }
@@ -734,7 +731,7 @@ impl Chains {
         ensures { result ≡ is_at (latest_record block.now self.now chain) stamp }
     {
         match self.latest(block, chain) {
-            Some(latest) => latest.stamp == stamp,
+            Some(latest) => latest.stamp() == stamp,
             None => false,
         }
     }
@@ -748,7 +745,7 @@ impl Chains {
     {
         let mut here = from;
         while let Some(slot) = here {
-            if block.get(slot).version.committed {
+            if block.get(slot).is_committed() {
                 return Some(slot);
             }
             here = block.next(slot);

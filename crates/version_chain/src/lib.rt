@@ -6,6 +6,7 @@ mod chains;
 mod kept_list;
 mod shared_block;
 mod stamp_list;
+mod stored;
 mod version;
 mod version_list;
 
@@ -13,5 +14,6 @@ pub use chain_list::ChainList;
 pub use chains::{Chains, Insert};
 pub use shared_block::Block;
 pub use stamp_list::Kept;
-pub use version::{Node, Version};
+pub use stored::StoredRecord;
+pub use version::Version;
 pub use version_list::VersionList;

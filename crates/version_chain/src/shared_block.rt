@@ -1,27 +1,37 @@
 //! The block of cells that tenants share.
-ghost use Rattle.std.specs.Prelude.{◌≡◌, ◌<◌, ◌≤◌, ◌↔◌, length, replicate, Some, None, IsTrue, IsOk, IfOk, IfErr, OnErr, slice_set};
+ghost use Rattle.std.specs.Prelude.{◌≡◌, ◌<◌, ◌≤◌, ◌↔◌, length, replicate, Some, None, IsTrue, IfOk, slice_set};
 ghost use Rattle.version_arena.specs.Arena.{entry, IsLive, live_count, next_beside, with_next};
+ghost use Rattle.version_chain.specs.Node.{Node};
+ghost use Rattle.version_chain.specs.declared.version.Version.{Version};
 ghost use Rattle.version_chain.specs.Chain.{IsMarkedAt};
 
-use crate::version::Node;
+use crate::stored::StoredNode;
+use crate::version::{Head, stamp_of};
+use packed::{BODY_ROOM, pack_body};
+use stamps::Record;
 use std::alloc::{AllocError, Global};
 use std::marker::Model;
-use version_arena::{Arena, Slot};
+use version_arena::{Arena, Slot, SlotBytes};
 
-/// One arena for the versions of all tenants that share it. Contracts see its cells.
+/// The versions of all tenants that share it: in one arena their heads, and by the same slots the bytes of their records, so that a version
+/// takes as much memory as it has bytes. Contracts see the cells, with the versions in them.
 ///
-/// Only `open` takes memory.
+/// A search of a chain reads heads alone. Only `open` takes memory; memory that no record was long enough for is never touched.
 #[derive(Drop)]
 pub struct Block {
-    cells: Arena<Node>,
+    pub(crate) heads: Arena<Head>,
+    pub(crate) bodies: SlotBytes,
 }
 
 impl Model for Block {
     ghost use Rattle.version_chain.specs.Chain.{Cells};
+    ghost use Rattle.version_chain.specs.Stored.{stored_cells, AreStored};
 
     ghost Value = { Cells };
 
-    ghost view = { λ b. b.cells };
+    ghost view = { λ b. stored_cells b.heads b.bodies };
+
+    ghost invariant = { λ b. AreStored b.heads b.bodies };
 }
 
 impl Block {
@@ -35,7 +45,8 @@ impl Block {
         ensures { IfOk result (λ block. block ≡ replicate cells None) }
     {
         Ok(Block {
-            cells: Arena::with_cells(alloc, cells)?,
+            heads: Arena::with_cells(alloc, cells)?,
+            bodies: SlotBytes::with_slots(alloc, cells)?,
         })
     }
 
@@ -43,38 +54,55 @@ impl Block {
     pub(crate) fn is_live(&self, slot: Slot) -> bool
         ensures { IsTrue result ↔ IsLive self.now slot }
     {
-        self.cells.is_live(slot)
+        self.heads.is_live(slot)
     }
 
-    /// Puts a version into a free cell, before the one in the slot `next`, and answers its slot. Where all cells are live
-    /// it hands it back, and nothing changes.
-    pub(crate) fn put(&mut self, node: Node, next: Option<Slot>) -> Result<Slot, Node>
-        ensures was_free { IfOk result (λ slot. (slot < length self.old)
-            × (entry self.old slot ≡ None)) }
-        ensures put { IfOk result (λ slot. self.new ≡ slice_set self.old slot (Some (node, next))) }
-        ensures full { OnErr result (live_count self.old ≡ length self.old) }
-        ensures succeeds { live_count self.old < length self.old → IsOk result }
-        ensures returned { IfErr result (λ back. back ≡ node) }
-        ensures unchanged { OnErr result (self.new ≡ self.old) }
+    /// Puts a version of a record into a free cell, of which there is one, before the version in the slot `next`. It answers the
+    /// cell's slot.
+    pub(crate) fn put(
+        &mut self,
+        tenant: u32,
+        chain: u32,
+        prepared: &Record,
+        committed: bool,
+        next: Option<Slot>,
+    ) -> Slot
+        requires { live_count self.old < length self.old }
+        ensures was_free { (result < length self.old) × (entry self.old result ≡ None) }
+        ensures put { let version : Version = record { prepared = prepared.now; committed = committed } in
+            let node : Node = record { version = version; tenant = tenant; chain = chain } in
+            self.new ≡ slice_set self.old result (Some (node, next)) }
     {
-        self.cells.put(node, next)
+        let mut body = [0; BODY_ROOM];
+        let len = pack_body(&mut body, prepared);
+        let head = Head {
+            stamp: stamp_of(prepared),
+            tenant,
+            chain,
+            len: len as u16,
+            committed,
+        };
+        let Ok(slot) = self.heads.put(head, next) else {
+            unreachable!()
+        };
+        self.bodies.put(slot, &body, len);
+        slot
     }
 
     /// Takes a version out of its cell, which is free from then on. No other cell changes.
-    pub(crate) fn take(&mut self, slot: Slot) -> Node
+    pub(crate) fn free(&mut self, slot: Slot)
         requires { IsLive self.old slot }
-        ensures value { entry self.old slot ≡ Some (result, next_beside self.old slot) }
-        ensures freed { self.new ≡ slice_set self.old slot None }
+        ensures { self.new ≡ slice_set self.old slot None }
     {
-        self.cells.take(slot)
+        self.heads.take(slot);
     }
 
-    /// The version in a live cell.
-    pub(crate) fn get(&self, slot: Slot) -> &Node
+    /// The version in a live cell, where it lies.
+    pub(crate) fn get(&self, slot: Slot) -> StoredNode<'_>
         requires { IsLive self.now slot }
-        ensures { entry self.now slot ≡ Some (result.now, next_beside self.now slot) }
+        ensures { entry self.now slot ≡ Some (result, next_beside self.now slot) }
     {
-        self.cells.get(slot)
+        StoredNode::of(self, slot)
     }
 
     /// The slot of the version after the one in a live cell.
@@ -82,7 +110,7 @@ impl Block {
         requires { IsLive self.now slot }
         ensures { result ≡ next_beside self.now slot }
     {
-        self.cells.next(slot)
+        self.heads.next(slot)
     }
 
     /// Writes the slot of the version after the one in a live cell. The version stays, and no other cell changes.
@@ -90,7 +118,7 @@ impl Block {
         requires { IsLive self.old slot }
         ensures { self.new ≡ slice_set self.old slot (with_next (entry self.old slot) next) }
     {
-        self.cells.set_next(slot, next);
+        self.heads.set_next(slot, next);
     }
 
     /// Marks the version in a live cell as committed. No other cell changes.
@@ -98,7 +126,7 @@ impl Block {
         requires { IsLive self.old slot }
         ensures { IsMarkedAt self.old self.new slot }
     {
-        let node = self.cells.get_mut(slot);
-        node.version.committed = true;
+        let head = self.heads.get_mut(slot);
+        head.committed = true;
     }
 }

@@ -258,7 +258,7 @@ pub(crate) fn is_held(block: &Block, tenant: u32, kept: &Kept) -> bool
         return false;
     }
     let node = block.get(kept.slot);
-    node.tenant == tenant && node.version.is_at(kept.stamp)
+    node.tenant() == tenant && node.is_at(kept.stamp)
 }
 
 // Merges versions into those at the front of a list, behind which there are as many places. From the back on it puts

@@ -1,5 +1,5 @@
 // What a cell of a chain holds.
-ghost use Rattle.std.specs.Prelude.{◌≡◌, ◌==◌, nat_lt};
+ghost use Rattle.std.specs.Prelude.{◌≡◌, nat_lt};
 ghost use Rattle.version_chain.specs.Place.{least_of};
 
 use stamps::{Record, Stamp};
@@ -17,20 +17,6 @@ pub(crate) fn stamp_of(prepared: &Record) -> Stamp
     ensures { result ≡ prepared.now.stamp }
 {
     prepared.stamp
-}
-
-impl Version {
-    pub(crate) fn is_at(&self, stamp: Stamp) -> bool
-        ensures { result ≡ (self.now.prepared.stamp == stamp) }
-    {
-        self.prepared.stamp == stamp
-    }
-
-    pub(crate) fn is_below(&self, bound: &Bound) -> bool
-        ensures { result ≡ nat_lt self.now.prepared.stamp (least_of bound.now) }
-    {
-        bound.excludes(self.prepared.stamp)
-    }
 }
 
 /// Which stamps are looked for: those from one on, or those above one.
@@ -53,14 +39,17 @@ impl Bound {
     }
 }
 
-/// A version beside the tenant whose it is, and the chain that it stands in. So whose a live slot is stands in the slot
-/// itself.
-#[derive(Clone, Copy, PartialEq, Eq)]
-pub struct Node {
-    /// The version. It stands first, so that where a node is written its record is copied once.
-    pub version: Version,
+/// What a cell of a chain holds of a version; the bytes of its record lie beside it. Whose a live slot is stands in the slot itself.
+#[derive(Clone, Copy)]
+pub(crate) struct Head {
+    /// The stamp of the version.
+    pub(crate) stamp: Stamp,
     /// The number of the tenant.
-    pub tenant: u32,
+    pub(crate) tenant: u32,
     /// The number of the chain, among those of the tenant.
-    pub chain: u32,
+    pub(crate) chain: u32,
+    /// How many bytes the record has without its stamp, `MAX_BODY_BYTES` at most.
+    pub(crate) len: u16,
+    /// Whether the version is marked as committed.
+    pub(crate) committed: bool,
 }

@@ -1,6 +1,6 @@
 -- What a server reports about itself, and what one did that the words ask for.
 use Rattle.std.specs.Prelude.{◌≡◌, ◌⊎◌, ℕ, ◌<◌, ◌≤◌, ◌^◌, ◌++◌, length, List, Option, Result, Ok, Err, IfOk, IfErr, OnOk}
-use Rattle.std.specs.Prelude.{Bool, IsTrue, codes, decimal, false, if◌then◌else◌, map, nat_lt, take}
+use Rattle.std.specs.Prelude.{Bool, IsTrue, codes, decimal, false, true, if◌then◌else◌, map, nat_lt, not, take}
 use Rattle.std.specs.Io.KnownBytes.{Appends, Keeps}
 use Rattle.stamps.specs.Bounds.{IsParts}
 use Rattle.stamps.specs.declared.bounds.Limits.{Limits}
@@ -58,10 +58,10 @@ TellsPortFor asked old new ended = (port : ℕ) × IsPortFor asked port × Tells
 abbrev pub HasHistory : Closed → Type 0
 HasHistory closed = ∥ ((seen : List HistoryEntry) × IsOfHistory seen closed) ∥₁
 
--- What the close of a hub of this config answers: that config, and for each of its partitions, in their order, sound
+-- What the close of a hub of this config answers, whether it kept journals or not: that config, and for each of its partitions, in their order, sound
 -- journals of its tenants, or none, and the counts of their events. It is all of the history of the store that was served.
 pub record IsClosed (view : ConfigView) (closed : Closed) : Type 0 where
-  pub config : config_view closed.config ≡ view
+  pub config : config_view closed.config ≡ record view { journals = true }
   pub parts : length closed.journals.items ≡ view.parts
   pub books : AllSoundBooks view 0 closed.journals.items closed.counts.items
   pub history : HasHistory closed
@@ -132,14 +132,20 @@ HasServed unrecorded view names old new (Err fault) =
     HasListened old new (Err fault) ⊎ HasClosed unrecorded view names old new (Err fault)
 
 -- A store of so many partitions and a tenant of these limits for each name. As many calls may wait at a partition, and
--- it is collected after so many; a journal is cut after so many events, or never.
+-- it is collected after so many. It keeps journals, and one is cut after so many events, or never.
 abbrev pub store_view : ℕ → Limits → List (List ℕ) → ℕ → ℕ → ℕ → ConfigView
 store_view parts limits names queue every epoch =
-    record { parts = parts; limits = map (λ name. limits) names; queue = queue; every = every; epoch = epoch }
+    record { parts = parts; limits = map (λ name. limits) names; queue = queue; every = every; epoch = epoch; journals = true }
 
--- after how many events a journal of such a server is cut: one that records nothing cuts it after a number of the program's
+-- After how many events a journal of such a server is cut. One that records nothing has no journal, and seats that are as where one is
+-- cut.
 abbrev pub server_epoch : ServerOptions → ℕ
-server_epoch options = if options.unrecorded then 5000 else options.epoch
+server_epoch options = if options.unrecorded then 1 else options.epoch
+
+-- that of a server with these options, which keeps journals unless it records nothing
+abbrev pub server_view : ℕ → Limits → List (List ℕ) → ServerOptions → ConfigView
+server_view parts limits names options =
+    record (store_view parts limits names options.queue options.every (server_epoch options)) { journals = not options.unrecorded }
 
 -- the words ask for a server, which ended so
 abbrev pub RunsServer : List (List ℕ) → Option (List ℕ) → Option (List ℕ) → Result (Unit {0}) ProgramFault → Type 0
@@ -147,7 +153,7 @@ RunsServer words old new ended =
     (parts : ℕ) × (limits : Limits) × (names : List (List ℕ)) × (options : ServerOptions)
     × AsksForServer words parts limits names options
     × HasServed options.unrecorded
-    (store_view parts limits names options.queue options.every (server_epoch options)) names old new ended
+    (server_view parts limits names options) names old new ended
     × TellsPortFor options.port old new ended
 
 -- the server wrote so, and told a port as is asked

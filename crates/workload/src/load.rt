@@ -1,5 +1,5 @@
 //! A load: seats that put, get and search as they draw it, and the verdict over what they were answered.
-ghost use Rattle.std.specs.Prelude.{◌≡◌, ◌≤◌, ◌<◌, length};
+ghost use Rattle.std.specs.Prelude.{◌≡◌, ◌≤◌, ◌<◌, length, true};
 ghost use Rattle.stamps.specs.Limits.{max_seats};
 ghost use Rattle.workload.specs.Rounds.{AreOfSeats, seats_of};
 ghost use Rattle.hub.specs.Hubs.{config_view};
@@ -143,6 +143,7 @@ fn run_new<
     orders: Orders,
 ) -> Result<Closed, ProgramFault>
     requires seats { seats ≤ max_seats }
+    requires journals { store.journals ≡ true }
     requires name { store.history.seen.book ≡ J.book }
     ensures { DoneOrRefused (λ closed. IsClosed (config_view store.config) closed
         × AreOfSeats orders.seed orders.rounds orders.keys

@@ -1,7 +1,7 @@
 //! A server: sessions over TCP, and the verdicts over the store that they left.
-ghost use Rattle.std.specs.Prelude.{◌≡◌, ◌<◌, ◌≤◌, ◌⊎◌, cond, false, true, Ok, Err, IfOk, IfErr, string_bytes};
+ghost use Rattle.std.specs.Prelude.{◌≡◌, ◌<◌, ◌≤◌, ◌⊎◌, cond, false, not, true, Ok, Err, IfOk, IfErr, string_bytes};
 ghost use Rattle.line_runs.specs.declared.fault.ProgramFault.TheVariants.{Device, OutOfMemory as NoMemory};
-ghost use Rattle.hub.specs.Hubs.{config_view};
+ghost use Rattle.hub.specs.Hubs.{config_view, view_with};
 ghost use Rattle.workload.specs.Serving.{DoneOrRefused, IsAskedFor, IsClosed, IsFaultBefore, ServesAndTells, TellsOfPort, TellsPortFirst, TellsPortFor, greater_fault, listening_line};
 ghost use Rattle.server_sessions.specs.Histories.{IsOfHistory};
 ghost use Rattle.server_sessions.specs.Ports.{IsServerOf, listener_of, most_of, options_of, port_of, stays_of, tenants_of, transcripts_of};
@@ -49,8 +49,8 @@ struct Reporting<'s> {
 /// while the store goes on; the partition's worker waits where two are left to be checked. At the end the lines are those of
 /// `tell_checks`, over these epochs and what is left.
 ///
-/// Where the options say that it records nothing, what is cut off a journal is dropped, and nothing is checked: the lines are then
-/// those of `tell_served`, how many lines of each tenant were answered. Journals are to be cut for memory to stay level.
+/// Where the options say that it records nothing, the store keeps no journals, and nothing is checked: the lines are then those of
+/// `tell_served`, how many lines of each tenant were answered.
 ///
 /// Where the options have a status port, that reports meanwhile how the server stands.
 ///
@@ -80,8 +80,8 @@ pub fn run_server<
     reader: &mut R,
     writer: &mut W,
 ) -> Result<(), ProgramFault>
-    ensures { ServesAndTells options.unrecorded (config_view config) names.now
-        (TellsPortFor options.port) (W.contents writer.old) (W.contents writer.new) result }
+    ensures { ServesAndTells options.unrecorded (view_with config (not options.unrecorded))
+        names.now (TellsPortFor options.port) (W.contents writer.old) (W.contents writer.new) result }
 {
     let Ok(listener) = Listener::bind(rt, options.port) else {
         return Err(ProgramFault::Device);
@@ -89,7 +89,7 @@ pub fn run_server<
     let status = bind_status(rt, options.status)?;
     let ports = Ports { listener, status };
     if options.unrecorded {
-        let store = NewStore::of(config);
+        let store = NewStore::of(config).without_journals();
         serve_unrecorded::<Brand, H, R, W>(rt, alloc, store, names, ports, options, reader, writer)
     } else if config.epoch == 0 {
         let store = NewStore::of(config);
@@ -175,6 +175,7 @@ fn serve_and_settle<
     reader: &mut R,
     writer: &mut W,
 ) -> Result<(), ProgramFault>
+    requires journals { store.journals ≡ true }
     requires kept { store.config.epoch ≡ 0 }
     requires name { store.history.seen.book ≡ J.book }
     ensures { ServesAndTells false (config_view store.config) names.now
@@ -216,6 +217,7 @@ fn serve_and_check<
     reader: &mut R,
     writer: &mut W,
 ) -> Result<(), ProgramFault>
+    requires journals { store.journals ≡ true }
     requires cut { 0 < store.config.epoch }
     requires name { store.history.seen.book ≡ J.book }
     ensures { ServesAndTells false (config_view store.config) names.now
@@ -241,8 +243,7 @@ fn serve_and_check<
     ended_after(before, ended)
 }
 
-// Serves a store of which nothing is recorded: what is cut off its journals is dropped. It reports how many lines were
-// answered.
+// Serves a store that keeps no journals. It reports how many lines were answered.
 fn serve_unrecorded<
     J: Naming + Send + Sync + Drop + 'static,
     H: Threads + Wait + Clock + Clone + Send + Sync + Drop + 'static,
@@ -258,8 +259,9 @@ fn serve_unrecorded<
     reader: &mut R,
     writer: &mut W,
 ) -> Result<(), ProgramFault>
+    requires journals { store.journals ≡ false }
     requires name { store.history.seen.book ≡ J.book }
-    ensures { ServesAndTells true (config_view store.config) names.now
+    ensures { ServesAndTells true (view_with store.config false) names.now
         (TellsPortFirst (port_of ports.listener))
         (W.contents writer.old) (W.contents writer.new) result }
 {
@@ -326,7 +328,7 @@ fn open_checked<
     H: Threads + Wait + Clone + Send + Sync + Drop + 'static,
 >(rt: &H, alloc: Global, store: NewStore) -> Result<(OpenHub<J>, Checking), ProgramFault>
     requires { store.history.seen.book ≡ J.book }
-    ensures { DoneOrRefused (λ r. r.0 ≡ config_view store.config) result }
+    ensures { DoneOrRefused (λ r. r.0 ≡ view_with store.config store.journals) result }
 {
     let limits = store.config.limits.as_slice();
     let (checking, checker) = match Checking::start(rt, alloc, store.config.parts, limits) {
@@ -351,7 +353,7 @@ pub(crate) fn open_hub<
     H: Threads + Wait + Clone + Send + Drop + 'static,
 >(rt: &H, alloc: Global, store: NewStore, sink: S) -> Result<OpenHub<J>, ProgramFault>
     requires { store.history.seen.book ≡ J.book }
-    ensures { DoneOrRefused (λ hub. hub ≡ config_view store.config) result }
+    ensures { DoneOrRefused (λ hub. hub ≡ view_with store.config store.journals) result }
 {
     match Hub::open(rt, alloc, store, Named::<J, Open>::new(Open), sink) {
         Ok(hub) => Ok(hub),

@@ -4,7 +4,7 @@ ghost use Rattle.std.specs.Io.KnownBytes.{Keeps};
 ghost use Rattle.line_runs.specs.declared.fault.ProgramFault.{ProgramFault as Fault};
 ghost use Rattle.workload.specs.Program.{Runs, ended_as};
 ghost use Rattle.workload.specs.Loading.{HasLoaded, RunsLoad, load_view};
-ghost use Rattle.workload.specs.Serving.{IsAskedStore, IsPace, RunsServer, ServesAndTells, TellsPortFor, server_epoch, store_view};
+ghost use Rattle.workload.specs.Serving.{IsAskedStore, IsPace, RunsServer, ServesAndTells, TellsPortFor, server_epoch, server_view, store_view};
 ghost use Rattle.line_runs.specs.Statuses.{IsHelpStatus, exit_status};
 ghost use Rattle.command_line.specs.Words.{AsksForHelp, AsksForVersion};
 ghost use Rattle.hub.specs.Hubs.{config_view};
@@ -33,8 +33,8 @@ use std::time::Clock;
 ///   named twice, which have the same limits.
 /// - `ramp serve` takes what `ramp sim` takes, and `[--port N] [--sessions N] [--stay] [--strict] [--newest] [--unrecorded] [--queue N]
 ///   [--every N] [--epoch N] [--status N]`, and serves sessions of the tenants over TCP, as [`run_server`] says. With `--stay` the number of sessions
-///   is of those at a time. With `--unrecorded` it keeps no record and has no verdict. With `--strict` a line that can't be read ends a connection that has no seat. With `--newest` each put reads its
-///   keys first.
+///   is of those at a time. With `--unrecorded` it keeps no record and has no verdict. With `--strict` a line that can't be read ends a connection that has no seat. With `--newest` each put is
+///   above what was done before it, by the clock of its tenant.
 /// - `ramp load` takes what `ramp sim` takes, `--queue`, `--every` and `--epoch`, and `[--seats N] [--rounds N] [--seed N] [--keys N]`, and
 ///   runs seats of the tenants, as [`run_load`] says: no more of a tenant than it has clients.
 ///
@@ -150,8 +150,8 @@ fn serve_store<
 ) -> Result<(), ProgramFault>
     requires { IsAskedStore store.now }
     ensures { let names = store.now.names.items in
-        ServesAndTells options.unrecorded (store_view store.now.parts store.now.limits names
-        options.queue options.every (server_epoch options)) names (TellsPortFor options.port)
+        ServesAndTells options.unrecorded (server_view store.now.parts store.now.limits names
+        options) names (TellsPortFor options.port)
         (W.contents writer.old) (W.contents writer.new) result }
 {
     let epoch = epoch_of(options);
@@ -160,8 +160,9 @@ fn serve_store<
     run_server(rt, alloc, config, names, options, reader, writer)
 }
 
-/// After how many events a journal is cut of a server that records nothing: until then they take memory, up to 1.4 KB each.
-const UNRECORDED_EPOCH: u32 = 5000;
+/// A server that records nothing has no journal to cut. Its seats keep no transcript and put by their tenant's clock, as where journals
+/// are cut, and this number says so to them.
+const UNRECORDED_EPOCH: u32 = 1;
 
 // After how many events a journal is cut.
 fn epoch_of(options: ServerOptions) -> u32

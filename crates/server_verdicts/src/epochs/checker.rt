@@ -1,10 +1,11 @@
 //! Epochs that are checked while a store runs, by a thread for each partition.
-ghost use Rattle.std.specs.Prelude.{◌≡◌, ◌⊎◌, ◌<◌, ◌≤◌, ◌+◌, IfNone, IfOk, IfSome, IsSomeAnd, OnErr, OnOk, None, Some, [], length, slice_get, vec_len, vec_capacity};
+ghost use Rattle.std.specs.Prelude.{◌≡◌, ◌⊎◌, ◌<◌, ◌≤◌, ◌+◌, ℕ, IfNone, IfOk, IfSome, IsSomeAnd, IsTrue, OnErr, OnOk, None, Some, [], length, slice_get, vec_len, vec_capacity};
 ghost use Rattle.std.specs.Arc.{arc_value};
 ghost use Rattle.server_verdicts.specs.Rows.{HavePlaces, at_place};
 ghost use Rattle.partition.specs.declared.journal.Epoch.{Epoch as Cut};
 ghost use Rattle.shard.specs.Journals.{WasCut};
 ghost use Rattle.server_verdicts.specs.declared.epochs.checked.CheckProgress.{CheckProgress as ItsProgress};
+ghost use Rattle.server_verdicts.specs.declared.epochs.checked.Checked.{Checked as KnownAtLast};
 
 use crate::epochs::{CheckProgress, Checked, TakenEpoch};
 use crossbeam_channel::{Receiver, Sender, bounded};
@@ -24,12 +25,17 @@ pub type Known = Vec<Vec<Mutex<Checked>>>;
 
 /// What is known of one journal, as threads share it.
 ///
-/// `has_taken` and `has_told` stand for what these calls leave. An implementation need not say what they are. Code for any journal
-/// learns them from these calls alone, so a contract that names them says that this one took the epoch, or told its progress.
+/// `has_taken`, `has_told`, `has_lost` and `has_ended` stand for what these calls leave. An implementation need not say what they are. Code
+/// for any journal learns them from these calls alone, so a contract that names them says that this one took the epoch, told its progress,
+/// lost an epoch, or gave what was known of it at last.
 pub trait JournalChecks {
     ghost has_taken: { Self → Cut → Type 0 } = { λ _ _. Unit {0} };
 
     ghost has_told: { Self → ItsProgress → Type 0 } = { λ _ _. Unit {0} };
+
+    ghost has_lost: { Self → Type 0 } = { λ _. Unit {0} };
+
+    ghost has_ended: { Self → KnownAtLast → Type 0 } = { λ _ _. Unit {0} };
 
     /// Takes the epoch that comes next, as `Checked::take` does. It waits for the lock.
     fn take_next<R: Wait>(&self, rt: &R, alloc: Global, epoch: Epoch) -> TakenEpoch
@@ -39,6 +45,14 @@ pub trait JournalChecks {
     /// How far its checks have come. It waits where one of its epochs is being checked.
     fn progress_now<R: Wait>(&self, rt: &R) -> CheckProgress
         ensures { has_told self.now result };
+
+    /// Loses it, as `Checked::lose` does: an epoch of it did not come to be checked. It waits for the lock.
+    fn lose_epoch<R: Wait>(&self, rt: &R)
+        ensures { has_lost self.now };
+
+    /// What is known of it at last, once no thread has it any more.
+    fn into_checked(self) -> Checked
+        ensures { has_ended self result };
 }
 
 impl JournalChecks for Mutex<Checked> {
@@ -49,27 +63,66 @@ impl JournalChecks for Mutex<Checked> {
     fn progress_now<R: Wait>(&self, rt: &R) -> CheckProgress {
         self.lock(rt).progress()
     }
+
+    fn lose_epoch<R: Wait>(&self, rt: &R) {
+        self.lock(rt).lose();
+    }
+
+    fn into_checked(self) -> Checked {
+        self.into_inner()
+    }
 }
 
 /// An epoch that was cut, with its journal's partition and tenant, on its way to the thread that checks it.
 #[derive(Drop)]
-struct QueuedEpoch {
+pub struct QueuedEpoch {
     partition: u32,
     tenant: u32,
     epoch: Epoch,
     ghost was_cut: { WasCut partition tenant epoch },
 }
 
+/// An epoch that came to the thread that checks it. It cannot be dropped: `check_one` alone takes it.
+struct ComeEpoch {
+    partition: u32,
+    tenant: u32,
+    epoch: Epoch,
+    ghost was_cut: { WasCut partition tenant epoch },
+}
+
+/// Where the epochs of a partition wait for the thread that checks them.
+///
+/// `has_come` stands for what an epoch that was sent leaves. An implementation need not say what it is. Code for any queue learns it from
+/// this call alone, so a contract that names it says that the epoch was sent there.
+pub trait EpochQueue {
+    ghost has_come: { Self → ℕ → ℕ → Cut → Type 0 } = { λ _ _ _ _. Unit {0} };
+
+    /// Sends an epoch, and says whether it did. It waits where as many as may be are waiting there.
+    fn send_epoch<R: Wait>(&self, rt: &R, cut: QueuedEpoch) -> bool
+        ensures { IsTrue result → has_come self.now cut.partition cut.tenant cut.epoch };
+}
+
+impl EpochQueue for Sender<QueuedEpoch> {
+    fn send_epoch<R: Wait>(&self, rt: &R, cut: QueuedEpoch) -> bool {
+        self.send(rt, cut).is_ok()
+    }
+}
+
 /// A sink that hands each epoch to the thread that checks its partition's. It waits where as many as may be are waiting there:
 /// none is passed over. Of a journal one of whose epochs could not be handed over, nothing is known any more.
 #[derive(Drop)]
-pub struct Checker<H> {
+pub struct Checker<H, Q = Sender<QueuedEpoch>, C = Mutex<Checked>> {
     rt: H,
-    known: Arc<Known>,
-    queues: Vec<Sender<QueuedEpoch>>,
+    known: Arc<Vec<Vec<C>>>,
+    queues: Vec<Q>,
 }
 
-impl<H: Wait> Sink for Checker<H> {
+impl<H: Wait, Q: EpochQueue, C: JournalChecks> Sink for Checker<H, Q, C> {
+    ghost use Rattle.std.specs.Arc.{arc_value};
+    ghost use Rattle.server_verdicts.specs.Checks.{IsHandedOn};
+
+    ghost has_taken = { λ checker partition tenant epoch. IsHandedOn Q.has_come C.has_lost checker.queues.items (arc_value checker.known).items partition tenant epoch };
+
     fn epoch<J: Naming>(&self, partition: u32, tenant: u32, epoch: Epoch, _seen: &Front<J>) {
         let Some(queue) = self.queue_of(partition) else {
             return;
@@ -79,17 +132,18 @@ impl<H: Wait> Sink for Checker<H> {
             tenant,
             epoch,
         };
-        if queue.send(&self.rt, cut).is_err()
-            && let Some(checked) = journal_of(&*self.known, partition, tenant)
-        {
-            checked.lock(&self.rt).lose();
+        if queue.send_epoch(&self.rt, cut) {
+            return;
+        }
+        if let Some(checked) = journal_of(&*self.known, partition, tenant) {
+            checked.lose_epoch(&self.rt);
         }
     }
 }
 
-impl<H> Checker<H> {
-    /// The end that sends to the thread of a partition, if that is there.
-    fn queue_of(&self, partition: u32) -> Option<&Sender<QueuedEpoch>>
+impl<H, Q, C> Checker<H, Q, C> {
+    /// The queue of the thread of a partition, if that is there.
+    fn queue_of(&self, partition: u32) -> Option<&Q>
         ensures there { IfSome result (λ queue. slice_get self.now.queues.items partition
             ≡ Some queue.now) }
         ensures not_there { IfNone result (slice_get self.now.queues.items partition ≡ None) }
@@ -219,31 +273,49 @@ fn join_all<H: Threads>(rt: &H, threads: Vec<JoinHandle<()>>) -> usize
 /// Checks each epoch that comes, in the order in which they come, until no end sends any more and none is left.
 fn check_all<H: Wait>(rt: &H, alloc: Global, cuts: &Receiver<QueuedEpoch>, known: &Known) {
     for _ in rt.forever() {
-        let Ok(cut) = cuts.recv(rt) else {
+        let Some(come) = next_epoch(rt, cuts) else {
             break;
         };
-        let _taken = check_one(rt, alloc, cut, known);
+        let _taken = check_one(rt, alloc, come, known);
     }
+}
+
+/// The next epoch that comes. None once no end sends any more and none is left.
+fn next_epoch<H: Wait>(rt: &H, cuts: &Receiver<QueuedEpoch>) -> Option<ComeEpoch> {
+    let Ok(cut) = cuts.recv(rt) else {
+        return None;
+    };
+    let QueuedEpoch {
+        partition,
+        tenant,
+        epoch,
+    } = cut;
+    Some(ComeEpoch {
+        partition,
+        tenant,
+        epoch,
+    })
 }
 
 /// Has what is known of the epoch's journal take it, and answers the receipt; none where there is no such journal.
 fn check_one<C: JournalChecks, H: Wait>(
     rt: &H,
     alloc: Global,
-    cut: QueuedEpoch,
+    come: ComeEpoch,
     known: &Vec<Vec<C>>,
 ) -> Option<TakenEpoch>
-    ensures taken { IfSome result (λ taken. taken.number ≡ cut.epoch.number) }
+    ensures taken { IfSome result (λ taken. taken.number ≡ come.epoch.number) }
     ensures took { IfSome result (λ _.
-        IsSomeAnd (at_place known.now.items cut.partition cut.tenant)
-        (λ its. C.has_taken its cut.epoch)) }
-    ensures none { IfNone result (at_place known.now.items cut.partition cut.tenant ≡ None) }
+        IsSomeAnd (at_place known.now.items come.partition come.tenant)
+        (λ its. C.has_taken its come.epoch)) }
+    ensures none { IfNone result
+        (at_place known.now.items come.partition come.tenant ≡ None) }
 {
-    let QueuedEpoch {
+    let ComeEpoch {
         partition,
         tenant,
         epoch,
-    } = cut;
+    } = come;
     let checked = journal_of(known, partition, tenant)?;
     Some(checked.take_next(rt, alloc, epoch))
 }

@@ -1,10 +1,10 @@
 //! Whether the journals that were left of a store are right.
 ghost use Rattle.std.specs.Prelude.{◌≡◌, ◌≤◌, IfErr, IfOk, MatchBool, Some, length, slice_get};
 ghost use Rattle.stamps.specs.Limits.{max_tenants};
-ghost use Rattle.server_verdicts.specs.Judged.{AreLeft, AreLeftIn, IsCheckedAs, IsCheckedIn, IsRight, IsRightIn, IsUncheckedIn, IsUntold, IsUntoldIn, IsWrong, IsWrongIn, TellsChecks};
+ghost use Rattle.server_verdicts.specs.Judged.{AreEnded, AreEndedIn, AreLeft, AreLeftIn, IsCheckedAs, IsCheckedIn, IsEndedAs, IsRight, IsRightIn, IsUncheckedIn, IsUntold, IsUntoldIn, IsWrong, IsWrongIn, TellsChecks, known_there};
 ghost use Rattle.closed_store.specs.Joins.{left_in};
 
-use crate::epochs::{Checked, Ending, LastEpochs, Standing};
+use crate::epochs::{Checked, Ending, JournalChecks, LastEpochs, Standing};
 use crate::verdict::{Judge, tell_all};
 use line_protocol::Name;
 use line_runs::ProgramFault;
@@ -13,7 +13,6 @@ use plain_store::OutOfMemory;
 use stamps::Limits;
 use std::alloc::{AllocError, Global};
 use std::io::Write;
-use std::sync::Mutex;
 
 impl Judge for LastEpochs {
     ghost is_verdict = { IsCheckedAs };
@@ -100,46 +99,65 @@ fn is_right(alloc: Global, ending: &Ending, limits: &Limits) -> Result<bool, Out
 }
 
 /// What was left of the journals of a store with tenants of these limits, row by row with what is known of each.
-pub fn endings_of(
+pub fn endings_of<C: JournalChecks + Drop>(
     alloc: Global,
     limits: Vec<Limits>,
     journals: Vec<Vec<Journal>>,
-    known: Vec<Vec<Mutex<Checked>>>,
+    known: Vec<Vec<C>>,
 ) -> Result<LastEpochs, AllocError>
     requires few { length limits.items ≤ max_tenants }
     ensures limits { IfOk result (λ endings. endings.limits.items ≡ limits.items) }
     ensures left { IfOk result (λ endings. AreLeft journals.items endings.rows.items) }
+    ensures known { IfOk result
+        (λ endings. AreEnded C.has_ended known.items endings.rows.items) }
 {
     let mut rows = Vec::with_capacity(alloc, journals.len())?;
     let mut known = known.into_iter();
     for row in journals {
-        let known = match known.next() {
-            Some(known) => known,
-            None => Vec::new(alloc),
-        };
-        rows.push(row_of(alloc, row, known)?)?;
+        let next = known.next();
+        let its = known_or_none(alloc, next);
+        rows.push(row_of(alloc, row, its)?)?;
     }
     Ok(LastEpochs { limits, rows })
 }
 
 /// What was left of the journals of a partition, with what is known of each.
-fn row_of(
+fn row_of<C: JournalChecks + Drop>(
     alloc: Global,
     journals: Vec<Journal>,
-    known: Vec<Mutex<Checked>>,
+    known: Vec<C>,
 ) -> Result<Vec<Ending>, AllocError>
-    ensures { IfOk result (λ row. AreLeftIn journals.items row.items) }
+    ensures left { IfOk result (λ row. AreLeftIn journals.items row.items) }
+    ensures known { IfOk result (λ row. AreEndedIn C.has_ended known.items row.items) }
 {
     let mut row = Vec::with_capacity(alloc, journals.len())?;
     let mut known = known.into_iter();
     for journal in journals {
-        let checked = match known.next() {
-            Some(checked) => checked.into_inner(),
-            None => Checked::unknown(alloc, &journal.limits),
-        };
+        let its = known.next();
+        let checked = checked_of(alloc, its, &journal.limits);
         row.push(ending_of(journal, checked))?;
     }
     Ok(row)
+}
+
+/// What is known of the journals of a partition, of which it may be that nothing was kept.
+fn known_or_none<C>(alloc: Global, known: Option<Vec<C>>) -> Vec<C>
+    ensures { result.items ≡ known_there known }
+{
+    match known {
+        Some(known) => known,
+        None => Vec::new(alloc),
+    }
+}
+
+/// What is known at last of a journal under these limits. It is unknown how its epochs were where nothing was kept of it.
+fn checked_of<C: JournalChecks>(alloc: Global, known: Option<C>, limits: &Limits) -> Checked
+    ensures { IsEndedAs C.has_ended known result }
+{
+    match known {
+        Some(its) => its.into_checked(),
+        None => Checked::unknown(alloc, limits),
+    }
 }
 
 /// What was left of a journal of which this is known.

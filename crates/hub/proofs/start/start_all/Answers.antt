@@ -6,7 +6,7 @@ use Rattle.std.specs.declared.sync.Arc.{Arc}
 use Rattle.std.specs.declared.alloc.Global.{Global}
 use Rattle.shard.specs.declared.shard.Shard.{Shard}
 use Rattle.shard.specs.Queues.{QueueEnd}
-use Rattle.hub.specs.Shards.{IsConfigOf, AreShardsFrom}
+use Rattle.hub.specs.Shards.{IsConfigOf, AreShardsFrom, journals_of}
 use Rattle.hub.proofs.Started.{mapped-more, shards-more}
 use Rattle.hub.proofs.start.start_all.Goals as goal
 
@@ -21,6 +21,9 @@ loop-partition-init g c = record {
   journals = refl;
   counts = refl;
   of_room = λ none. subst (All (λ (queue : QueueEnd). (queue.capacity ≡ c.args.config.now.queue) × (queue.count ≡ 0))) (sym none) (All-nil (λ (queue : QueueEnd). (queue.capacity ≡ c.args.config.now.queue) × (queue.count ≡ 0)));
+  kept_alike = λ none.
+      let P : Arc (Shard g.row.G.Denot g.G.Naming) Global → Type 0 = λ shard. journals_of shard ≡ c.args.journals in
+      subst (All P) (sym none) (All-nil P);
   of_config = λ none.
       let P : List (Arc (Shard g.row.G.Denot g.G.Naming) Global) → Type 0 = λ shards. AreShardsFrom c.args.config.now 0 shards in
       subst P (sym none) tt;
@@ -46,6 +49,9 @@ loop-partition-preserved g c =
       of_room = λ none.
           let P : QueueEnd → Type 0 = λ queue. (queue.capacity ≡ config.queue) × (queue.count ≡ 0) in
           subst (All P) (sym c.push_reserved-in-loop-partition.ensures.items) (All-append P _ _ (so_far.of_room none) (All-cons P _ [] (c.in_ok-queue.ensures.room.0, c.in_ok-queue.ensures.none.0) (All-nil P)));
+      kept_alike = λ none.
+          let P : Arc (Shard g.row.G.Denot g.G.Naming) Global → Type 0 = λ shard. journals_of shard ≡ c.args.journals in
+          subst (All P) (sym c.push_reserved.ensures.items) (All-append P shards (c.in_ok-shard.shard ∷ []) (so_far.kept_alike none) (All-cons P c.in_ok-shard.shard [] c.in_ok-shard.ensures.journals (All-nil P)));
       of_config = λ none.
           let P : List (Arc (Shard g.row.G.Denot g.G.Naming) Global) → Type 0 = λ ds. AreShardsFrom config 0 ds in
           let Q : ℕ → Type 0 = λ n. IsConfigOf config n (arc_value c.in_ok-shard.shard).config in

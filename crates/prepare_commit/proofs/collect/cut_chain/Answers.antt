@@ -69,17 +69,17 @@ search-requires c = c.requires.held.have.laid.in_order
 
 pub unreachable-requires : goal.unreachable-requires
 unreachable-requires c =
-    is_there c.args.block.now c.args.versions.now.chains c.args.items.now.items c.args.chain c.in-Some.first.now c.requires.held.lies.stands c.requires.held.have c.in-Some.ensures c.first-2.inside.key c.in_default-search.field-0 (ap (λ (r : Record). r.key) c.first-2.view_is) c.in_default-search.ensures
+    is_there c.args.block.now c.args.versions.now.chains c.args.items.now.items c.args.chain c.in-Some.first c.requires.held.lies.stands c.requires.held.have c.in-Some.ensures c.key-key.result c.in_default-search.field-0 c.key-key.ensures c.in_default-search.ensures
 
 -- the item, and where it stands
 abbrev its : (c : After-cut_item) → ItsItem c.args.items.now.items c.args.chain
-its c = owner c.args.block.now c.args.versions.now.chains c.args.items.now.items c.args.chain c.in-Some.first.now c.requires.held.lies.stands c.requires.held.have c.in-Some.ensures
+its c = owner c.args.block.now c.args.versions.now.chains c.args.items.now.items c.args.chain c.in-Some.first c.requires.held.lies.stands c.requires.held.have c.in-Some.ensures
 
 place_is : (c : After-cut_item) → (its c).i ≡ get_or c.args.items.now.items c.in-Ok.place (its c).i
-place_is c = is_place c.args.block.now c.args.versions.now.chains c.args.items.now.items c.args.chain c.in-Some.first.now c.requires.held.lies.stands c.requires.held.have c.in-Some.ensures c.first-2.inside.key c.in-Ok.place (ap (λ (r : Record). r.key) c.first-2.view_is) c.in-Ok.ensures
+place_is c = is_place c.args.block.now c.args.versions.now.chains c.args.items.now.items c.args.chain c.in-Some.first c.requires.held.lies.stands c.requires.held.have c.in-Some.ensures c.key-key.result c.in-Ok.place c.key-key.ensures c.in-Ok.ensures
 
 there : (c : After-cut_item) → (its c).i.chain < length (chain_lists c.args.block.now c.args.versions.now.chains)
-there c = in_range c.args.block.now c.args.versions.now.chains c.args.items.now.items c.args.chain c.in-Some.first.now c.requires.held.lies.stands c.requires.held.have c.in-Some.ensures
+there c = in_range c.args.block.now c.args.versions.now.chains c.args.items.now.items c.args.chain c.in-Some.first c.requires.held.lies.stands c.requires.held.have c.in-Some.ensures
 
 both : (c : After-cut_item) → (c.cut_item.new.items.items ≡ map (raised_where c.args.chain c.args.keep (chain_lists c.args.block.now c.args.versions.now.chains)) c.args.items.now.items)
     × (item_chains c.cut_item.new.items.items (chain_lists c.cut_item.new.block c.cut_item.new.versions.chains) ≡ map (kept_where c.args.chain c.args.keep (chain_lists c.args.block.now c.args.versions.now.chains)) c.args.items.now.items)

@@ -1,7 +1,6 @@
 use Rattle.std.proofs.Common.{ℕ, List, ap, length, arith, refl, subst, sym, ◌∙◌}
 use Rattle.history.specs.declared.entry.HistoryEntry.{HistoryEntry}
 use Rattle.traced_book.specs.Traced.{IsLatestEpoch, Tracing}
-use Rattle.partition.specs.Accounts.{Account, events_at}
 use Rattle.shard.proofs.Cuts.{cut_events}
 use Rattle.shard.proofs.Journals.{cut-or-not, epoch-of, stays_as}
 use Rattle.shard.proofs.epoch_cut.cut_long.Goals as goal
@@ -10,12 +9,11 @@ use Rattle.shard.proofs.epoch_cut.cut_long.Goals as goal
 pub returns-in-Ok-clause-cut : goal.returns-in-Ok-clause-cut
 returns-in-Ok-clause-cut g c =
     let events = cut_events _ _ _ _ c.requires.tenant c.in-Ok.ensures.cut in
-    let counted = ap (λ (accounts : List Account). length (events_at accounts c.args.tenant)) c.book.ensures in
     record {
       cut = c.in-Ok.ensures.cut;
       partition = refl;
       tenant = refl;
-      long = omega (arith, ap length events, c.events.ensures, counted);
+      long = omega (arith, ap length events, c.events.ensures);
     }
 
 pub invariant_of-state : goal.invariant_of-state
@@ -30,10 +28,9 @@ invariant_of-result g c =
     let epoch = c.in-Ok.epoch in
     let P : List HistoryEntry → Type 0 = λ seen. IsLatestEpoch seen state.partition c.args.tenant epoch in
     let events = cut_events _ _ _ _ c.requires.tenant c.in-Ok.ensures.cut in
-    let counted = ap (λ (accounts : List Account). length (events_at accounts c.args.tenant)) c.book.ensures in
     let Q : ℕ → Type 0 = λ at. IsLatestEpoch state.book.seen at c.args.tenant epoch in
     record {
       was_cut = epoch-of state.parts state.partition state.book.accounts c.cut.new.self.accounts c.args.tenant epoch c.requires.tenant c.in-Ok.ensures.cut state.journals;
-      some = omega (arith, ap length events, c.events.ensures, counted, c.requires.some);
+      some = omega (arith, ap length events, c.events.ensures, c.requires.some);
       latest = ∣ subst P (sym (c.seen.ensures ∙ c.cut.ensures.seen.1)) (subst Q state.its c.in-Ok.ensures.latest) ∣₁;
     }

@@ -3,7 +3,7 @@ use Rattle.std.proofs.lemmas.List.{length-replicate}
 use Rattle.std.specs.Prelude.{Option, None}
 use Rattle.plain_store.specs.Words.{Room}
 use Rattle.version_chain.specs.Chain.{Cells}
-use Rattle.version_chain.specs.declared.version.Node.{Node}
+use Rattle.version_chain.specs.Node.{Node}
 use Rattle.prepare_commit.specs.Bases.{Frozen}
 use Rattle.prepare_commit.proofs.Chaining.{none_live, none_of}
 use Rattle.tests_surface.proofs.of_prepare_commit.is_opened_at_a_base.Goals as goal

@@ -1,6 +1,6 @@
 use Rattle.std.proofs.Common.{◌∙◌, arith, ap, false, inr, rules}
 use Rattle.std.proofs.lemmas.Result.{err_from_is_err_and}
-use Rattle.hub.specs.Hubs.{ConfigView, config_view}
+use Rattle.hub.specs.Hubs.{ConfigView, config_view, view_with}
 use Rattle.server_sessions.specs.Ports.{port_of}
 use Rattle.workload.proofs.Listening.{closed_on, is_closed, no_port, no_room_to_check, no_store, nothing_told, port_then_checked}
 use Rattle.workload.proofs.serve.serve_and_check.Goals as goal
@@ -9,10 +9,10 @@ pub returns : goal.returns
 returns g c = record {
   served =
       closed_on (config_view c.args.store.config) c.args.names.now (g.W.Write.contents c.args.writer.now) (g.W.Write.contents c.serve_all-told.new.writer) (g.W.Write.contents c.tell_checks-ended.new.writer)
-      c.close_store-closed.result.0 c.tell_checks-ended.result c.ended_after.result c.in_ok-told.ensures.listened (is_closed (config_view c.args.store.config) _ c.close_store-closed.result.0 c.close_store-closed.ensures.closed c.in_ok-hub.ensures.done) (λ kept. absurd (omega (arith, kept, c.requires.cut)))
+      c.close_store-closed.result.0 c.tell_checks-ended.result c.ended_after.result c.in_ok-told.ensures.listened (is_closed (config_view c.args.store.config) _ c.close_store-closed.result.0 c.close_store-closed.ensures.closed (c.in_ok-hub.ensures.done ∙ ap (view_with c.args.store.config) c.requires.journals)) (λ kept. absurd (omega (arith, kept, c.requires.cut)))
       (λ cut. inr (
         c.in_ok-endings.endings,
-        c.in_ok-endings.ensures.limits ∙ ap (λ (v : ConfigView). v.limits) (c.close_store-closed.ensures.closed.config ∙ c.in_ok-hub.ensures.done),
+        c.in_ok-endings.ensures.limits ∙ ap (λ (v : ConfigView). v.limits) c.close_store-closed.ensures.closed.config ∙ ap (λ (v : ConfigView). v.limits) c.in_ok-hub.ensures.done,
         c.in_ok-endings.ensures.left.as_many ∙ c.close_store-closed.ensures.closed.parts ∙ ap (λ (v : ConfigView). v.parts) c.in_ok-hub.ensures.done,
         c.in_ok-endings.ensures.left,
         c.tell_checks-ended.ensures,
@@ -23,7 +23,7 @@ returns g c = record {
       (g.W.Write.contents c.serve_all-told.new.writer) (g.W.Write.contents c.tell_checks-ended.new.writer) c.tell_checks-ended.result c.ended_after.result
       (rw c.in_ok-server.ensures.listener at c.in_ok-told.ensures.port) (inr (
         c.in_ok-endings.endings,
-        c.in_ok-endings.ensures.limits ∙ ap (λ (v : ConfigView). v.limits) (c.close_store-closed.ensures.closed.config ∙ c.in_ok-hub.ensures.done),
+        c.in_ok-endings.ensures.limits ∙ ap (λ (v : ConfigView). v.limits) c.close_store-closed.ensures.closed.config ∙ ap (λ (v : ConfigView). v.limits) c.in_ok-hub.ensures.done,
         c.in_ok-endings.ensures.left.as_many ∙ c.close_store-closed.ensures.closed.parts ∙ ap (λ (v : ConfigView). v.parts) c.in_ok-hub.ensures.done,
         c.in_ok-endings.ensures.left,
         c.tell_checks-ended.ensures,
@@ -35,7 +35,7 @@ returns-in_err-endings g c = record {
   served =
       let p = err_from_is_err_and c.from_residual-in_err-endings.result c.from_residual-in_err-endings.ensures.1 in
       rw (p.1, p.2) (no_room_to_check (config_view c.args.store.config) c.args.names.now (g.W.Write.contents c.args.writer.now) (g.W.Write.contents c.serve_all-told.new.writer)
-      c.close_store-closed.result.0 c.in_ok-told.ensures.listened (is_closed (config_view c.args.store.config) _ c.close_store-closed.result.0 c.close_store-closed.ensures.closed c.in_ok-hub.ensures.done) c.requires.cut);
+      c.close_store-closed.result.0 c.in_ok-told.ensures.listened (is_closed (config_view c.args.store.config) _ c.close_store-closed.result.0 c.close_store-closed.ensures.closed (c.in_ok-hub.ensures.done ∙ ap (view_with c.args.store.config) c.requires.journals)) c.requires.cut);
   port = search rules;
 }
 

@@ -1,7 +1,7 @@
-use Rattle.std.proofs.Common.{arith, false, rules}
+use Rattle.std.proofs.Common.{◌∙◌, ap, arith, false, rules}
 use Rattle.std.specs.Prelude.{codes, length}
 use Rattle.std.proofs.lemmas.Result.{err_from_is_err_and}
-use Rattle.hub.specs.Hubs.{config_view}
+use Rattle.hub.specs.Hubs.{config_view, view_with}
 use Rattle.server_sessions.specs.Ports.{port_of}
 use Rattle.server_verdicts.specs.Verdicts.{IsVerdictOf}
 use Rattle.workload.proofs.Listening.{closed_on, is_closed, no_port, no_store, no_transcript, nothing_told, port_then}
@@ -11,7 +11,7 @@ pub returns : goal.returns
 returns g c = record {
   served =
       closed_on (config_view c.args.store.config) c.args.names.now (g.W.Write.contents c.args.writer.now) (g.W.Write.contents c.serve_all-told.new.writer) (g.W.Write.contents c.tell_verdicts-ended.new.writer)
-      c.close_store-closed.result.0 c.tell_verdicts-ended.result c.ended_after.result c.in_ok-told.ensures.listened (is_closed (config_view c.args.store.config) _ c.close_store-closed.result.0 c.close_store-closed.ensures.closed c.in_ok-hub.ensures.done) (λ kept. c.tell_verdicts-ended.ensures)
+      c.close_store-closed.result.0 c.tell_verdicts-ended.result c.ended_after.result c.in_ok-told.ensures.listened (is_closed (config_view c.args.store.config) _ c.close_store-closed.result.0 c.close_store-closed.ensures.closed (c.in_ok-hub.ensures.done ∙ ap (view_with c.args.store.config) c.requires.journals)) (λ kept. c.tell_verdicts-ended.ensures)
       (λ cut. absurd (omega (arith, cut, c.requires.kept))) (_, c.fault_of-before.ensures.before, c.ended_after.ensures);
   port =
       port_then (IsVerdictOf c.close_store-closed.result.0) (codes "settled ") (length c.close_store-closed.result.0.config.limits.items) c.args.names.now (port_of c.args.ports.listener) (g.W.Write.contents c.args.writer.now)
@@ -23,7 +23,7 @@ pub returns-then-left : goal.returns-then-left
 returns-then-left g c = record {
   served =
       no_transcript (config_view c.args.store.config) c.args.names.now (g.W.Write.contents c.args.writer.now) (g.W.Write.contents c.serve_all-told.new.writer) c.close_store-closed.result.0 c.in_ok-told.ensures.listened
-      (is_closed (config_view c.args.store.config) _ c.close_store-closed.result.0 c.close_store-closed.ensures.closed c.in_ok-hub.ensures.done) c.requires.kept;
+      (is_closed (config_view c.args.store.config) _ c.close_store-closed.result.0 c.close_store-closed.ensures.closed (c.in_ok-hub.ensures.done ∙ ap (view_with c.args.store.config) c.requires.journals)) c.requires.kept;
   port = search rules;
 }
 

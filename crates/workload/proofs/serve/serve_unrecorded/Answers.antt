@@ -1,7 +1,7 @@
-use Rattle.std.proofs.Common.{◌∙◌, ap, rules, subst, true}
+use Rattle.std.proofs.Common.{◌∙◌, ap, rules, subst, false, true}
 use Rattle.std.proofs.lemmas.Result.{err_from_is_err_and}
 use Rattle.std.specs.Prelude.{length}
-use Rattle.hub.specs.Hubs.{ConfigView, config_view}
+use Rattle.hub.specs.Hubs.{ConfigView, view_with}
 use Rattle.server_sessions.specs.Ports.{port_of}
 use Rattle.workload.proofs.Listening.{closed_unrecorded, is_closed, no_port, no_store, nothing_told, port_then_served}
 use Rattle.workload.specs.Unrecorded.{TellsServed}
@@ -9,17 +9,17 @@ use Rattle.workload.proofs.serve.serve_unrecorded.Goals as goal
 
 pub returns : goal.returns
 returns g c =
-    let config = c.close_store-closed.ensures.closed.config ∙ c.in_ok-hub.ensures.done in
+    let opened = c.in_ok-hub.ensures.done ∙ ap (view_with c.args.store.config) c.requires.journals in
     let between = g.W.Write.contents c.serve_all-told.new.writer in
     let new = g.W.Write.contents c.tell_served-ended.new.writer in
-    let served : TellsServed (length (config_view c.args.store.config).limits) c.args.names.now between new c.tell_served-ended.result =
-    subst (λ n. TellsServed n c.args.names.now between new c.tell_served-ended.result) (c.len-tenants.ensures ∙ c.close_store-closed.result.0.config.limits.ok.0 ∙ ap (λ (v : ConfigView). length v.limits) config) c.tell_served-ended.ensures in
+    let served : TellsServed (length (view_with c.args.store.config false).limits) c.args.names.now between new c.tell_served-ended.result =
+    subst (λ n. TellsServed n c.args.names.now between new c.tell_served-ended.result) (c.len-tenants.ensures ∙ c.close_store-closed.result.0.config.limits.ok.0 ∙ ap (λ (v : ConfigView). length v.limits) c.close_store-closed.ensures.closed.config ∙ ap (λ (v : ConfigView). length v.limits) opened) c.tell_served-ended.ensures in
     record {
       served =
-          closed_unrecorded (config_view c.args.store.config) c.args.names.now (g.W.Write.contents c.args.writer.now) between new c.close_store-closed.result.0 c.tell_served-ended.result c.ended_after.result
-          c.in_ok-told.ensures.listened (is_closed (config_view c.args.store.config) _ c.close_store-closed.result.0 c.close_store-closed.ensures.closed c.in_ok-hub.ensures.done) served (_, c.fault_of-before.ensures.before, c.ended_after.ensures);
+          closed_unrecorded (view_with c.args.store.config false) c.args.names.now (g.W.Write.contents c.args.writer.now) between new c.close_store-closed.result.0 c.tell_served-ended.result c.ended_after.result
+          c.in_ok-told.ensures.listened (is_closed (view_with c.args.store.config false) _ c.close_store-closed.result.0 c.close_store-closed.ensures.closed opened) served (_, c.fault_of-before.ensures.before, c.ended_after.ensures);
       port =
-          port_then_served (length (config_view c.args.store.config).limits) c.args.names.now (port_of c.args.ports.listener) (g.W.Write.contents c.args.writer.now) between new c.tell_served-ended.result c.ended_after.result
+          port_then_served (length (view_with c.args.store.config false).limits) c.args.names.now (port_of c.args.ports.listener) (g.W.Write.contents c.args.writer.now) between new c.tell_served-ended.result c.ended_after.result
           (rw c.in_ok-server.ensures.listener at c.in_ok-told.ensures.port) served (_, c.fault_of-before.ensures.before, c.ended_after.ensures);
     }
 
@@ -27,7 +27,7 @@ pub returns-in_err-hub : goal.returns-in_err-hub
 returns-in_err-hub g c = record {
   served =
       let p = err_from_is_err_and c.from_residual-in_err-hub.result c.from_residual-in_err-hub.ensures.1 in
-      rw (p.1, p.2) (nothing_told true (config_view c.args.store.config) c.args.names.now (g.W.Write.contents c.args.writer.now) c.in_err-hub.field-0.0 c.in_err-hub.ensures.refused);
+      rw (p.1, p.2) (nothing_told true (view_with c.args.store.config false) c.args.names.now (g.W.Write.contents c.args.writer.now) c.in_err-hub.field-0.0 c.in_err-hub.ensures.refused);
   port =
       let p = err_from_is_err_and c.from_residual-in_err-hub.result c.from_residual-in_err-hub.ensures.1 in
       rw (p.1, p.2) (no_store (port_of c.args.ports.listener) (g.W.Write.contents c.args.writer.now) (g.W.Write.contents c.args.writer.now) c.in_err-hub.field-0.0 c.in_err-hub.ensures.refused);

@@ -1,12 +1,12 @@
-use Rattle.std.proofs.Common.{◌≡◌, None, true, false, ap, refl, subst, sym, ◌∙◌}
+use Rattle.std.proofs.Common.{◌≡◌, None, ap, inl, refl, subst, sym, ◌∙◌}
 use Rattle.plain_store.specs.declared.answer.Answer.{Answer}
 use Rattle.plain_store.specs.declared.answer.Answer.TheVariants.{Refused}
-use Rattle.plain_store.specs.declared.refusal.Refusal.TheVariants.{RowsUsed, Stopped}
 use Rattle.hub.specs.Fresh.{AreCommittedIn}
 use Rattle.hub.specs.Limits.{max_calls}
 use Rattle.hub.specs.Replies.{IfDone}
+use Rattle.hub.specs.Seats.{SeatView}
 use Rattle.hub.specs.Clocks.{IsStampedBehind, ReportsDone}
-use Rattle.hub.proofs.Clocked.{later_looked, looked_same, put_drawn, refused_as, write_refused}
+use Rattle.hub.proofs.Clocked.{later_raised, put_drawn, put_undrawn, refused_as, write_refused}
 use Rattle.hub.proofs.Operations.{later-same}
 use Rattle.hub.proofs.Reported.{done_is, put_reported, reports_done, unreported}
 use Rattle.hub.proofs.seat.Seat.put_by_clock_into.Goals as goal
@@ -17,7 +17,7 @@ returns-in-Some-clause-put g c =
     let is = c.tell_refusal.ensures in
     record {
       between = seat;
-      looked = looked_same seat;
+      raised = inl refl;
       written = write_refused c.args.items.now seat c.tell_refusal.new.answer c.in-Some.refusal is c.in-Some.ensures.unbegun;
       later = later-same max_calls seat;
       stopped = refused_as c.tell_refusal.new.answer _ c.in-Some.refusal _ is refl c.in-Some.ensures.stopped;
@@ -30,27 +30,17 @@ pub returns-in-Some-clause-reported : goal.returns-in-Some-clause-reported
 returns-in-Some-clause-reported g c = subst (λ (a : Answer). ReportsDone None c.args.items.now c.args.self.now a c.args.self.now) (sym c.tell_refusal.ensures) tt
 
 -- it drew nothing, and is as it was
-pub returns-then-not-draw-clause-put : goal.returns-then-not-draw-clause-put
-returns-then-not-draw-clause-put g c =
-    let seat = c.draw.new.self in
-    let is = c.tell_refusal-then-not-draw.ensures in
-    record {
-      between = seat;
-      looked = c.draw.ensures.looked;
-      written = write_refused c.args.items.now seat c.tell_refusal-then-not-draw.new.answer RowsUsed is refl;
-      later = later_looked c.args.self.now seat seat c.draw.ensures.looked (later-same max_calls seat);
-      stopped = (λ same. absurd (let both : Refused RowsUsed ≡ Refused Stopped = sym is ∙ same in cc), λ at. absurd (let both : true ≡ false = sym at ∙ c.in_default.ensures.open.0 in cc));
-      used_up = λ used. is;
-      drawn = subst (λ (a : Answer). IfDone a (IsStampedBehind c.args.self.now.seen seat.seen c.args.self.now.name)) (sym is) tt;
-      committed = subst (λ (a : Answer). IfDone a (AreCommittedIn seat.seen seat.name.tenant c.args.items.now)) (sym is) tt;
-    }
+pub returns-in-Err-clause-put : goal.returns-in-Err-clause-put
+returns-in-Err-clause-put g c =
+    put_undrawn c.args.items.now c.args.self.now c.draw.new.self c.tell_refusal-in-Err.new.answer c.in-Err.refusal c.in-Err.ensures.unchanged c.tell_refusal-in-Err.ensures c.in-Err.ensures.refused
+    c.in_default.ensures.open.0 c.in_default.ensures.open.1
 
-pub returns-then-not-draw-clause-reported : goal.returns-then-not-draw-clause-reported
-returns-then-not-draw-clause-reported g c = subst (λ (a : Answer). ReportsDone None c.args.items.now c.args.self.now a c.draw.new.self) (sym c.tell_refusal-then-not-draw.ensures) tt
+pub returns-in-Err-clause-reported : goal.returns-in-Err-clause-reported
+returns-in-Err-clause-reported g c = subst (λ (a : Answer). ReportsDone None c.args.items.now c.args.self.now a c.draw.new.self) (sym c.tell_refusal-in-Err.ensures) tt
 
 pub returns-then-not-is_done-clause-put : goal.returns-then-not-is_done-clause-put
 returns-then-not-is_done-clause-put g c =
-    put_drawn c.args.items.now c.args.self.now c.draw.new.self c.put_all_into.new.self c.put_all_into.new.answer c.draw.ensures.looked (c.draw.ensures.drawn c.if-not-draw.false) c.put_all_into.ensures.operated
+    put_drawn c.args.items.now c.args.self.now c.draw.new.self c.put_all_into.new.self c.put_all_into.new.answer c.in_default-draw.ensures.raised c.in_default-draw.ensures.drawn c.put_all_into.ensures.operated
     c.put_all_into.ensures.stamp c.put_all_into.ensures.written c.put_all_into.ensures.committed
 
 pub returns-then-not-is_done-clause-reported : goal.returns-then-not-is_done-clause-reported
@@ -63,7 +53,7 @@ returns-clause-put g c =
     let answer = c.put_all_into.new.answer in
     let done = done_is answer (sym c.is_done.ensures ∙ c.if-not-is_done.false) in
     put_reported c.args.items.now c.args.self.now mid c.report.new.self answer done.0 done.1 c.report.ensures.legal c.report.ensures.more
-    (put_drawn c.args.items.now c.args.self.now c.draw.new.self mid answer c.draw.ensures.looked (c.draw.ensures.drawn c.if-not-draw.false) c.put_all_into.ensures.operated c.put_all_into.ensures.stamp c.put_all_into.ensures.written
+    (put_drawn c.args.items.now c.args.self.now c.draw.new.self mid answer c.in_default-draw.ensures.raised c.in_default-draw.ensures.drawn c.put_all_into.ensures.operated c.put_all_into.ensures.stamp c.put_all_into.ensures.written
     c.put_all_into.ensures.committed)
 
 pub returns-clause-reported : goal.returns-clause-reported
@@ -73,5 +63,5 @@ returns-clause-reported g c =
     let mid = c.put_all_into.new.self in
     let answer = c.put_all_into.new.answer in
     let done = done_is answer (sym c.is_done.ensures ∙ c.if-not-is_done.false) in
-    let later = later_looked old drawn mid c.draw.ensures.looked c.put_all_into.ensures.operated.later in
+    let later = later_raised old drawn mid c.in_default-draw.ensures.raised c.put_all_into.ensures.operated.later in
     reports_done c.report.result c.args.items.now old mid c.report.new.self answer done.0 done.1 c.put_all_into.ensures.committed (ap (λ n. n.tenant) later.name) later.seen c.report.ensures.more c.report.ensures.reported

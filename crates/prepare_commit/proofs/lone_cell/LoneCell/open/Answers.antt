@@ -2,7 +2,7 @@ use Rattle.std.proofs.Common.{◌≤◌, ℕ, length, ap, arith}
 use Rattle.std.proofs.lemmas.List.{length-replicate}
 use Rattle.std.specs.Prelude.{Option, None}
 use Rattle.version_chain.specs.Chain.{Cells}
-use Rattle.version_chain.specs.declared.version.Node.{Node}
+use Rattle.version_chain.specs.Node.{Node}
 use Rattle.prepare_commit.proofs.Chaining.{none_live, none_of}
 use Rattle.prepare_commit.proofs.lone_cell.LoneCell.open.Goals as goal
 

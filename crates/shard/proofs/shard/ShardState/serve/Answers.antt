@@ -1,4 +1,4 @@
-use Rattle.std.proofs.Common.{◌≡◌, ℕ, refl, subst, sym, ap, ◌∙◌, Ok}
+use Rattle.std.proofs.Common.{◌≡◌, ℕ, refl, subst, sym, ap, ◌∙◌}
 use Rattle.std.proofs.Math.Logic.{∥∥₁_map}
 use Rattle.plain_store.specs.declared.calls.Call.{Call}
 use Rattle.plain_store.specs.declared.message.Message.{Message}
@@ -16,11 +16,11 @@ use Rattle.shard.proofs.shard.ShardState.serve.Goals as goal
 -- one event more, and then its count
 pub returns-then-is_long-clause-short : goal.returns-then-is_long-clause-short
 returns-then-is_long-clause-short g c room short =
-    rw c.count.ensures.book (served-short _ _ _ _ _ _ _ _ refl c.in_ok-place.ensures.refuses.no_tenant c.in_ok-place.ensures.enters.entered room short)
+    rw c.count.ensures.book (served-short _ _ _ _ _ _ _ _ _ refl c.in_ok-place.ensures.refuses.no_tenant c.in_ok-place.ensures.takes.taken room short)
 
 pub returns-else-is_long-clause-short : goal.returns-else-is_long-clause-short
 returns-else-is_long-clause-short g c room short =
-    rw c.count.ensures.book (served-short _ _ _ _ _ _ _ _ refl c.in_ok-place.ensures.refuses.no_tenant c.in_ok-place.ensures.enters.entered room short)
+    rw c.count.ensures.book (served-short _ _ _ _ _ _ _ _ _ refl c.in_ok-place.ensures.refuses.no_tenant c.in_ok-place.ensures.takes.taken room short)
 
 -- its journals are as before, or have one event more of this call
 pub invariant_of-self : goal.invariant_of-self
@@ -29,9 +29,9 @@ invariant_of-self g c =
     let home = subst (λ (m : Message). HasHome m.call call.parts call.partition) (sym c.deref_mut.ensures.value) call.at_home in
     let e = c.serve_message.ensures in
     record {
-      journals = called-of _ _ _ _ call.tenant call.seat call.number c.args.self.now.book.accounts c.serve_message.new.book.accounts c.deref_mut.result.now.call
-          c.serve_message.new.message.reply c.serve_message.result e.refuses.no_tenant e.refuses.late e.enters.entered e.enters.reply e.enters.unchanged home c.requires c.args.self.now.journals;
-      its = e.partition ∙ c.args.self.now.its;
+      journals = called-of _ _ _ _ _ call.tenant call.seat call.number c.args.self.now.book.accounts c.serve_message.new.book.accounts c.deref_mut.result.now.call
+          c.serve_message.new.message.reply c.serve_message.result e.refuses.no_tenant e.refuses.late e.takes.taken e.takes.reply e.takes.unchanged home c.requires c.args.self.now.journals;
+      its = e.partition.0 ∙ c.args.self.now.its;
     }
 
 -- only the reply is written into its message
@@ -62,28 +62,16 @@ serve_message-requires-clause-may g c =
 pub returns-then-is_long-clause-came : goal.returns-then-is_long-clause-came
 returns-then-is_long-clause-came g c =
     let call = c.args.call.now in
-    let home = subst (λ (m : Message). HasHome m.call call.parts call.partition) (sym c.deref_mut.ensures.value) call.at_home in
     let e = c.in_ok-place.ensures in
-    let own = c.args.self.now.book.partition in
-    let old = c.args.self.now.book.accounts in
-    let new = c.serve_message.new.book.accounts in
-    let journals = called-of c.args.self.now.parts c.args.self.now.partition call.parts call.partition call.tenant call.seat call.number old new c.deref_mut.result.now.call
-    c.serve_message.new.message.reply (Ok c.in_ok-place.place) e.refuses.no_tenant e.refuses.late e.enters.entered e.enters.reply tt home c.requires c.args.self.now.journals in
-    came-so c.serve_message.new.evidence call.front call.mark c.args.self.now.parts c.args.self.now.partition own call.parts call.partition call.tenant call.seat call.number c.in_ok-place.place old new
-    c.deref_mut.result.now c.serve_message.new.message e.refuses.no_tenant e.enters.entered e.enters.place e.message e.served call.marked c.requires c.args.self.now.its journals
+    came-so c.serve_message.new.evidence call.front call.mark c.args.self.now.partition c.args.self.now.book.partition call.partition call.tenant call.seat call.number c.in_ok-place.place
+    c.deref_mut.result.now c.serve_message.new.message e.message e.served call.marked c.requires.0 c.args.self.now.its
 
 pub returns-else-is_long-clause-came : goal.returns-else-is_long-clause-came
 returns-else-is_long-clause-came g c =
     let call = c.args.call.now in
-    let home = subst (λ (m : Message). HasHome m.call call.parts call.partition) (sym c.deref_mut.ensures.value) call.at_home in
     let e = c.in_ok-place.ensures in
-    let own = c.args.self.now.book.partition in
-    let old = c.args.self.now.book.accounts in
-    let new = c.serve_message.new.book.accounts in
-    let journals = called-of c.args.self.now.parts c.args.self.now.partition call.parts call.partition call.tenant call.seat call.number old new c.deref_mut.result.now.call
-    c.serve_message.new.message.reply (Ok c.in_ok-place.place) e.refuses.no_tenant e.refuses.late e.enters.entered e.enters.reply tt home c.requires c.args.self.now.journals in
-    came-so c.serve_message.new.evidence call.front call.mark c.args.self.now.parts c.args.self.now.partition own call.parts call.partition call.tenant call.seat call.number c.in_ok-place.place old new
-    c.deref_mut.result.now c.serve_message.new.message e.refuses.no_tenant e.enters.entered e.enters.place e.message e.served call.marked c.requires c.args.self.now.its journals
+    came-so c.serve_message.new.evidence call.front call.mark c.args.self.now.partition c.args.self.now.book.partition call.partition call.tenant call.seat call.number c.in_ok-place.place
+    c.deref_mut.result.now c.serve_message.new.message e.message e.served call.marked c.requires.0 c.args.self.now.its
 
 -- the same of what it asks
 same-but-reply : {J : Type 0} {naming : Ghosts J} (call : SeatCall J naming) (message now : Message) → without_reply now ≡ without_reply message → message ≡ call.message.value

@@ -10,6 +10,6 @@ pub returns-clause-notes : goal.returns-clause-notes
 returns-clause-notes g c =
     let e = c.serve-outcome.ensures in
     record {
-      counted = one_counted _ _ _ _ c.serve-outcome.result _ _ _ _ _ _ e.refuses.no_tenant e.enters.entered e.enters.unchanged e.notes.counted e.notes.uncounted;
-      cuts = one_long _ _ _ _ c.serve-outcome.result _ _ _ _ e.refuses.no_tenant e.enters.entered e.enters.unchanged e.notes.cuts e.notes.still_cuts;
+      counted = one_counted _ _ _ _ _ c.serve-outcome.result _ _ _ _ _ _ e.refuses.no_tenant e.takes.taken e.takes.unchanged e.notes.counted e.notes.uncounted;
+      cuts = one_long _ _ _ _ _ c.serve-outcome.result _ _ _ _ e.refuses.no_tenant e.takes.taken e.takes.unchanged e.notes.cuts e.notes.still_cuts;
     }

@@ -1,4 +1,4 @@
-use Rattle.std.proofs.Common.{sym, subst}
+use Rattle.std.proofs.Common.{sym, subst, arith}
 use Rattle.history.proofs.Servings.{opened_count}
 use Rattle.traced_book.specs.Traced.{AreTraced}
 use Rattle.traced_book.proofs.Tracing.{opened_traced}
@@ -10,4 +10,5 @@ invariant_of-result g c = (
   opened_count c.args.tally.key c.args.front c.requires.opened,
   c.requires.tally,
   c.requires.few,
+  omega arith,
 )

@@ -12,13 +12,13 @@ loop-here-init c =
 pub get-requires : goal.get-requires
 get-requires c = ap is_some (on_cell _ _ _ _ _ _ c.loop-here.invariant.0.chained c.in-Some.is).found
 
-pub returns-then-get : goal.returns-then-get
-returns-then-get c =
+pub returns-then-is_committed : goal.returns-then-is_committed
+returns-then-is_committed c =
     let read = read_cell _ _ _ _ _ _ (on_cell _ _ _ _ _ _ c.loop-here.invariant.0.chained c.in-Some.is) c.get.ensures in (
-      c.get.result.now.version,
+      c.get.result.version,
       next_beside c.args.block.now c.in-Some.slot,
       read.found ∙ ap (λ n. Some (n, next_beside c.args.block.now c.in-Some.slot)) read.node_is,
-      sym c.loop-here.invariant.1 ∙ ap first_committed read.is ∙ first_here c.get.result.now.version read.later c.if-get.true,
+      sym c.loop-here.invariant.1 ∙ ap first_committed read.is ∙ first_here c.get.result.version read.later (sym c.is_committed.ensures ∙ c.if-is_committed.true),
     )
 
 pub loop-here-smaller : goal.loop-here-smaller
@@ -31,7 +31,7 @@ loop-here-preserved c =
     let read = read_cell _ _ _ _ _ _ (on_cell _ _ _ _ _ _ c.loop-here.invariant.0.chained c.in-Some.is) c.get.ensures in
     rw c.next-here.ensures (
       step _ _ _ _ _ _ c.loop-here.invariant.0 read,
-      sym (ap first_committed read.is ∙ first_unmarked c.get.result.now.version read.later c.if-get.false) ∙ c.loop-here.invariant.1,
+      sym (ap first_committed read.is ∙ first_unmarked c.get.result.version read.later (sym c.is_committed.ensures ∙ c.if-is_committed.false)) ∙ c.loop-here.invariant.1,
     )
 
 pub returns : goal.returns

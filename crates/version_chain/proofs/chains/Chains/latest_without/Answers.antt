@@ -15,12 +15,12 @@ next-requires c = here_live c.args.block.now c.args.self.now c.args.chain c.requ
 
 pub committed_from-requires : goal.committed_from-requires
 committed_from-requires c =
-    rw c.next.ensures (rest_from c.args.block.now c.args.self.now c.args.chain c.args.here c.get.result.now c.requires.chain.stands c.requires.chain.known c.get.ensures c.requires.place.0 c.requires.place.1 c.requires.place.2)
+    rw c.next.ensures (rest_from c.args.block.now c.args.self.now c.args.chain c.args.here c.get.result c.requires.chain.stands c.requires.chain.known c.get.ensures c.requires.place.0 c.requires.place.1 c.requires.place.2)
 
 pub returns-then-is_latest : goal.returns-then-is_latest
 returns-then-is_latest c =
-    but_below c.args.block.now c.args.self.now c.args.chain c.args.here c.get.result.now c.requires.chain.stands c.requires.chain.known c.get.ensures
-    (ap (λ s. is_at (first_committed (chain_versions c.args.block.now c.args.self.now c.args.chain)) s) (sym c.stamp_of-stamp.ensures) ∙ sym c.is_latest.ensures ∙ c.if-is_latest.true)
+    but_below c.args.block.now c.args.self.now c.args.chain c.args.here c.get.result c.requires.chain.stands c.requires.chain.known c.get.ensures
+    (ap (λ s. is_at (first_committed (chain_versions c.args.block.now c.args.self.now c.args.chain)) s) (sym c.stamp-stamp.ensures.value) ∙ sym c.is_latest.ensures ∙ c.if-is_latest.true)
     c.committed_from.result
     (subst (λ n. KeepsLatest c.args.block.now c.args.self.now.tenant c.args.chain (versions_from c.args.block.now n) c.committed_from.result) c.next.ensures c.committed_from.ensures)
 
@@ -28,5 +28,5 @@ pub returns : goal.returns
 returns c =
     let is : c.index.result.now ≡ latest_slot c.args.self.now c.args.chain = get_or_read c.args.self.now.latest c.args.chain _ (omega (arith, c.requires.chain.known, c.requires.chain.stands.long)) (rw (← c.self.view_is) c.index.ensures) None in
     subst (λ k. KeepsLatestBut c.args.block.now c.args.self.now c.args.chain c.args.here k) (sym is)
-    (but_here c.args.block.now c.args.self.now c.args.chain c.args.here c.get.result.now c.requires.chain.stands c.requires.chain.known c.get.ensures
-    (ap (λ s. is_at (first_committed (chain_versions c.args.block.now c.args.self.now c.args.chain)) s) (sym c.stamp_of-stamp.ensures) ∙ sym c.is_latest.ensures ∙ c.if-is_latest.false))
+    (but_here c.args.block.now c.args.self.now c.args.chain c.args.here c.get.result c.requires.chain.stands c.requires.chain.known c.get.ensures
+    (ap (λ s. is_at (first_committed (chain_versions c.args.block.now c.args.self.now c.args.chain)) s) (sym c.stamp-stamp.ensures.value) ∙ sym c.is_latest.ensures ∙ c.if-is_latest.false))

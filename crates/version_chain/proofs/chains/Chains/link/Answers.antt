@@ -23,11 +23,11 @@ after c =
     let version : Version = record { prepared = c.args.prepared.now; committed = c.args.committed } in
     let place : IsPlace c.args.block.now c.args.self.now c.args.chain c.args.prepared.now.stamp (Some c.in-Some.last) c.args.here = subst (λ last. IsPlace c.args.block.now c.args.self.now c.args.chain c.args.prepared.now.stamp last c.args.here) c.in-Some.is c.requires.place in
     let whose : c.self.inside.tenant ≡ c.args.self.now.tenant = ap (λ (h : Heads). h.tenant) c.self.view_is in
-    let kept = kept_is c.args.self.now.latest c.args.chain c.in-Ok.slot c.rises-rises.result c.index.result.now c.latest_of.result (omega (arith, c.requires.chain.known, c.requires.chain.stands.long)) (rw (← c.self.view_is) c.index.ensures) c.latest_of.ensures in
+    let kept = kept_is c.args.self.now.latest c.args.chain c.put-slot.result c.rises-rises.result c.index.result.now c.latest_of.result (omega (arith, c.requires.chain.known, c.requires.chain.stands.long)) (rw (← c.self.view_is) c.index.ensures) c.latest_of.ensures in
     subst (λ (h : Heads). Inserted c.args.block.now c.set_next.new.self c.args.self.now (grown c.args.chain c.latest_of.result h) c.args.chain version) (sym c.self.view_is)
     (subst (λ k. Inserted c.args.block.now c.set_next.new.self c.args.self.now (grown c.args.chain k c.args.self.now) c.args.chain version) (sym kept)
-    (rw (c.set_next.ensures, c.in-Ok.ensures.put, whose)
-    (inserted_after c.args.block.now c.args.self.now c.args.chain c.in-Ok.slot version c.args.here c.requires.chain.stands c.requires.chain.known c.in-Ok.ensures.was_free.0 c.in-Ok.ensures.was_free.1 c.requires.room.room c.requires.room.missing c.rises-rises.result (rises_is c.args.committed _ _ c.rises-rises.result _ c.rises-rises.ensures c.stamp_of.ensures) c.in-Some.last place)))
+    (rw (c.set_next.ensures, c.put-slot.ensures.put, whose)
+    (inserted_after c.args.block.now c.args.self.now c.args.chain c.put-slot.result version c.args.here c.requires.chain.stands c.requires.chain.known c.put-slot.ensures.was_free.0 c.put-slot.ensures.was_free.1 c.requires.room.room c.requires.room.missing c.rises-rises.result (rises_is c.args.committed _ _ c.rises-rises.result _ c.rises-rises.ensures c.stamp_of.ensures) c.in-Some.last place)))
 
 pub returns-in-Some-clause-changed : goal.returns-in-Some-clause-changed
 returns-in-Some-clause-changed c = (after c).changed
@@ -39,16 +39,16 @@ abbrev grown_at : ℕ → ℕ → Option ℕ → Heads → Heads
 grown_at chain slot latest chains = with_used chains (chains.used + 1) (slice_set chains.heads chain (Some slot)) (slice_set chains.latest chain latest)
 
 first : (c : goal.After-self-in-None-1)
-    → Inserted c.args.block.now c.put.new.self c.args.self.now (grown_at c.args.chain c.in-Ok.slot c.latest_of.result (record { tenant = c.self.inside.tenant; share = c.self.inside.share; used = c.self.inside.used; heads = c.self.inside.heads.items; latest = c.self.inside.latest.items; kept = c.self.inside.kept.kept })) c.args.chain (record { prepared = c.args.prepared.now; committed = c.args.committed })
+    → Inserted c.args.block.now c.put-slot.new.self c.args.self.now (grown_at c.args.chain c.put-slot.result c.latest_of.result (record { tenant = c.self.inside.tenant; share = c.self.inside.share; used = c.self.inside.used; heads = c.self.inside.heads.items; latest = c.self.inside.latest.items; kept = c.self.inside.kept.kept })) c.args.chain (record { prepared = c.args.prepared.now; committed = c.args.committed })
 first c =
     let version : Version = record { prepared = c.args.prepared.now; committed = c.args.committed } in
     let place : IsPlace c.args.block.now c.args.self.now c.args.chain c.args.prepared.now.stamp None c.args.here = subst (λ last. IsPlace c.args.block.now c.args.self.now c.args.chain c.args.prepared.now.stamp last c.args.here) c.in-None.is c.requires.place in
     let whose : c.self.inside.tenant ≡ c.args.self.now.tenant = ap (λ (h : Heads). h.tenant) c.self.view_is in
-    let kept = kept_is c.args.self.now.latest c.args.chain c.in-Ok.slot c.rises-rises.result c.index.result.now c.latest_of.result (omega (arith, c.requires.chain.known, c.requires.chain.stands.long)) (rw (← c.self.view_is) c.index.ensures) c.latest_of.ensures in
-    subst (λ (h : Heads). Inserted c.args.block.now c.put.new.self c.args.self.now (grown_at c.args.chain c.in-Ok.slot c.latest_of.result h) c.args.chain version) (sym c.self.view_is)
-    (subst (λ k. Inserted c.args.block.now c.put.new.self c.args.self.now (grown_at c.args.chain c.in-Ok.slot k c.args.self.now) c.args.chain version) (sym kept)
-    (rw (c.in-Ok.ensures.put, whose)
-    (inserted_first c.args.block.now c.args.self.now c.args.chain c.in-Ok.slot version c.args.here c.requires.chain.stands c.requires.chain.known c.in-Ok.ensures.was_free.0 c.in-Ok.ensures.was_free.1 c.requires.room.room c.requires.room.missing c.rises-rises.result (rises_is c.args.committed _ _ c.rises-rises.result _ c.rises-rises.ensures c.stamp_of.ensures) place)))
+    let kept = kept_is c.args.self.now.latest c.args.chain c.put-slot.result c.rises-rises.result c.index.result.now c.latest_of.result (omega (arith, c.requires.chain.known, c.requires.chain.stands.long)) (rw (← c.self.view_is) c.index.ensures) c.latest_of.ensures in
+    subst (λ (h : Heads). Inserted c.args.block.now c.put-slot.new.self c.args.self.now (grown_at c.args.chain c.put-slot.result c.latest_of.result h) c.args.chain version) (sym c.self.view_is)
+    (subst (λ k. Inserted c.args.block.now c.put-slot.new.self c.args.self.now (grown_at c.args.chain c.put-slot.result k c.args.self.now) c.args.chain version) (sym kept)
+    (rw (c.put-slot.ensures.put, whose)
+    (inserted_first c.args.block.now c.args.self.now c.args.chain c.put-slot.result version c.args.here c.requires.chain.stands c.requires.chain.known c.put-slot.ensures.was_free.0 c.put-slot.ensures.was_free.1 c.requires.room.room c.requires.room.missing c.rises-rises.result (rises_is c.args.committed _ _ c.rises-rises.result _ c.rises-rises.ensures c.stamp_of.ensures) place)))
 
 pub returns-in-None-clause-changed : goal.returns-in-None-clause-changed
 returns-in-None-clause-changed c = (first c).changed
@@ -59,5 +59,5 @@ returns-in-None-clause-added c = (first c).added
 pub returns-in-Some-clause-put : goal.returns-in-Some-clause-put
 returns-in-Some-clause-put c =
     let whose : c.self.inside.tenant ≡ c.args.self.now.tenant = ap (λ (h : Heads). h.tenant) c.self.view_is in
-    rw (c.set_next.ensures, c.in-Ok.ensures.put, whose)
-    (put_next c.args.block.now c.args.self.now.tenant c.args.chain c.in-Ok.slot (record { prepared = c.args.prepared.now; committed = c.args.committed }) c.args.here c.in-Ok.ensures.was_free.0 c.in-Ok.ensures.was_free.1 c.in-Some.last)
+    rw (c.set_next.ensures, c.put-slot.ensures.put, whose)
+    (put_next c.args.block.now c.args.self.now.tenant c.args.chain c.put-slot.result (record { prepared = c.args.prepared.now; committed = c.args.committed }) c.args.here c.put-slot.ensures.was_free.0 c.put-slot.ensures.was_free.1 c.in-Some.last)

@@ -10,22 +10,22 @@ loop-here-init c =
     let first : c.index-here.result.now ≡ head c.args.self.now c.args.chain = get_or_read c.args.self.now.heads c.args.chain _ c.requires.known (rw (← c.self.view_is) c.index-here.ensures) None in
     rw first (at_head _ _ c.args.chain c.requires.stands c.requires.known, refl)
 
-pub get-requires : goal.get-requires
-get-requires c = ap is_some (on_cell _ _ _ _ _ _ c.loop-here.invariant.0.chained c.in-Some.is).found
+pub get-node-requires : goal.get-node-requires
+get-node-requires c = ap is_some (on_cell _ _ _ _ _ _ c.loop-here.invariant.0.chained c.in-Some.is).found
 
 pub returns-then-left-eq0 : goal.returns-then-left-eq0
 returns-then-left-eq0 c =
-    let read = read_cell _ _ _ _ _ _ (on_cell _ _ _ _ _ _ c.loop-here.invariant.0.chained c.in-Some.is) c.get.ensures in
-    sym (nth_first _ _ _ _ read.is c.if-left-eq0.true) ∙ c.loop-here.invariant.1
+    let read = read_cell _ _ _ _ _ _ (on_cell _ _ _ _ _ _ c.loop-here.invariant.0.chained c.in-Some.is) c.get-node.ensures in
+    rw (c.into_record.ensures, c.is_committed-committed.ensures) (sym (nth_first _ _ _ _ read.is c.if-left-eq0.true) ∙ c.loop-here.invariant.1)
 
 pub loop-here-smaller : goal.loop-here-smaller
 loop-here-smaller c =
-    let read = read_cell _ _ _ _ _ _ (on_cell _ _ _ _ _ _ c.loop-here.invariant.0.chained c.in-Some.is) c.get.ensures in
+    let read = read_cell _ _ _ _ _ _ (on_cell _ _ _ _ _ _ c.loop-here.invariant.0.chained c.in-Some.is) c.get-node.ensures in
     rw c.next-here.ensures (step-shorter _ _ _ _ _ _ c.loop-here.invariant.0 read)
 
 pub loop-here-preserved : goal.loop-here-preserved
 loop-here-preserved c =
-    let read = read_cell _ _ _ _ _ _ (on_cell _ _ _ _ _ _ c.loop-here.invariant.0.chained c.in-Some.is) c.get.ensures in
+    let read = read_cell _ _ _ _ _ _ (on_cell _ _ _ _ _ _ c.loop-here.invariant.0.chained c.in-Some.is) c.get-node.ensures in
     rw c.next-here.ensures (step _ _ _ _ _ _ c.loop-here.invariant.0 read, nth_later _ _ _ _ _ read.is c.if-left-eq0.false c.loop-here.invariant.1)
 
 pub returns : goal.returns

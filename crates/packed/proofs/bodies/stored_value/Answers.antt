@@ -1,0 +1,14 @@
+use Rattle.std.proofs.Common.{Some, ap, ◌∙◌}
+use Rattle.packed.proofs.BodyParts.{text_of_value, value_here}
+use Rattle.packed.proofs.bodies.stored_value.Goals as goal
+
+pub stored_text-requires : goal.stored_text-requires
+stored_text-requires c = text_of_value c.args.bytes.now c.requires
+
+pub of_stored-requires : goal.of_stored-requires
+of_stored-requires c = (value_here c.args.bytes.now c.stored_text.result.0.now c.stored_text.result.1.now c.stored_text.ensures c.requires).0
+
+pub returns : goal.returns
+returns c =
+    ap (λ one. Some (one, c.stored_text.result.1.now)) c.of_stored.ensures
+    ∙ (value_here c.args.bytes.now c.stored_text.result.0.now c.stored_text.result.1.now c.stored_text.ensures c.requires).1

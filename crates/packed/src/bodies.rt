@@ -1,0 +1,162 @@
+//! Records without their stamps, as the bytes in which they are kept. What was packed here is read again without a check of any byte.
+ghost use Rattle.std.specs.Prelude.{◌≡◌, ℕ, ◌<◌, ◌≤◌, List, length, take, Some, IsSome};
+ghost use Rattle.stamps.specs.Limits.{max_keys};
+ghost use Rattle.packed.specs.Bodies.{packed_body, record_in, IsPackedBody, IsFront};
+ghost use Rattle.packed.specs.Packing.{IsStoreRecord};
+ghost use Rattle.packed.specs.Reading.{text_at, key_at, tag_at, value_at, writes_of, writes_at};
+ghost use Rattle.packed.specs.Sizes.{max_body_bytes};
+
+use crate::laying::lay_body;
+use crate::value_decoding::{read_byte, text_at};
+use stamps::{Key, Record, Stamp, Tag, Value, WriteSet};
+
+/// Packs a record without its stamp to the front of a buffer, and answers how many bytes these are, at most `MAX_BODY_BYTES`. What lies
+/// behind them is then any.
+pub fn pack_body(bytes: &mut [u8], version: &Record) -> usize
+    requires { max_body_bytes ≤ length bytes.old }
+    ensures packed { take result bytes.new ≡ packed_body version.now }
+    ensures stored { IsStoreRecord version.now }
+    ensures body { IsPackedBody version.now.stamp (take result bytes.new) }
+    ensures read { record_in version.now.stamp (take result bytes.new) ≡ version.now }
+    ensures few { result ≤ max_body_bytes }
+{
+    lay_body(bytes, version)
+}
+
+/// The record of a body, of which the stamp is known. It checks no byte.
+#[inline(always)]
+pub fn body_record(bytes: &[u8], stamp: Stamp) -> Record
+    requires { IsPackedBody stamp bytes.now }
+    ensures { result ≡ record_in stamp bytes.now }
+{
+    let (key, rest) = stored_key(bytes);
+    let (tag, rest) = stored_tag(rest);
+    let (value, rest) = stored_value(rest);
+    let writes = stored_writes(rest);
+    Record::of_stored(key, tag, value, stamp, writes)
+}
+
+/// Writes the record of a body, of which the stamp is known, over another record, part by part. It checks no byte.
+pub fn unpack_body(bytes: &[u8], stamp: Stamp, place: &mut Record)
+    requires { IsPackedBody stamp bytes.now }
+    ensures { place.new ≡ record_in stamp bytes.now }
+{
+    let (key, rest) = stored_key(bytes);
+    let (tag, rest) = stored_tag(rest);
+    let (value, rest) = stored_value(rest);
+    place.key = key;
+    place.tag = tag;
+    place.value = value;
+    place.stamp = stamp;
+    place.writes = stored_writes(rest);
+}
+
+/// The key in a body. It checks no byte.
+pub fn body_key(bytes: &[u8]) -> Key
+    requires { (stamp : ℕ) × IsPackedBody stamp bytes.now }
+    ensures { (stamp : ℕ) → IsPackedBody stamp bytes.now
+        → result ≡ (record_in stamp bytes.now).key }
+{
+    let (key, _) = stored_key(bytes);
+    key
+}
+
+/// The tag in a body. It checks no byte.
+pub fn body_tag(bytes: &[u8]) -> Tag
+    requires { (stamp : ℕ) × IsPackedBody stamp bytes.now }
+    ensures { (stamp : ℕ) → IsPackedBody stamp bytes.now
+        → result ≡ (record_in stamp bytes.now).tag }
+{
+    let (_, rest) = stored_text(bytes);
+    let (tag, _) = stored_tag(rest);
+    tag
+}
+
+/// The key in a body, of which the first bytes are given: all, or at least as many as a key and a tag take. It checks no byte.
+pub fn front_key(front: &[u8]) -> Key
+    requires { (stamp : ℕ) × (body : List ℕ) × IsPackedBody stamp body × IsFront front.now body }
+    ensures { (stamp : ℕ) (body : List ℕ) → IsPackedBody stamp body
+        → IsFront front.now body → result ≡ (record_in stamp body).key }
+{
+    let (key, _) = stored_key(front);
+    key
+}
+
+/// The tag in a body, of which the first bytes are given: all, or at least as many as a key and a tag take. It checks no byte.
+pub fn front_tag(front: &[u8]) -> Tag
+    requires { (stamp : ℕ) × (body : List ℕ) × IsPackedBody stamp body × IsFront front.now body }
+    ensures { (stamp : ℕ) (body : List ℕ) → IsPackedBody stamp body
+        → IsFront front.now body → result ≡ (record_in stamp body).tag }
+{
+    let (_, rest) = stored_text(front);
+    let (tag, _) = stored_tag(rest);
+    tag
+}
+
+// The text at the front, and the bytes behind it.
+#[inline(always)]
+fn stored_text(bytes: &[u8]) -> (&[u8], &[u8])
+    requires { IsSome (text_at bytes.now) }
+    ensures { Some (result.0.now, result.1.now) ≡ text_at bytes.now }
+{
+    text_at(bytes).unwrap()
+}
+
+// The key at the front, and the bytes behind it.
+#[inline(always)]
+fn stored_key(bytes: &[u8]) -> (Key, &[u8])
+    requires { IsSome (key_at bytes.now) }
+    ensures { Some (result.0, result.1.now) ≡ key_at bytes.now }
+{
+    let (text, rest) = stored_text(bytes);
+    (Key::of_stored(text), rest)
+}
+
+// The tag at the front, and the bytes behind it.
+#[inline(always)]
+fn stored_tag(bytes: &[u8]) -> (Tag, &[u8])
+    requires { IsSome (tag_at bytes.now) }
+    ensures { Some (result.0, result.1.now) ≡ tag_at bytes.now }
+{
+    let (text, rest) = stored_text(bytes);
+    (Tag::of_stored(text), rest)
+}
+
+// The value at the front, and the bytes behind it.
+#[inline(always)]
+fn stored_value(bytes: &[u8]) -> (Value, &[u8])
+    requires { IsSome (value_at bytes.now) }
+    ensures { Some (result.0, result.1.now) ≡ value_at bytes.now }
+{
+    let (text, rest) = stored_text(bytes);
+    (Value::of_stored(text), rest)
+}
+
+// The write set at the end.
+#[inline(always)]
+fn stored_writes(bytes: &[u8]) -> WriteSet
+    requires { IsSome (writes_at bytes.now) }
+    ensures { (rest : List ℕ) × (Some (result, rest) ≡ writes_at bytes.now) }
+{
+    let (count, rest) = read_byte(bytes).unwrap();
+    stored_keys(usize::from(count), rest)
+}
+
+// A write set of so many keys.
+#[inline(always)]
+fn stored_keys(count: usize, bytes: &[u8]) -> WriteSet
+    requires some { 0 < count }
+    requires few { count ≤ max_keys }
+    requires there { IsSome (writes_of count bytes.now) }
+    ensures { (rest : List ℕ) × (Some (result, rest) ≡ writes_of count bytes.now) }
+{
+    let (first, after_first) = stored_key(bytes);
+    let mut keys = [first; WriteSet::MAX_LEN];
+    let mut rest = after_first;
+    for at in 1..count {
+        let (key, after) = stored_key(rest);
+        keys[at] = key;
+        rest = after;
+    }
+    WriteSet::of_stored(keys, count)
+}

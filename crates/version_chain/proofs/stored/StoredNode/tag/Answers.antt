@@ -1,0 +1,16 @@
+use Rattle.std.proofs.Common.{refl, ap, ◌∙◌}
+use Rattle.stamps.specs.Record.{Record}
+use Rattle.packed.specs.Bodies.{packed_body}
+use Rattle.packed.proofs.BodyParts.{record_is}
+use Rattle.version_chain.proofs.stored.StoredNode.tag.Goals as goal
+
+pub front_tag-requires : goal.front_tag-requires
+front_tag-requires c =
+    let r = c.args.self.now.version.prepared in
+    (r.stamp, packed_body r, (r, c.read_front-len.ensures.stored, refl, refl), c.read_front-len.ensures.front)
+
+pub returns : goal.returns
+returns c =
+    let r = c.args.self.now.version.prepared in
+    c.front_tag.ensures r.stamp (packed_body r) (r, c.read_front-len.ensures.stored, refl, refl) c.read_front-len.ensures.front
+    ∙ ap (λ (r : Record). r.tag) (record_is r.stamp (packed_body r) (r, c.read_front-len.ensures.stored, refl, refl))
