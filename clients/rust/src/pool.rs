@@ -39,11 +39,12 @@ pub struct Taken<'a> {
     client: Client,
 }
 
-/// The address, the tenant and how many sessions it has at most.
+/// The address, the tenant, how many sessions it has at most, and how many threads wait for one.
 impl fmt::Debug for Pool {
     fn fmt(&self, to: &mut fmt::Formatter<'_>) -> fmt::Result {
         let Config { host, port, tenant, .. } = &*self.config;
-        write!(to, "Pool {{ ramp://{host}:{port}/{tenant}, of {} clients }}", self.size)
+        let waiting = locked(&self.state).waiting.len();
+        write!(to, "Pool {{ ramp://{host}:{port}/{tenant}, of {} clients, {waiting} waiting }}", self.size)
     }
 }
 

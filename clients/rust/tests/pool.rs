@@ -151,9 +151,11 @@ fn waiting_threads_are_served_in_order() {
                 order.lock().expect("the order").push(place);
             });
             // The next one comes once this one waits.
-            while format!("{pool:?}").matches("is_given").count() < place {
+            let is_seen = (0..10_000).any(|_| {
                 thread::sleep(Duration::from_millis(1));
-            }
+                format!("{pool:?}").ends_with(&format!(" {place} waiting }}"))
+            });
+            assert!(is_seen, "{place} do not wait: {pool:?}");
         }
         drop(taken);
     });

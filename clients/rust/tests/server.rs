@@ -161,7 +161,7 @@ fn what_debug_prints_has_nothing_that_was_written_or_read() {
     pipeline.put([Write::new("key", "secret")]).expect("a line");
     assert_eq!(format!("{pipeline:?}"), format!("Pipeline {{ 1 lines, Client {{ {}, client {number} }} }}", server.url("t")));
     let pool = Config::new(&server.url("t")).expect("a URL").pool(2);
-    assert_eq!(format!("{pool:?}"), format!("Pool {{ {}, of 2 clients }}", server.url("t")));
+    assert_eq!(format!("{pool:?}"), format!("Pool {{ {}, of 2 clients, 0 waiting }}", server.url("t")));
     let taken = pool.take().expect("a session");
     assert_eq!(format!("{taken:?}"), format!("Client {{ {}, client {} }}", server.url("t"), taken.number()));
 }
