@@ -278,7 +278,9 @@ fn newest<'a>(alloc: Global) -> Arg<'a>
     Arg::new(alloc, NEWEST)
         .long(NEWEST)
         .action(ArgAction::SetTrue)
-        .help("Have each put be newer than what was done before it, by a clock of its tenant")
+        .help(
+            "Have each put be newer than any that was done before; without it, a put of keys not read may be lost",
+        )
 }
 
 // Whether it records nothing.
