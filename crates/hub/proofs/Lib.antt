@@ -16,3 +16,4 @@ pub mod Evidence
 mod Reported
 mod Fresh
 mod Done
+mod Leaving

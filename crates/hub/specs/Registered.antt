@@ -1,5 +1,5 @@
 -- Who has a session, and what is kept of the clients that had one.
-use Rattle.std.specs.Prelude.{◌≡◌, ◌≢◌, ◌⊎◌, ◌+◌, ◌<◌, ℕ, Bool, false, true, Option, None, Some, IsSome, IsSomeAnd, All, cond, length, max, min, nat_eq, nat_le, nat_lt, slice_get, ◌||◌, ◌^◌, ◌-◌}
+use Rattle.std.specs.Prelude.{◌≡◌, ◌≢◌, ◌⊎◌, ◌+◌, ◌<◌, ◌≤◌, ℕ, Bool, false, true, Option, None, Some, IsSome, IsSomeAnd, All, cond, length, max, min, nat_eq, nat_le, nat_lt, slice_get, ◌||◌, ◌^◌, ◌-◌}
 use Rattle.std.specs.Option.{option_map_or}
 use Rattle.indexmap.specs.IndexMap.{IsEmpty, get, index_map_len, spare}
 use Rattle.plain_store.specs.declared.refusal.Refusal.{Refusal}
@@ -7,7 +7,7 @@ use Rattle.plain_store.specs.declared.refusal.Refusal.TheVariants.{Busy, Clients
 use Rattle.hub.specs.declared.register.Register.{Register}
 use Rattle.hub.specs.declared.register.KnownClient.{KnownClient}
 use Rattle.hub.specs.declared.register.Admission.{Admission}
-use Rattle.hub.specs.declared.register.Departure.{Departure}
+use Rattle.hub.specs.declared.clients.Departure.{Departure}
 use Rattle.shard.specs.declared.seat_name.SeatName.{SeatName}
 
 -- what is kept of a tenant's client, if it had a session
@@ -66,13 +66,27 @@ abbrev pub after_session : (turn counter ticket : ℕ) → KnownClient → Known
 after_session turn counter ticket row =
     cond (nat_eq row.turn turn) (record row { is_open = false; counter = max row.counter counter; ticket = ticket }) row
 
--- the session of this name ended, with this counter, after so many transactions
-pub record IsDeparture (name : SeatName) (counter ticket : ℕ) (departure : Departure) : Type 0 where
+-- the client has no session, and its next one goes on at this counter or above it
+abbrev pub IsFreeFrom : ℕ → Option KnownClient → Type 0
+IsFreeFrom counter known =
+    (has_session known ≡ false) × ((seats base : ℕ) → counter ≤ (next_session seats known base).counter)
+
+-- so it is with what is kept of the client now, if the row that was kept before was that of the session of this turn
+abbrev pub SetsFree : (turn counter : ℕ) → (old new : Option KnownClient) → Type 0
+SetsFree turn counter old new = (row : KnownClient) → old ≡ Some row → row.turn ≡ turn → IsFreeFrom counter new
+
+-- the session of this name ended, with this counter
+pub record HasLeft (name : SeatName) (counter : ℕ) (departure : Departure) : Type 0 where
   pub tenant : departure.tenant ≡ name.tenant
   pub client : departure.client ≡ name.client
   pub turn : departure.turn ≡ name.turn
   pub counter_is : departure.counter ≡ counter
+
+-- it did after so many transactions, with the client's word or without it
+pub record IsDeparture (name : SeatName) (counter ticket : ℕ) (has_word : Bool) (departure : Departure) : Type 0 where
+  pub left : HasLeft name counter departure
   pub ticket_is : departure.ticket ≡ ticket
+  pub word_is : departure.has_word ≡ has_word
 
 -- there is room for what is kept of the client
 abbrev pub HasRoomFor : Register → ℕ → ℕ → Type 0

@@ -5,13 +5,14 @@ ghost use Rattle.hub.specs.Hubs.{view_with, AllTraced, IsLeftBy};
 ghost use Rattle.hub.specs.Registered.{IsDeparture, is_unopened};
 ghost use Rattle.shard.specs.Queues.{unsent};
 ghost use Rattle.shard.specs.UsedAt.{AreUsagesAt, WasElsewhere};
-ghost use Rattle.std.specs.Prelude.{◌≡◌, ◌≤◌, ◌<◌, ◌+◌, ◌↔◌, ◌⊎◌, true, false, [], length, map, slice_get, vec_len, vec_capacity, Ok, IfOk, IfErr, IfSome, OnOk, IsErrOf, IsTrue};
+ghost use Rattle.std.specs.Prelude.{◌≡◌, ◌≤◌, ◌<◌, ◌+◌, ◌↔◌, ◌⊎◌, true, false, [], length, map, slice_get, vec_len, vec_capacity, Ok, IfOk, IfErr, IfSome, OnOk, IsErrOf, IsTrue, is_some};
 
+use crate::clients::{Clients, Departure};
 use crate::clocks::Clocks;
 use crate::closing::{look_at_calls, seen_with, take_out};
 use crate::dispatcher::Dispatcher;
 use crate::new_store::NewStore;
-use crate::register::{Departure, Register};
+use crate::register::Register;
 use crate::seal::Sealed;
 use crate::seat::{Ends, Seat};
 use crate::start::{HubFault, PartitionLists, Worker, collector_of, join_all, share, start_all};
@@ -27,13 +28,6 @@ use std::sync::{Arc, Mutex, Wait};
 use std::thread::Threads;
 use tenant_sessions::ClientSession;
 use traced_client::{ClientWords, TracedClient};
-
-/// The clients of all tenants, behind one lock: who has a session, and the words of those that have none.
-#[derive(Drop)]
-struct Clients<G: Naming> {
-    register: Register,
-    words: ClientWords<G>,
-}
 
 /// The running store. Any thread may hold a `&` to it and take seats; one thread opens and closes it.
 ///
@@ -229,15 +223,9 @@ impl<G: Naming> Hub<G> {
         ticket: u64,
         client: Option<TracedClient<G>>,
     ) -> Departure
-        ensures { IsDeparture name.now counter ticket result }
+        ensures { IsDeparture name.now counter ticket (is_some client) result }
     {
-        let mut clients = self.clients.lock(rt);
-        if let Some(its) = client {
-            clients.words.give_back(its);
-        }
-        clients
-            .register
-            .leave(name.tenant, name.client, name.turn, counter, ticket)
+        self.clients.lock(rt).leave(name, counter, ticket, client)
     }
 }
 
@@ -320,8 +308,7 @@ impl<G: Gate + Naming> Hub<G> {
             Ok(ends) => ends,
             Err(_) => return Err(Refusal::OutOfMemory),
         };
-        let word = clients.words.take(tenant, client)?;
-        clients.register.admit(tenant, client, &admission);
+        let word = clients.admit(tenant, client, &admission)?;
         let name = SeatName {
             tenant,
             client,

@@ -24,6 +24,7 @@
 
 mod by_clock;
 mod call_pool;
+mod clients;
 mod clocks;
 mod closing;
 mod dispatcher;
@@ -37,6 +38,7 @@ mod seat;
 mod seat_request;
 mod start;
 
+pub use clients::Departure;
 pub use closed_store::{Closed, Config, Entry, EntryList, JoinFault, Operation, Taken, Transcript};
 pub use history::{Front, Naming};
 pub use hub::Hub;

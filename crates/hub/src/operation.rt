@@ -1,5 +1,5 @@
 //! One operation of a seat: its calls go out, and their replies come in until each is answered.
-ghost use Rattle.std.specs.Prelude.{◌≡◌, ◌<◌, ◌≤◌, ◌+◌, ◌^◌, ◌↔◌, ℕ, true, None, Some, IfSome, IsTrue};
+ghost use Rattle.std.specs.Prelude.{◌≡◌, ◌<◌, ◌≤◌, ◌+◌, ◌^◌, ◌↔◌, ℕ, true, None, Some, IfSome, IsTrue, is_some};
 ghost use mathlib.Core.List.{IsPrefix};
 ghost use Rattle.history.specs.Entries.{HasMark};
 ghost use Rattle.history.specs.Legal.{IsDecided, IsGivenUp, IsLegal};
@@ -16,8 +16,11 @@ ghost use Rattle.history.specs.Rules.{IsClockOf};
 ghost use Rattle.history.specs.Clock.{IsDrawnBehind};
 ghost use Rattle.entry_list.specs.Raises.{raise_entries};
 ghost use Rattle.hub.specs.Clocks.{IsDrawRefusal};
+ghost use Rattle.hub.specs.Registered.{IsDeparture};
 
+use crate::clients::Departure;
 use crate::dispatcher::{Dispatcher, MOST_CALLS};
+use crate::hub::Hub;
 use crate::seat_request::SeatRequest;
 use closed_store::{Entry, EntryList};
 use history::{Front, Mark, Naming, Tally};
@@ -508,6 +511,21 @@ impl<'a, G: Gate + Naming> RunningOperation<'a, G> {
             × (self.new.mark ≡ self.old.mark) }
     {
         self.entries.clear();
+    }
+
+    /// Ends the session at this hub, after so many transactions, with the counter that it has come to, and gives its client's word back,
+    /// if that is here.
+    pub(crate) fn leave<R: Wait>(&mut self, rt: &R, hub: &Hub<G>, ticket: u64) -> Departure
+        ensures left { IsDeparture self.old.name self.old.session.counter ticket
+            (is_some self.old.client) result }
+        ensures rest { (self.new.name ≡ self.old.name) × (self.new.dispatcher ≡ self.old.dispatcher)
+            × (self.new.session ≡ self.old.session) × (self.new.entries ≡ self.old.entries)
+            × (self.new.first ≡ self.old.first) × (self.new.seen ≡ self.old.seen)
+            × (self.new.mark ≡ self.old.mark) }
+    {
+        let counter = self.session.counter();
+        let client = self.client.take();
+        hub.leave(rt, &self.name, counter, ticket, client)
     }
 
     /// Ends an operation: counts the calls that it staged, and says whether there were any.

@@ -54,16 +54,6 @@ pub struct Admission {
     pub ticket: u64,
 }
 
-/// That a session of a client ended, which had this turn, with its counter and its last ticket. `Register::leave` alone makes one.
-#[derive(Clone, Copy)]
-pub struct Departure {
-    tenant: u32,
-    client: Client,
-    turn: u64,
-    counter: Counter,
-    ticket: u64,
-}
-
 /// How many transactions a client of which this is kept began.
 fn tickets(known: &Option<KnownClient>) -> u64
     ensures { result ≡ tickets_of known.now }
@@ -217,16 +207,7 @@ impl Register {
     }
 
     /// Ends the session of a client that had this turn, with its counter and its last ticket. A later one of that client goes on.
-    pub fn leave(
-        &mut self,
-        tenant: u32,
-        client: Client,
-        turn: u64,
-        counter: Counter,
-        ticket: u64,
-    ) -> Departure
-        ensures told { (result.tenant ≡ tenant) × (result.client ≡ client) × (result.turn ≡ turn)
-            × (result.counter ≡ counter) × (result.ticket ≡ ticket) }
+    pub fn leave(&mut self, tenant: u32, client: Client, turn: u64, counter: Counter, ticket: u64)
         ensures known { KeepsOf tenant client
             (option_map (after_session turn counter ticket) (known_of self.old tenant client))
             self.old self.new }
@@ -236,13 +217,6 @@ impl Register {
             && let Some(row) = rows.get_mut(&client.get())
         {
             row.leave(turn, counter, ticket);
-        }
-        Departure {
-            tenant,
-            client,
-            turn,
-            counter,
-            ticket,
         }
     }
 }

@@ -12,15 +12,16 @@ ghost use Rattle.hub.specs.Clocks.{HasSeenMore};
 ghost use Rattle.hub.specs.Fresh.{AreCommittedIn, IsFreshAt, IsFreshByEntry};
 ghost use Rattle.hub.specs.Evidence.{HasEntryAt, IsOfClient, no_mark};
 ghost use Rattle.hub.specs.Replies.{IfDone, IfListed, IfRead, IfShows, IsDrawn, IsToldFor};
+ghost use Rattle.hub.specs.Registered.{HasLeft};
 ghost use Rattle.hub.specs.Requests.{act_of};
 ghost use Rattle.hub.specs.Seats.{SeatView, Extends, IsEntered, IsNamed, begun_entries, is_unbegun, last_operation};
 ghost use Rattle.hub.specs.Taken.{replies_in};
 ghost use Rattle.shard.specs.Jobs.{refusal_of};
 
+use crate::clients::Departure;
 use crate::dispatcher::{Dispatcher, MOST_CALLS};
 use crate::hub::Hub;
 use crate::operation::{RunningOperation, tell_refusal};
-use crate::register::Departure;
 use crate::seat_request::SeatRequest;
 use closed_store::{Entry, EntryList, Transcript};
 use history::{Front, Naming, Tally};
@@ -280,13 +281,22 @@ impl<'a, G: Gate + Naming> Seat<'a, G> {
         ensures entries { result.entries.items ≡ self.entry.entries }
         ensures name { IsNamed result self.entry.name }
     {
+        let (transcript, _departure) = self.end_with_departure(rt);
+        transcript
+    }
+
+    /// As `end`, and answers that the hub's register has entered it: the client's number is free again, and its next session goes on at
+    /// the seat's counter or above it. A seat that was stopped has left before, which changes nothing then.
+    pub fn end_with_departure<R: Wait>(self, rt: &R) -> (Transcript, Departure)
+        ensures entries { result.0.entries.items ≡ self.entry.entries }
+        ensures name { IsNamed result.0 self.entry.name }
+        ensures left { HasLeft self.entry.name self.entry.counter result.1 }
+    {
         let mut seat = self;
-        if !seat.stopped {
-            let _ = seat.leave(rt);
-        }
+        let departure = seat.leave(rt);
         let Seat { operation, .. } = seat;
         let RunningOperation { name, entries, .. } = operation;
-        Transcript {
+        let transcript = Transcript {
             tenant: name.tenant,
             client: name.client,
             turn: name.turn,
@@ -294,7 +304,8 @@ impl<'a, G: Gate + Naming> Seat<'a, G> {
             base: name.base,
             counter: name.counter,
             entries,
-        }
+        };
+        (transcript, departure)
     }
 
     /// Runs an operation, takes at most so many replies, and writes its answer into the caller's buffer. It answers how many entries its
@@ -375,15 +386,9 @@ impl<'a, G: Gate + Naming> Seat<'a, G> {
 
     /// Ends the client's session, with the counter that it has come to, and gives its word back.
     fn leave<R: Wait>(&mut self, rt: &R) -> Departure
-        ensures session { (result.tenant ≡ self.old.name.tenant)
-            × (result.client ≡ self.old.name.client) × (result.turn ≡ self.old.name.turn) }
-        ensures counter { result.counter ≡ self.old.counter }
+        ensures left { HasLeft self.old.name self.old.counter result }
         ensures same { self.new ≡ self.old }
     {
-        let operation = &mut self.operation;
-        let name = operation.name;
-        let counter = operation.session.counter();
-        let client = operation.client.take();
-        self.hub.leave(rt, &name, counter, self.ticket, client)
+        self.operation.leave(rt, self.hub, self.ticket)
     }
 }
