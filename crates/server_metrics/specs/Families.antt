@@ -4,7 +4,7 @@ use Rattle.server_metrics.specs.declared.families.Family.{Family}
 use Rattle.server_metrics.specs.declared.families.Family.TheVariants.{Items, ItemsLimit, Versions, VersionsLimit}
 use Rattle.server_metrics.specs.declared.families.Family.TheVariants.{Marks, MarksLimit, Calls, Cut, Checked}
 use Rattle.server_metrics.specs.declared.families.Family.TheVariants.{Waiting, Wrong, Clients, ClientsLimit, Sessions, Operations}
-use Rattle.server_metrics.specs.declared.families.Family.TheVariants.{Refusals, HellosBusy, Restarts, Times, Collections, Connections}
+use Rattle.server_metrics.specs.declared.families.Family.TheVariants.{TenantRefusals, Refusals, HellosBusy, Restarts, Times, Collections, Connections}
 use Rattle.server_metrics.specs.declared.families.Family.TheVariants.{ConnectionsLimit, ConnectionsBegun}
 use Rattle.server_metrics.specs.declared.families.Family.TheVariants.{Started, Build}
 
@@ -25,6 +25,7 @@ name_text Clients = codes "ramp_clients"
 name_text ClientsLimit = codes "ramp_clients_limit"
 name_text Sessions = codes "ramp_sessions"
 name_text Operations = codes "ramp_operations_total"
+name_text TenantRefusals = codes "ramp_tenant_refusals_total"
 name_text Refusals = codes "ramp_refusals_total"
 name_text HellosBusy = codes "ramp_hellos_busy_total"
 name_text Restarts = codes "ramp_restarts_total"
@@ -53,6 +54,7 @@ help_text Clients = codes "Client numbers of a tenant that were used."
 help_text ClientsLimit = codes "Client numbers that a tenant may use."
 help_text Sessions = codes "Sessions of a tenant that are open."
 help_text Operations = codes "Lines put, get and find of a tenant that were answered done, read and list."
+help_text TenantRefusals = codes "Lines of a tenant's clients that were answered by this refusal, but 12."
 help_text Refusals = codes "Lines of sessions that were answered by this refusal, but 12."
 help_text HellosBusy = codes "Lines hello that were refused 12, since the client number has a session: clients then draw another."
 help_text Restarts = codes "Lines of sessions that were answered by a restart."
@@ -81,6 +83,7 @@ kind_text Clients = codes " gauge\n"
 kind_text ClientsLimit = codes " gauge\n"
 kind_text Sessions = codes " gauge\n"
 kind_text Operations = codes " counter\n"
+kind_text TenantRefusals = codes " counter\n"
 kind_text Refusals = codes " counter\n"
 kind_text HellosBusy = codes " counter\n"
 kind_text Restarts = codes " counter\n"

@@ -9,7 +9,7 @@ use Rattle.server_metrics.specs.declared.families.Family.{Family}
 use Rattle.server_metrics.specs.declared.families.Family.TheVariants.{Items, ItemsLimit, Versions, VersionsLimit}
 use Rattle.server_metrics.specs.declared.families.Family.TheVariants.{Marks, MarksLimit, Calls, Cut, Checked}
 use Rattle.server_metrics.specs.declared.families.Family.TheVariants.{Waiting, Wrong, Clients, ClientsLimit, Sessions, Operations}
-use Rattle.server_metrics.specs.declared.families.Family.TheVariants.{Refusals, HellosBusy, Restarts, Times, Collections, Connections}
+use Rattle.server_metrics.specs.declared.families.Family.TheVariants.{TenantRefusals, Refusals, HellosBusy, Restarts, Times, Collections, Connections}
 use Rattle.server_metrics.specs.declared.families.Family.TheVariants.{ConnectionsLimit, ConnectionsBegun}
 use Rattle.server_metrics.specs.declared.families.Family.TheVariants.{Started, Build}
 use Rattle.server_metrics.specs.declared.metrics.ClientRow.{ClientRow}
@@ -34,6 +34,7 @@ number_of Clients row = None
 number_of ClientsLimit row = None
 number_of Sessions row = None
 number_of Operations row = None
+number_of TenantRefusals row = None
 number_of Refusals row = None
 number_of HellosBusy row = None
 number_of Restarts row = None
@@ -102,10 +103,33 @@ operation_rows_text rows = flat_map operations_of rows
 abbrev pub operations_text : List ClientRow → List ℕ
 operations_text rows = family_text Operations ++ operation_rows_text rows
 
--- how many client numbers were used of each tenant and may be, its open sessions, and its operations
+-- the line of a tenant's refusal
+abbrev pub refused_text : List ℕ → List ℕ → ℕ → List ℕ
+refused_text tenant number lines =
+    figure_text TenantRefusals ((codes "tenant", tenant) ∷ (codes "number", number) ∷ []) lines
+
+unfoldable pub tenant_refusal_text : List ℕ → RefusalRow → List ℕ
+tenant_refusal_text tenant row = refused_text tenant (decimal row.number) row.lines
+
+-- the lines of its refusals
+abbrev pub refusals_of : List ℕ → List RefusalRow → List ℕ
+refusals_of tenant refusals = flat_map (tenant_refusal_text tenant) refusals
+
+abbrev pub tenant_refusal_rows_text : List ClientRow → List ℕ
+tenant_refusal_rows_text rows = flat_map (λ row. refusals_of row.tenant.now row.refusals.items) rows
+
+-- the family of the tenants' refusals
+unfoldable pub tenant_refusals_text : List ClientRow → List ℕ
+tenant_refusals_text rows = family_text TenantRefusals ++ tenant_refusal_rows_text rows
+
+-- what the tenants' lines were answered: their operations and refusals
+unfoldable pub tenant_answers_text : List ClientRow → List ℕ
+tenant_answers_text rows = operations_text rows ++ tenant_refusals_text rows
+
+-- how many client numbers were used of each tenant and may be, its open sessions, its operations and its refusals
 unfoldable pub all_tenants_text : List ClientRow → List ℕ
 all_tenants_text rows =
-    tenants_text Clients rows ++ (tenants_text ClientsLimit rows ++ (tenants_text Sessions rows ++ operations_text rows))
+    tenants_text Clients rows ++ (tenants_text ClientsLimit rows ++ (tenants_text Sessions rows ++ tenant_answers_text rows))
 
 -- the line of a refusal
 abbrev pub refusal_text : Family → RefusalRow → List ℕ

@@ -21,6 +21,7 @@ pub enum Family {
     ClientsLimit,
     Sessions,
     Operations,
+    TenantRefusals,
     Refusals,
     HellosBusy,
     Restarts,
@@ -69,6 +70,7 @@ pub(crate) fn name_text(family: Family) -> &'static str
         Family::ClientsLimit => "ramp_clients_limit",
         Family::Sessions => "ramp_sessions",
         Family::Operations => "ramp_operations_total",
+        Family::TenantRefusals => "ramp_tenant_refusals_total",
         Family::Refusals => "ramp_refusals_total",
         Family::HellosBusy => "ramp_hellos_busy_total",
         Family::Restarts => "ramp_restarts_total",
@@ -106,6 +108,8 @@ pub(crate) fn help_text(family: Family) -> &'static str
         Family::Sessions => "Sessions of a tenant that are open.",
         Family::Operations =>
             "Lines put, get and find of a tenant that were answered done, read and list.",
+        Family::TenantRefusals =>
+            "Lines of a tenant's clients that were answered by this refusal, but 12.",
         Family::Refusals => "Lines of sessions that were answered by this refusal, but 12.",
         Family::HellosBusy =>
             "Lines hello that were refused 12, since the client number has a session: clients then draw another.",
@@ -131,6 +135,7 @@ pub(crate) fn kind_text(family: Family) -> &'static str
         | Family::Cut
         | Family::Checked
         | Family::Operations
+        | Family::TenantRefusals
         | Family::Refusals
         | Family::HellosBusy
         | Family::Restarts

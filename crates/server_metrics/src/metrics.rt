@@ -3,7 +3,7 @@ ghost use Rattle.std.specs.Prelude.{◌≡◌, ◌-◌, ◌++◌, OnOk, if◌the
 ghost use Rattle.std.specs.List.{list_all};
 ghost use Rattle.std.specs.Option.{option_map};
 ghost use Rattle.server_metrics.specs.Figures.{figure_text};
-ghost use Rattle.server_metrics.specs.MetricsText.{all_tenants_text, client_text, clients_number, clients_text, connections_text, families_text, is_well, metrics_text, number_of, operation_rows_text, operation_text, operations_of, operations_text, place_of, plain_text, process_text, refusal_rows_text, refusal_text, refusals_text, row_text, rows_text, server_text, table_text, tenants_text};
+ghost use Rattle.server_metrics.specs.MetricsText.{all_tenants_text, client_text, clients_number, clients_text, connections_text, families_text, is_well, metrics_text, number_of, operation_rows_text, operation_text, operations_of, operations_text, place_of, plain_text, process_text, refusal_rows_text, refusal_text, refusals_of, refusals_text, refused_text, row_text, rows_text, server_text, table_text, tenant_answers_text, tenant_refusal_rows_text, tenant_refusal_text, tenant_refusals_text, tenants_text};
 
 use crate::families::{Family, OF_ROWS};
 use crate::figures::{Label, put_family, put_figure};
@@ -35,7 +35,7 @@ pub struct Row<'a> {
 }
 
 /// How many client numbers of a tenant were used, of how many, and what its sessions did.
-#[derive(Clone, Copy)]
+#[derive(Drop)]
 pub struct ClientRow<'a> {
     pub tenant: &'a str,
     pub clients: u64,
@@ -46,6 +46,8 @@ pub struct ClientRow<'a> {
     pub puts: u64,
     pub gets: u64,
     pub finds: u64,
+    /// A row of each refusal but 12 that its clients were answered.
+    pub refusals: Vec<RefusalRow>,
 }
 
 /// How many lines were answered by one refusal.
@@ -220,7 +222,7 @@ fn wrong_of(row: &Row<'_>) -> Option<u64>
     Some(if row.is_wrong { 1 } else { 0 })
 }
 
-// Appends how many client numbers of each tenant were used and may be, its open sessions, and its operations.
+// Appends how many client numbers of each tenant were used and may be, its open sessions, its operations and its refusals.
 #[tactic(auto, unfolding(crate::specs::MetricsText::all_tenants_text))]
 fn put_all_tenants(text: &mut String, rows: &[ClientRow<'_>]) -> Result<(), AllocError>
     ensures { OnOk result (string_bytes text.new
@@ -229,7 +231,17 @@ fn put_all_tenants(text: &mut String, rows: &[ClientRow<'_>]) -> Result<(), Allo
     put_tenants(text, Family::Clients, rows)?;
     put_tenants(text, Family::ClientsLimit, rows)?;
     put_tenants(text, Family::Sessions, rows)?;
-    put_operations(text, rows)
+    put_tenant_answers(text, rows)
+}
+
+// Appends what the tenants' lines were answered: their operations and refusals.
+#[tactic(auto, unfolding(crate::specs::MetricsText::tenant_answers_text))]
+fn put_tenant_answers(text: &mut String, rows: &[ClientRow<'_>]) -> Result<(), AllocError>
+    ensures { OnOk result (string_bytes text.new
+        ≡ string_bytes text.old ++ tenant_answers_text rows.now) }
+{
+    put_operations(text, rows)?;
+    put_tenant_refusals(text, rows)
 }
 
 // Appends the family of the operations.
@@ -284,6 +296,76 @@ fn put_operation<'a>(
         },
     ];
     put_figure(text, Family::Operations, &labels, number)
+}
+
+// Appends the family of the tenants' refusals.
+#[tactic(auto, unfolding(crate::specs::MetricsText::tenant_refusals_text))]
+fn put_tenant_refusals(text: &mut String, rows: &[ClientRow<'_>]) -> Result<(), AllocError>
+    ensures { OnOk result (string_bytes text.new
+        ≡ string_bytes text.old ++ tenant_refusals_text rows.now) }
+{
+    put_family(text, Family::TenantRefusals)?;
+    put_tenant_refusal_rows(text, rows)
+}
+
+// Appends the lines of each tenant's refusals.
+fn put_tenant_refusal_rows(text: &mut String, rows: &[ClientRow<'_>]) -> Result<(), AllocError>
+    ensures { OnOk result (string_bytes text.new
+        ≡ string_bytes text.old ++ tenant_refusal_rows_text rows.now) }
+{
+    for row in rows {
+        put_refusals_of(text, row.tenant, &row.refusals)?;
+    }
+    Ok(())
+}
+
+// Appends the lines of a tenant's refusals.
+fn put_refusals_of(
+    text: &mut String,
+    tenant: &str,
+    refusals: &[RefusalRow],
+) -> Result<(), AllocError>
+    ensures { OnOk result (string_bytes text.new
+        ≡ string_bytes text.old ++ refusals_of tenant.now refusals.now) }
+{
+    for row in refusals {
+        put_tenant_refusal(text, tenant, row)?;
+    }
+    Ok(())
+}
+
+// Appends the line of a tenant's refusal.
+#[tactic(auto, unfolding(crate::specs::MetricsText::tenant_refusal_text))]
+fn put_tenant_refusal(text: &mut String, tenant: &str, row: &RefusalRow) -> Result<(), AllocError>
+    ensures { OnOk result (string_bytes text.new
+        ≡ string_bytes text.old ++ tenant_refusal_text tenant.now row.now) }
+{
+    let mut buffer = Buffer::new();
+    let number = buffer.format(row.number);
+    put_refused(text, tenant, number, row.lines)
+}
+
+// Appends how many lines of a tenant's clients were answered by the refusal of this number.
+fn put_refused<'a>(
+    text: &mut String,
+    tenant: &'a str,
+    number: &'a str,
+    lines: u64,
+) -> Result<(), AllocError>
+    ensures { OnOk result (string_bytes text.new
+        ≡ string_bytes text.old ++ refused_text tenant.now number.now lines) }
+{
+    let labels = [
+        Label {
+            name: "tenant",
+            value: tenant,
+        },
+        Label {
+            name: "number",
+            value: number,
+        },
+    ];
+    put_figure(text, Family::TenantRefusals, &labels, lines)
 }
 
 // Appends a family with its number of each tenant.

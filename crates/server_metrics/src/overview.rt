@@ -343,21 +343,18 @@ const REFUSALS = { 10: "no such tenant, or a partition did not serve", 11: "no s
   16: "no item is free", 19: "stopped", 20: "another record has the stamp", 22: "inconsistent reply", 23: "a search found more than 16 items", 24: "client numbers used up", 25: "late call",
   26: "rows used up", 27: "no discard watermark is free", 28: "discarded stamp", 30: "out of memory", 40: "a line that fits no form, as with CR LF", 41: "line too long", 42: "cut line" };
 
-// The families of the room that these are for lack of. Only a tenant that has used all of it is refused so.
-const ROOM_OF = { 15: "ramp_versions", 16: "ramp_items", 24: "ramp_clients", 27: "ramp_marks" };
-
-function tenantsWithout(families, room) {
-  const limits = new Map(rows(families, room + "_limit").map(row => [JSON.stringify(row.labels), row.value]));
-  const full = rows(families, room).filter(row => row.value >= limits.get(JSON.stringify(row.labels)));
-  return [...new Set(full.map(row => row.labels.tenant))].join(", ");
+// Whose lines were refused so, the most first.
+function tenantsRefused(families, number) {
+  const whose = rows(families, "ramp_tenant_refusals_total").filter(row => row.labels.number === number);
+  return whose.sort((one, other) => other.value - one.value).map(row => row.labels.tenant).join(", ");
 }
 
 function drawRefusals(families) {
   const lines = rows(families, "ramp_refusals_total").map(({ labels, value }) =>
-    [labels.number, REFUSALS[labels.number] || "", tenantsWithout(families, ROOM_OF[labels.number]), value.toLocaleString("en")]);
+    [labels.number, REFUSALS[labels.number] || "", tenantsRefused(families, labels.number), value.toLocaleString("en")]);
   const drawn = rows(families, "ramp_hellos_busy_total");
   if (drawn.length) lines.push(["12", "hello with a client number that has a session; clients then draw another", "", total(families, "ramp_hellos_busy_total").toLocaleString("en")]);
-  table("refusals", [text("number"), text("cause"), text("tenants without room"), number("lines")], lines.length ? lines : [["none", "", "", "0"]]);
+  table("refusals", [text("number"), text("cause"), text("tenants that were refused"), number("lines")], lines.length ? lines : [["none", "", "", "0"]]);
 }
 
 function drawHead(families) {

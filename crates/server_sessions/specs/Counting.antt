@@ -1,6 +1,5 @@
 -- As what answers are counted.
-use Rattle.std.specs.Prelude.{ℕ, Option, Some, None}
-use Rattle.std.specs.Option.{option_map}
+use Rattle.std.specs.Prelude.{◌≡◌, ℕ, Option, Some, None, IsSomeAnd}
 use Rattle.plain_store.specs.Numbers.{number_of}
 use Rattle.plain_store.specs.declared.answer.Answer.{Answer}
 use Rattle.plain_store.specs.declared.answer.Answer.TheVariants as answers
@@ -11,6 +10,7 @@ use Rattle.server_sessions.specs.declared.line_session.SessionEnd.TheVariants.{S
 use Rattle.server_sessions.specs.declared.answer_counts.Counted.{Counted}
 use Rattle.server_sessions.specs.declared.answer_counts.CountedAs.{CountedAs}
 use Rattle.server_sessions.specs.declared.answer_counts.CountedAs.TheVariants.{Refusal, Restart}
+use Rattle.server_sessions.specs.declared.tenant_counts.TenantCounted.{TenantCounted}
 
 -- the numbers of refusals are below this
 abbrev pub numbers : ℕ
@@ -53,11 +53,11 @@ counted_last Bye = None
 counted_last Unread = Some (Refusal (number_of BadLine))
 counted_last (Refused cause) = Some (Refusal (number_of cause))
 
--- as what the receipt says, if there is one
-abbrev pub kind_of : Option Counted → Option CountedAs
-kind_of = option_map (λ (counted : Counted). counted.kind)
+-- the receipt of an answer that was counted so: by its cause, and of its tenant
+abbrev pub IsReceipt : Option CountedAs → Option TenantCounted → Counted → Type 0
+IsReceipt kind of_tenant counted = (counted.kind ≡ kind) × (counted.of_tenant ≡ of_tenant)
 
--- nothing is counted where there are no counts
-abbrev pub if_counts : {X : Type 0} → Option X → Option CountedAs → Option CountedAs
-if_counts None kind = None
-if_counts (Some counts) kind = kind
+-- there is that receipt where there are counts
+abbrev pub IsCounted : {X : Type 0} → Option X → Option CountedAs → Option TenantCounted → Option Counted → Type 0
+IsCounted None kind of_tenant counted = Unit {0}
+IsCounted (Some counts) kind of_tenant counted = IsSomeAnd counted (IsReceipt kind of_tenant)

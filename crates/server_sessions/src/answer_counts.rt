@@ -1,9 +1,12 @@
 //! How many lines were answered by refusals and by restarts, and what was counted of each tenant.
-ghost use Rattle.std.specs.Prelude.{◌≡◌, ◌<◌, ◌≤◌, IfOk, Some, vec_len};
+ghost use Rattle.std.specs.Prelude.{◌≡◌, ◌<◌, ◌≤◌, IfOk, None, Some, vec_len};
 ghost use Rattle.plain_store.specs.Numbers.{number_of};
-ghost use Rattle.server_sessions.specs.Counting.{counted_as, kind_of, numbers};
+ghost use Rattle.server_sessions.specs.Counting.{IsReceipt, counted_as, numbers};
+ghost use Rattle.server_sessions.specs.TenantCounting.{counted_for, counted_of_tenant};
 
-use crate::tenant_counts::{ServedCounts, TenantCount, TenantCounts, counted_of_tenant};
+use crate::tenant_counts::{
+    ServedCounts, TenantCount, TenantCounted, TenantCounts, counted_of_tenant,
+};
 use plain_store::{Answer, Refusal};
 use std::alloc::{AllocError, Global};
 use std::sync::atomic::{AtomicU64, Ordering};
@@ -18,7 +21,7 @@ pub struct AnswerCounts {
     ghost each: { vec_len refusals ≡ numbers },
 }
 
-/// As what an answer is counted.
+/// As what an answer is counted by its cause.
 #[derive(Clone, Copy)]
 pub(crate) enum CountedAs {
     /// The refusal of this number.
@@ -26,10 +29,23 @@ pub(crate) enum CountedAs {
     Restart,
 }
 
-/// The receipt of an answer that was counted. The counts alone make one.
+/// The receipt of an answer that was counted: by its cause where it is a refusal or a restart, and of its tenant. The counts alone make one.
 #[derive(Clone, Copy)]
 pub(crate) struct Counted {
-    kind: CountedAs,
+    kind: Option<CountedAs>,
+    of_tenant: Option<TenantCounted>,
+}
+
+impl Counted {
+    /// The receipt of an answer that counts as nothing.
+    pub(crate) fn nothing() -> Counted
+        ensures { IsReceipt None None result }
+    {
+        Counted {
+            kind: None,
+            of_tenant: None,
+        }
+    }
 }
 
 impl AnswerCounts {
@@ -71,7 +87,7 @@ impl AnswerCounts {
         self.tenants.of(tenant, what)
     }
 
-    /// How many lines of the sessions of the tenant of this number were answered, each count at a moment of its own.
+    /// How many lines of the clients of the tenant of this number were answered, each count at a moment of its own.
     pub fn served(&self, tenant: u32) -> ServedCounts
         ensures { result.tenant ≡ tenant }
     {
@@ -80,49 +96,96 @@ impl AnswerCounts {
             puts: self.of_tenant(tenant, TenantCount::Puts),
             gets: self.of_tenant(tenant, TenantCount::Gets),
             finds: self.of_tenant(tenant, TenantCount::Finds),
-            refusals: self.of_tenant(tenant, TenantCount::Refusals),
+            refusals: self.refusals_of(tenant),
             restarts: self.of_tenant(tenant, TenantCount::Restarts),
         }
     }
 
-    /// Counts a line's answer for its tenant.
-    pub(crate) fn count_for(&self, tenant: u32, answer: &Answer) {
-        if let Some(what) = counted_of_tenant(answer) {
-            self.tenants.count(tenant, what);
+    // How many lines of a tenant's clients were refused, by whatever number but 12.
+    fn refusals_of(&self, tenant: u32) -> u64 {
+        let busy = Refusal::Busy.number();
+        let mut lines = 0u64;
+        for number in 0..AnswerCounts::NUMBERS {
+            if number != busy {
+                lines = lines.saturating_add(self.of_tenant(tenant, TenantCount::Refusals(number)));
+            }
         }
+        lines
     }
 
     /// Counts the end of a tenant's session.
     pub(crate) fn count_end(&self, tenant: u32) {
-        self.tenants.count(tenant, TenantCount::Closed);
+        let _closed = self.tenants.count(tenant, TenantCount::Closed);
     }
 
-    /// Counts a line's answer, and answers the receipt; none where it is neither a refusal nor a restart.
-    pub(crate) fn count(&self, answer: &Answer) -> Option<Counted>
-        ensures { kind_of result ≡ counted_as answer.now }
+    /// Counts a line's answer, and answers the receipt. Of this tenant it is counted first: so whoever reads the counts of causes before
+    /// those of tenants misses none of a tenant's.
+    pub(crate) fn count(&self, answer: &Answer, tenant: Option<u32>) -> Counted
+        ensures { IsReceipt (counted_as answer.now)
+            (counted_for tenant (counted_of_tenant answer.now)) result }
+    {
+        let of_tenant = self.count_of(tenant, counted_of_tenant(answer));
+        Counted {
+            kind: self.count_cause(answer),
+            of_tenant,
+        }
+    }
+
+    /// Counts a session that was opened, which is neither a refusal nor a restart.
+    pub(crate) fn count_opened(&self, tenant: Option<u32>) -> Counted
+        ensures { IsReceipt None (counted_for tenant (Some TenantCount.Opened)) result }
+    {
+        Counted {
+            kind: None,
+            of_tenant: self.count_of(tenant, Some(TenantCount::Opened)),
+        }
+    }
+
+    /// Counts a line that is refused.
+    pub(crate) fn count_refusal(&self, refusal: Refusal, tenant: Option<u32>) -> Counted
+        ensures { let number = number_of refusal in
+            IsReceipt (Some (CountedAs.Refusal number))
+            (counted_for tenant (Some (TenantCount.Refusals number))) result }
+    {
+        let number = refusal.number();
+        let of_tenant = self.count_of(tenant, Some(TenantCount::Refusals(number)));
+        Counted {
+            kind: Some(self.count_number(number)),
+            of_tenant,
+        }
+    }
+
+    // Counts this of this tenant, where there is both.
+    fn count_of(&self, tenant: Option<u32>, what: Option<TenantCount>) -> Option<TenantCounted>
+        ensures { result ≡ counted_for tenant what }
+    {
+        let what = what?;
+        let tenant = tenant?;
+        Some(self.tenants.count(tenant, what))
+    }
+
+    // Counts an answer by its cause; not where it is neither a refusal nor a restart.
+    fn count_cause(&self, answer: &Answer) -> Option<CountedAs>
+        ensures { result ≡ counted_as answer.now }
     {
         match answer {
             Answer::Refused(refusal) | Answer::Ended(refusal, _) => {
-                Some(self.count_refusal(*refusal))
+                Some(self.count_number(refusal.number()))
             }
             Answer::Restart(..) => {
                 self.restarts.fetch_add(1, Ordering::SeqCst);
-                Some(Counted {
-                    kind: CountedAs::Restart,
-                })
+                Some(CountedAs::Restart)
             }
             _ => None,
         }
     }
 
-    /// Counts a line that is refused.
-    pub(crate) fn count_refusal(&self, refusal: Refusal) -> Counted
-        ensures { result.kind ≡ CountedAs.Refusal (number_of refusal) }
+    // Counts a refusal of this number.
+    fn count_number(&self, number: u8) -> CountedAs
+        requires { number < numbers }
+        ensures { result ≡ CountedAs.Refusal number }
     {
-        let number = refusal.number();
         self.refusals[usize::from(number)].fetch_add(1, Ordering::SeqCst);
-        Counted {
-            kind: CountedAs::Refusal(number),
-        }
+        CountedAs::Refusal(number)
     }
 }

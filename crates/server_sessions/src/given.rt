@@ -4,9 +4,10 @@ ghost use Rattle.plain_store.specs.declared.answer.Answer.{Answer as Told};
 ghost use Rattle.plain_store.specs.declared.answer.Answer.TheVariants.{Ignored, Keeps as KeepsSoMany, Refused};
 ghost use Rattle.plain_store.specs.declared.refusal.Refusal.TheVariants.{NoTenant, OutOfMemory};
 ghost use Rattle.line_protocol.specs.declared.request.Request.TheVariants.{Bye, Info};
-ghost use Rattle.server_sessions.specs.Counting.{counted_said, kind_of};
+ghost use Rattle.server_sessions.specs.Counting.{IsReceipt, counted_said};
 ghost use Rattle.server_sessions.specs.Said.{Answers, Informs, said_line, said_ready};
 ghost use Rattle.server_sessions.specs.SeatAnswers.{IsAnswered};
+ghost use Rattle.server_sessions.specs.TenantCounting.{counted_for, said_of_tenant};
 
 use crate::answer_counts::{AnswerCounts, Counted};
 use bytes::BytesMut;
@@ -80,21 +81,15 @@ impl Given {
         self.own = None;
     }
 
-    /// Counts it for the tenant of its session.
-    pub(crate) fn count_for(&self, counts: &AnswerCounts, tenant: u32) {
-        match self.own {
-            None | Some(OwnAnswer::ReadyAs(..)) => counts.count_for(tenant, &self.answer),
-            Some(OwnAnswer::Informs(..)) => {}
-        }
-    }
-
-    /// Counts it, and answers the receipt; none where it is neither a refusal nor a restart.
-    pub(crate) fn count(&self, counts: &AnswerCounts) -> Option<Counted>
-        ensures { kind_of result ≡ counted_said self.now }
+    /// Counts it, also of this tenant, if there is one, and answers the receipt.
+    pub(crate) fn count(&self, counts: &AnswerCounts, tenant: Option<u32>) -> Counted
+        ensures { IsReceipt (counted_said self.now)
+            (counted_for tenant (said_of_tenant self.now)) result }
     {
         match self.own {
-            None => counts.count(&self.answer),
-            Some(_) => None,
+            None => counts.count(&self.answer, tenant),
+            Some(OwnAnswer::ReadyAs(..)) => counts.count_opened(tenant),
+            Some(OwnAnswer::Informs(..)) => Counted::nothing(),
         }
     }
 

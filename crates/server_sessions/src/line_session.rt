@@ -7,17 +7,19 @@ ghost use Rattle.plain_store.specs.declared.refusal.Refusal.TheVariants.{BadLine
 ghost use Rattle.line_protocol.specs.declared.request.Request.TheVariants.{Bye};
 ghost use Rattle.line_protocol.specs.AnswerSpelling.{answer_line};
 ghost use Rattle.server_sessions.specs.Said.{Answers, said_line};
+ghost use Rattle.line_protocol.specs.StepSpelling.{IsNumberOf};
 ghost use Rattle.line_protocol.specs.Stream.{HasNoLineFeed, IsLine, terminated};
 ghost use Rattle.line_runs.specs.RunAnswers.{Gathers};
 ghost use Rattle.line_runs.specs.declared.fault.RunFault.TheVariants.{Write as IsWrite};
 ghost use Rattle.server_sessions.specs.Answered.{BreaksOffIn, IsOfSeat, StaysBehind, TakesBytes, TakesInput};
 ghost use Rattle.server_sessions.specs.declared.line_session.SessionEnd.TheVariants.{Unread};
 ghost use Rattle.server_sessions.specs.Answering.{Greets, IsAnsweredBy, IsEndOfInput, IsGreeted, last_line, no_options, refused_as};
-ghost use Rattle.server_sessions.specs.Counting.{counted_last, counted_said, if_counts, kind_of};
+ghost use Rattle.server_sessions.specs.Counting.{IsCounted, counted_last, counted_said};
 ghost use Rattle.server_sessions.specs.Promised.{AnswersLine, EndsAtLine, HasRun, KeepsTelling, MayAnswer};
 ghost use Rattle.server_sessions.specs.Receipts.{IsRunBy, kept_of};
 ghost use Rattle.server_sessions.specs.SeatAnswers.{IsDrained};
 ghost use Rattle.server_sessions.specs.Telling.{IsLastLine, IsSeated, SessionLeft as LeftBehind, Tells};
+ghost use Rattle.server_sessions.specs.TenantCounting.{counted_for, last_of_tenant, said_of_tenant, whose};
 
 use crate::answer_counts::{AnswerCounts, Counted};
 use crate::given::{Given, ask_seat, put_answer};
@@ -81,6 +83,8 @@ struct Connection<'s, G: Naming> {
     alloc: Global,
     terms: Terms<'s>,
     seat: Option<Seat<'s, G>>,
+    // The tenant that the last `hello` named while there was no seat, if one goes by that name.
+    named: Option<u32>,
     // What the line before was answered, and the place for the next answer.
     answer: Given,
 }
@@ -178,15 +182,17 @@ pub fn run_session_as<'s, G: Gate + Naming, H: Wait, R: Read, W: Write>(
         alloc,
         terms,
         seat: None,
+        named: None,
         answer: Given::new(),
     };
     let ended = answer_lines(rt, hub, &mut connection, &mut out, reader, writer);
+    let tenant = connection.tenant();
     let terms = connection.terms;
     let left = end_seat(rt, connection.seat, terms.counts);
     match ended {
         Ok(ending) => {
-            let counted = count_last(ending, terms.counts);
-            let ended = finish(ending, terms.counts, counted, &mut out, writer);
+            let counted = count_last(ending, tenant, terms.counts);
+            let ended = finish(ending, tenant, terms.counts, counted, &mut out, writer);
             (SessionRun { hub, terms, left }, ended)
         }
         Err(fault) => (SessionRun { hub, terms, left }, Err(fault)),
@@ -213,28 +219,35 @@ fn end_seat<G: Gate + Naming, H: Wait>(
     }
 }
 
-// Counts the last answer, where answers are counted, and answers the receipt; none where it is no refusal.
-fn count_last(ending: SessionEnd, counts: Option<&AnswerCounts>) -> Option<Counted>
-    ensures { kind_of result ≡ if_counts counts.entry (counted_last ending) }
+// Counts the last answer, where answers are counted, also of this tenant, if there is one, and answers the receipt.
+fn count_last(
+    ending: SessionEnd,
+    tenant: Option<u32>,
+    counts: Option<&AnswerCounts>,
+) -> Option<Counted>
+    ensures { IsCounted counts.entry (counted_last ending)
+        (counted_for tenant (last_of_tenant ending)) result }
 {
     let counts = counts?;
-    match ending {
-        SessionEnd::Silent | SessionEnd::Bye => None,
-        SessionEnd::Unread => Some(counts.count_refusal(Refusal::BadLine)),
-        SessionEnd::Refused(refusal) => Some(counts.count_refusal(refusal)),
-    }
+    Some(match ending {
+        SessionEnd::Silent | SessionEnd::Bye => Counted::nothing(),
+        SessionEnd::Unread => counts.count_refusal(Refusal::BadLine, tenant),
+        SessionEnd::Refused(refusal) => counts.count_refusal(refusal, tenant),
+    })
 }
 
 // Writes what is gathered, and the last answer, which was counted where answers are.
 fn finish<W: Write>(
     ending: SessionEnd,
+    _tenant: Option<u32>,
     _counts: Option<&AnswerCounts>,
     _counted: Option<Counted>,
     out: &mut BytesMut,
     writer: &mut W,
 ) -> Result<(), RunFault>
     requires room { LINE_LIMIT ≤ out.old.spare }
-    requires counted { kind_of _counted ≡ if_counts _counts (counted_last ending) }
+    requires counted { IsCounted _counts (counted_last ending)
+        (counted_for _tenant (last_of_tenant ending)) _counted }
     ensures written { OnOk result ((last : List ℕ) × IsLastLine last
         × Appends (W.contents writer.old) (W.contents writer.new) (out.old.items ++ last)) }
     ensures begun { IfErr result (λ _. (last : List ℕ) × (n : ℕ) × IsLastLine last
@@ -534,17 +547,24 @@ impl<'s, G: Gate + Naming> Connection<'s, G> {
         }
     }
 
-    // Counts the answer, where answers are counted, and answers the receipt; none where it is neither a refusal nor a restart.
+    // Whose lines these are: the seat's tenant's; without a seat, those of the tenant that the last `hello` named.
+    fn tenant(&self) -> Option<u32>
+        ensures { result ≡ whose self.now.seat self.now.named }
+    {
+        match &self.seat {
+            Some(seat) => Some(seat.tenant()),
+            None => self.named,
+        }
+    }
+
+    // Counts the answer, where answers are counted, and answers the receipt.
     fn count(&self) -> Option<Counted>
-        ensures { kind_of result ≡ if_counts self.now.terms.counts (counted_said self.now.answer) }
+        ensures { IsCounted self.now.terms.counts (counted_said self.now.answer)
+            (counted_for (whose self.now.seat self.now.named) (said_of_tenant self.now.answer))
+            result }
     {
         match self.terms.counts {
-            Some(counts) => {
-                if let Some(seat) = &self.seat {
-                    self.answer.count_for(counts, seat.tenant());
-                }
-                self.answer.count(counts)
-            }
+            Some(counts) => Some(self.answer.count(counts, self.tenant())),
             None => None,
         }
     }
@@ -552,8 +572,9 @@ impl<'s, G: Gate + Naming> Connection<'s, G> {
     // Appends the line of the answer, which was counted where answers are, and for which there is room.
     fn put_answer(&self, _counted: Option<Counted>, out: &mut BytesMut)
         requires space { LINE_LIMIT ≤ out.old.spare }
-        requires counted { kind_of _counted
-            ≡ if_counts self.now.terms.counts (counted_said self.now.answer) }
+        requires counted { IsCounted self.now.terms.counts (counted_said self.now.answer)
+            (counted_for (whose self.now.seat self.now.named) (said_of_tenant self.now.answer))
+            _counted }
         ensures text { out.new.items ≡ out.old.items ++ said_line self.now.answer }
         ensures room { length out.old.items + out.old.spare
             ≤ length out.new.items + out.new.spare }
@@ -625,11 +646,14 @@ impl<'s, G: Gate + Naming> Connection<'s, G> {
             (said_line self.new.answer) }
         ensures greeted { IsGreeted hub.now.limits self.old.terms.names.now
             name.now client base self.new.answer self.new.seat }
+        ensures named { IfSome self.new.named (IsNumberOf self.old.terms.names.now name.now) }
     {
         let Some(tenant) = tenant_number(self.terms.names, name) else {
+            self.named = None;
             self.answer.refuse(Refusal::NoTenant);
             return;
         };
+        self.named = Some(tenant);
         let (opened, told) = open_seat(rt, hub, tenant, client, base);
         self.greet(opened, told);
     }
@@ -638,7 +662,8 @@ impl<'s, G: Gate + Naming> Connection<'s, G> {
     // told; or why none was opened.
     fn greet(&mut self, opened: Result<Seat<'s, G>, Refusal>, told: Option<Client>)
         ensures { (self.new.terms ≡ self.old.terms)
-            × Greets opened.entry told self.new.answer self.old.seat self.new.seat }
+            × Greets opened.entry told self.new.answer self.old.seat self.new.seat
+            × (self.new.named ≡ self.old.named) }
     {
         match opened {
             Ok(seat) => {

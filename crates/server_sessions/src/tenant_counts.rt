@@ -1,7 +1,8 @@
-//! How many sessions and operations each tenant had.
+//! How many sessions, operations and refusals each tenant had.
 ghost use Rattle.std.specs.Prelude.{◌≡◌};
-ghost use Rattle.server_sessions.specs.TenantCounting.{counted_of_tenant, place_of};
+ghost use Rattle.server_sessions.specs.TenantCounting.{counted_of_tenant, place_of, receipt_of};
 
+use crate::answer_counts::AnswerCounts;
 use plain_store::Answer;
 use std::alloc::{AllocError, Global};
 use std::sync::atomic::{AtomicU64, Ordering};
@@ -10,7 +11,7 @@ use std::sync::atomic::{AtomicU64, Ordering};
 const MOST_TENANTS: usize = 64;
 
 /// What is counted of a tenant.
-#[derive(Clone, Copy, Debug, PartialEq, Eq)]
+#[derive(Clone, Copy)]
 pub enum TenantCount {
     /// Sessions that were opened.
     Opened,
@@ -22,13 +23,20 @@ pub enum TenantCount {
     Gets,
     /// Lines `find` that were answered `list`.
     Finds,
-    /// Lines that were answered `refused` or `ended`, while there was a seat.
-    Refusals,
     /// Lines that were answered `restart`.
     Restarts,
+    /// Lines that were answered `refused` or `ended` with this number.
+    Refusals(u8),
 }
 
-/// How many lines of a tenant's sessions were answered by what.
+/// The receipt of what was counted of a tenant. The counts alone make one.
+#[derive(Clone, Copy)]
+pub(crate) struct TenantCounted {
+    tenant: u32,
+    what: TenantCount,
+}
+
+/// How many lines of a tenant's clients were answered by what. The refusals are those but 12.
 #[derive(Clone, Copy)]
 pub struct ServedCounts {
     pub tenant: u32,
@@ -46,8 +54,8 @@ pub(crate) struct TenantCounts {
 }
 
 impl TenantCounts {
-    /// The kinds of counts.
-    const KINDS: usize = 7;
+    /// The kinds of counts: six, and one of each number of a refusal.
+    const KINDS: usize = 49;
 
     /// Nothing was counted yet. The one error is that an allocation failed.
     pub(crate) fn new(alloc: Global) -> Result<TenantCounts, AllocError> {
@@ -61,22 +69,35 @@ impl TenantCounts {
 
     /// How often this was counted of a tenant.
     pub(crate) fn of(&self, tenant: u32, what: TenantCount) -> u64 {
-        match self.counts.get(place_of(tenant, what)) {
+        let Some(place) = place_of(tenant, what) else {
+            return 0;
+        };
+        match self.counts.get(place) {
             Some(count) => count.load(Ordering::SeqCst),
             None => 0,
         }
     }
 
-    /// Adds one to a tenant's count of this kind. Any thread may.
-    pub(crate) fn count(&self, tenant: u32, what: TenantCount) {
-        if let Some(count) = self.counts.get(place_of(tenant, what)) {
+    /// Adds one to a tenant's count of this kind, and answers the receipt. Any thread may.
+    pub(crate) fn count(&self, tenant: u32, what: TenantCount) -> TenantCounted
+        ensures { result ≡ receipt_of what tenant }
+    {
+        if let Some(place) = place_of(tenant, what) {
+            self.add_one(place);
+        }
+        TenantCounted { tenant, what }
+    }
+
+    // Adds one to the count at this place, if there is one.
+    fn add_one(&self, place: usize) {
+        if let Some(count) = self.counts.get(place) {
             count.fetch_add(1, Ordering::SeqCst);
         }
     }
 }
 
-// Where this is counted of a tenant. No two have one place.
-fn place_of(tenant: u32, what: TenantCount) -> usize
+// Where this is counted of a tenant; nowhere where no refusal has this number. No two have one place.
+fn place_of(tenant: u32, what: TenantCount) -> Option<usize>
     ensures { result ≡ place_of tenant what }
 {
     let nth = match what {
@@ -85,10 +106,15 @@ fn place_of(tenant: u32, what: TenantCount) -> usize
         TenantCount::Puts => 2,
         TenantCount::Gets => 3,
         TenantCount::Finds => 4,
-        TenantCount::Refusals => 5,
-        TenantCount::Restarts => 6,
+        TenantCount::Restarts => 5,
+        TenantCount::Refusals(number) => {
+            if number >= AnswerCounts::NUMBERS {
+                return None;
+            }
+            6 + usize::from(number)
+        }
     };
-    tenant as usize * TenantCounts::KINDS + nth
+    Some(tenant as usize * TenantCounts::KINDS + nth)
 }
 
 /// What an answer counts as for its tenant, if it does.
@@ -100,7 +126,9 @@ pub(crate) fn counted_of_tenant(answer: &Answer) -> Option<TenantCount>
         Answer::Done(_) => Some(TenantCount::Puts),
         Answer::Read(_) => Some(TenantCount::Gets),
         Answer::Listed(_) => Some(TenantCount::Finds),
-        Answer::Refused(_) | Answer::Ended(..) => Some(TenantCount::Refusals),
+        Answer::Refused(refusal) | Answer::Ended(refusal, _) => {
+            Some(TenantCount::Refusals(refusal.number()))
+        }
         Answer::Restart(..) => Some(TenantCount::Restarts),
         _ => None,
     }

@@ -92,22 +92,23 @@ AreRowsBefore HasTold watched (suc partition) rows =
 
 -- ---- the tenants' clients and the refusals
 
--- the row is of the tenant of this name, and of no more clients than its limits say
+-- the rows are of refusals with rising numbers, from the first of these to before the second, none of them 12, each of one line or more
+abbrev pub AreRefusalRows : ℕ → ℕ → List RefusalRow → Type 0
+AreRefusalRows from below [] = from ≤ below
+AreRefusalRows from below (row ∷ rows) = (from ≤ row.number) × (row.number ≢ 12) × (0 < row.lines) × AreRefusalRows (row.number + 1) below rows
+
+-- the row is of the tenant of this name, of no more clients than its limits say, and of refusals that these were answered
 pub record IsClientRow (name : List ℕ) (limits : Limits) (row : ClientRow) : Type 0 where
   pub tenant : row.tenant.now ≡ name
   pub limit : row.limit ≡ limits.clients
   pub few : row.clients ≤ limits.clients
+  pub refusals : AreRefusalRows 0 43 row.refusals.items
 
 -- a row of each tenant that has a name and limits, in their order
 abbrev pub AreClientRows : List (List ℕ) → List Limits → List ClientRow → Type 0
 AreClientRows names limits [] = Unit {0}
 AreClientRows (name ∷ names) (its ∷ limits) (row ∷ rows) = IsClientRow name its row × AreClientRows names limits rows
 AreClientRows _ _ _ = ⊥
-
--- the rows are of refusals with rising numbers, from the first of these to before the second, none of them 12, each of one line or more
-abbrev pub AreRefusalRows : ℕ → ℕ → List RefusalRow → Type 0
-AreRefusalRows from below [] = from ≤ below
-AreRefusalRows from below (row ∷ rows) = (from ≤ row.number) × (row.number ≢ 12) × (0 < row.lines) × AreRefusalRows (row.number + 1) below rows
 
 -- ---- all that is read
 

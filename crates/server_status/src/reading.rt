@@ -45,8 +45,9 @@ impl<'s, G: Gate + Naming, C: JournalChecks> Watched<'s, G, C> {
         let connections = self.server.connections(rt);
         Ok(ServerReadings {
             rows,
+            // Before those of tenants, so that no tenant's lacks in them.
+            refusals: read_refusals(alloc, self.server.answers(), None)?,
             clients: self.read_clients(rt, alloc)?,
-            refusals: read_refusals(alloc, self.server.answers())?,
             busy: self.server.answers().refusals(BUSY),
             restarts: self.server.answers().restarts(),
             times: read_times(alloc, self.server.times())?,
@@ -154,10 +155,17 @@ impl<'s, G: Gate + Naming, C: JournalChecks> Watched<'s, G, C> {
         Ok(true)
     }
 
-    // The row of a tenant's clients, of which so many numbers were used.
-    fn client_row(&self, tenant: u32, name: &'s Name, limits: &Limits, used: u64) -> ClientRow<'s>
+    // The row of a tenant's clients, of which so many numbers were used, and which were answered these refusals.
+    fn client_row(
+        &self,
+        tenant: u32,
+        name: &'s Name,
+        limits: &Limits,
+        used: u64,
+        refusals: Vec<RefusalRow>,
+    ) -> ClientRow<'s>
         ensures { (result.tenant.now ≡ name.now) × (result.clients ≡ used)
-            × (result.limit ≡ limits.now.clients) }
+            × (result.limit ≡ limits.now.clients) × (result.refusals ≡ refusals) }
     {
         let answers = self.server.answers();
         // Behind it others may be opened, and none of these seems to be closed.
@@ -171,6 +179,7 @@ impl<'s, G: Gate + Naming, C: JournalChecks> Watched<'s, G, C> {
             puts: answers.of_tenant(tenant, TenantCount::Puts),
             gets: answers.of_tenant(tenant, TenantCount::Gets),
             finds: answers.of_tenant(tenant, TenantCount::Finds),
+            refusals,
         }
     }
 
@@ -191,7 +200,8 @@ impl<'s, G: Gate + Naming, C: JournalChecks> Watched<'s, G, C> {
                 break;
             };
             let used = self.hub.clients(rt, tenant) as u64;
-            clients.push(self.client_row(tenant, name, limits, used))?;
+            let refusals = read_refusals(alloc, self.server.answers(), Some(tenant))?;
+            clients.push(self.client_row(tenant, name, limits, used, refusals))?;
         }
         Ok(clients)
     }
@@ -204,13 +214,17 @@ fn tenants_of(names: &[Name]) -> u32
     u32::try_from(names.len()).unwrap_or(u32::MAX)
 }
 
-// A row of each refusal that was answered, but 12.
-fn read_refusals(alloc: Global, answers: &AnswerCounts) -> Result<Vec<RefusalRow>, AllocError>
+// A row of each refusal but 12 that was answered, to this tenant's clients or to all.
+fn read_refusals(
+    alloc: Global,
+    answers: &AnswerCounts,
+    tenant: Option<u32>,
+) -> Result<Vec<RefusalRow>, AllocError>
     ensures { IfOk result (λ rows. AreRefusalRows 0 43 rows.items) }
 {
     let mut refusals = Vec::new(alloc);
     for number in 0..AnswerCounts::NUMBERS {
-        let lines = lines_of(answers, number);
+        let lines = lines_of(answers, tenant, number);
         if lines > 0 {
             refusals.push(RefusalRow { number, lines })?;
         }
@@ -218,14 +232,17 @@ fn read_refusals(alloc: Global, answers: &AnswerCounts) -> Result<Vec<RefusalRow
     Ok(refusals)
 }
 
-// How many lines were answered by this refusal, but 12.
-fn lines_of(answers: &AnswerCounts, number: u8) -> u64
+// How many lines were answered by this refusal, but 12: this tenant's clients' or all.
+fn lines_of(answers: &AnswerCounts, tenant: Option<u32>, number: u8) -> u64
     ensures { 0 < result → number ≢ BUSY }
 {
     if number == BUSY {
         return 0;
     }
-    answers.refusals(number)
+    match tenant {
+        Some(tenant) => answers.of_tenant(tenant, TenantCount::Refusals(number)),
+        None => answers.refusals(number),
+    }
 }
 
 // How long lines took.

@@ -19,3 +19,6 @@ returns-clause-told g c = greeting_told c.args.self.now.terms.options.newest c.a
 
 pub returns-clause-greeted : goal.returns-clause-greeted
 returns-clause-greeted g c = greeted _ c.in-Some.tenant _ _ _ c.args.name.now c.open_seat-opened.result.0 c.open_seat-opened.result.1 _ _ _ c.in-Some.ensures.some c.requires c.open_seat-opened.ensures c.greet.ensures.1
+
+pub returns-clause-named : goal.returns-clause-named
+returns-clause-named g c = rw c.greet.ensures.2 c.in-Some.ensures.some

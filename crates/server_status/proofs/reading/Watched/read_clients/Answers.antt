@@ -22,7 +22,7 @@ loop-tenant-preserved g c =
     let named = slice_get_read names (length names) nth found.name.now refl found.ensures.lookup.3.0 (found.ensures.lookup.3.1 found.name.now) in
     let few = subst (λ (its : Option Limits). IfSome its (λ (one : Limits). c.clients-used.result ≤ one.clients)) limited c.clients-used.ensures.few in
     let made = c.client_row.ensures in
-    let is : IsClientRow found.name.now found.limits.now row = record { tenant = made.0; limit = made.2; few = rw made.1 few } in
+    let is : IsClientRow found.name.now found.limits.now row = record { tenant = made.0; limit = made.2; few = rw made.1 few; refusals = rw made.3 c.in_ok-refusals.ensures } in
     let here = c.loop-tenant.invariant.so_far in
     let within : nth < length all = slice_get_within all nth found.limits.now limited in
     record {
