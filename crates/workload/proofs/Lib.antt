@@ -1,10 +1,3 @@
 pub mod Outcomes
 pub mod Listening
 pub mod Served
-pub mod Counting
-pub mod ToldKept
-pub mod GivenNumbers
-pub mod Picked
-pub mod Spelled
-pub mod Promised
-pub mod Histories

@@ -9,7 +9,8 @@ use Rattle.line_runs.specs.declared.fault.ProgramFault.TheVariants.{LineTooLong,
 use Rattle.hub.specs.Hubs.{ConfigView}
 use Rattle.closed_store.specs.declared.closed.Closed.{Closed}
 use Rattle.line_runs.specs.Statuses.{status_of}
-use Rattle.workload.specs.Serving.{EndsAfter, HasChecked, HasListened, HasServed, IsClosed, IsFaultBefore, TellsPortFirst, TellsPortFor, greater_fault, listening_line}
+use Rattle.workload.specs.Serving.{EndsAfter, HasChecked, HasListened, HasServed, IsFaultBefore, TellsPortFirst, TellsPortFor, greater_fault, listening_line}
+use Rattle.load.specs.Stores.{IsClosed}
 use Rattle.workload.specs.Unrecorded.{TellsAllServed, TellsServed, served_line}
 use Rattle.server_sessions.specs.declared.listener.Listener.{Listener}
 use Rattle.server_sessions.specs.Ports.{IsPortFor, port_of}
@@ -25,10 +26,6 @@ line_begun old new line port n is small adds = (port, small, (n, subst (λ (l : 
 pub line_told : (old new : Option (List ℕ)) (line : List ℕ) (port : ℕ) → line ≡ listening_line port → port < 2 ^ 16 → Appends old new line → HasListened old new (Err Device)
 line_told old new line port is small adds =
     line_begun old new line port (length line) is small (subst (λ (l : List ℕ). Appends old new l) (sym (take-length line)) adds)
-
--- a store that was closed, of a hub that was opened with this config
-pub is_closed : (view hub : ConfigView) (closed : Closed) → IsClosed hub closed → hub ≡ view → IsClosed view closed
-is_closed view hub closed is opened = subst (λ (v : ConfigView). IsClosed v closed) opened is
 
 not_both : {A : Type 0} → ◌≡◌ {A = Bool} true false → A
 not_both bad = absurd cc

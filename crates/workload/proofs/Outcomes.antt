@@ -5,13 +5,12 @@ use Rattle.line_runs.specs.declared.fault.End.{End}
 use Rattle.line_runs.specs.declared.fault.End.TheVariants.{Whole, TooLong, Cut}
 use Rattle.line_runs.specs.declared.fault.ProgramFault.{ProgramFault}
 use Rattle.line_runs.specs.declared.fault.ProgramFault.TheVariants.{LineTooLong, Cut as CutOff, Settle, Options, OutOfMemory, Device}
-use Rattle.workload.specs.Program.{HoldsOfServed, Runs, ServesWords, ended_as}
+use Rattle.workload.specs.Program.{HoldsOfServed, Runs, RunsLoad, ServesWords, ended_as}
 use Rattle.line_runs.specs.declared.fault.RunFault.{RunFault}
 use Rattle.line_runs.specs.declared.fault.RunFault.TheVariants.{Read, Write, ReadsUsed, OutOfMemory as NoMemory}
 use Rattle.line_runs.specs.RunAnswers.{AnsweredPart, FailsSo}
 use Rattle.line_runs.proofs.Faults.{so_far_is_part}
 use Rattle.workload.specs.Serving.{RunsServer}
-use Rattle.workload.specs.Loading.{RunsLoad}
 use Rattle.line_runs.specs.Statuses.{IsHelpStatus, exit_status, fault_of_run, status_of}
 use Rattle.command_line.specs.Asked.{IsWordsFault}
 use Rattle.command_line.specs.Words.{AsksForHelp, AsksForNothing, AsksForVersion}

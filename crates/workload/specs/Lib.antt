@@ -1,5 +1,3 @@
 pub mod Program
 pub mod Serving
 pub mod Unrecorded
-pub mod Rounds
-pub mod Loading

@@ -9,7 +9,10 @@ use Rattle.line_runs.specs.declared.fault.ProgramFault.TheVariants.{LineTooLong,
 use Rattle.line_runs.specs.declared.fault.ProgramFault.TheVariants.{OutOfMemory, Device}
 use Rattle.line_runs.specs.RunAnswers.{AnsweredFront, AnsweredPart}
 use Rattle.line_runs.specs.Served.{ServesCell, ServesSim, answers_of_cell, answers_of_store}
-use Rattle.command_line.specs.Words.{MayAskForText, AsksForCell, AsksForStore, AsksForNothing}
+use Rattle.command_line.specs.declared.load_options.LoadOptions.{LoadOptions}
+use Rattle.command_line.specs.Words.{MayAskForText, AsksForCell, AsksForLoad, AsksForStore, AsksForNothing}
+use Rattle.load.specs.Loading.{HasLoaded, LoadView}
+use Rattle.workload.specs.Serving.{store_view}
 
 -- a cell of the room that the words ask for served the input, which ended so
 abbrev pub CellServes : List (List ℕ) → Option (List ℕ) → Option (List ℕ) → Option (List ℕ) → End → Type 0
@@ -54,3 +57,16 @@ Runs words input old new (Err OutOfMemory) =
     Keeps old new ⊎ HoldsOfServed words (λ answers. AnsweredFront answers input old new)
 Runs words input old new (Err Device) =
     MayAskForText words ⊎ HoldsOfServed words (λ answers. AnsweredPart answers input old new)
+
+-- the load that the words' options ask for
+abbrev pub load_view : LoadOptions → LoadView
+load_view options =
+    record { seats = options.seats; rounds = options.rounds; seed = options.seed; keys = options.keys }
+
+-- the words ask for a load, which ended so
+abbrev pub RunsLoad : List (List ℕ) → Option (List ℕ) → Option (List ℕ) → Result (Unit {0}) ProgramFault → Type 0
+RunsLoad words old new ended =
+    (parts : ℕ) × (limits : Limits) × (names : List (List ℕ)) × (options : LoadOptions)
+    × AsksForLoad words parts limits names options
+    × HasLoaded (store_view parts limits names options.queue options.every options.epoch) (load_view options)
+    names old new ended

@@ -4,10 +4,8 @@ use Rattle.std.specs.Prelude.{Bool, IsTrue, codes, decimal, false, true, if◌th
 use Rattle.std.specs.Io.KnownBytes.{Appends, Keeps}
 use Rattle.stamps.specs.Bounds.{IsParts}
 use Rattle.stamps.specs.declared.bounds.Limits.{Limits}
-use Rattle.hub.specs.Hubs.{AllSoundBooks, ConfigView, config_view}
+use Rattle.hub.specs.Hubs.{ConfigView}
 use Rattle.closed_store.specs.declared.closed.Closed.{Closed}
-use Rattle.history.specs.declared.entry.HistoryEntry.{HistoryEntry}
-use Rattle.server_sessions.specs.Histories.{IsOfHistory}
 use Rattle.line_protocol.specs.Stream.{terminated}
 use Rattle.line_runs.specs.Statuses.{status_of}
 use Rattle.line_runs.specs.declared.fault.ProgramFault.{ProgramFault}
@@ -21,6 +19,7 @@ use Rattle.server_verdicts.specs.Verdicts.{TellsVerdicts}
 use Rattle.command_line.specs.Words.{AreTenants, AsksForServer}
 use Rattle.server_sessions.specs.Ports.{IsPortFor}
 use Rattle.server_sessions.specs.declared.session_options.SessionOptions.{SessionOptions}
+use Rattle.load.specs.Stores.{IsClosed}
 use Rattle.workload.specs.Unrecorded.{TellsServed}
 
 -- the line that reports at which port a server listens
@@ -52,19 +51,6 @@ TellsPortFirst port old new (Err Device) = Unit {0}
 -- the port is the one that was asked for, or any where 0 was
 abbrev pub TellsPortFor : ℕ → Option (List ℕ) → Option (List ℕ) → Result (Unit {0}) ProgramFault → Type 0
 TellsPortFor asked old new ended = (port : ℕ) × IsPortFor asked port × TellsPortFirst port old new ended
-
--- A store that was closed is that of one history: where there are journals of a partition, all calls that this has of it are in
--- them or in earlier epochs; and each reply in its transcripts has its place there.
-abbrev pub HasHistory : Closed → Type 0
-HasHistory closed = ∥ ((seen : List HistoryEntry) × IsOfHistory seen closed) ∥₁
-
--- What the close of a hub of this config answers, whether it kept journals or not: that config, and for each of its partitions, in their order, sound
--- journals of its tenants, or none, and the counts of their events. It is all of the history of the store that was served.
-pub record IsClosed (view : ConfigView) (closed : Closed) : Type 0 where
-  pub config : config_view closed.config ≡ record view { journals = true }
-  pub parts : length closed.journals.items ≡ view.parts
-  pub books : AllSoundBooks view 0 closed.journals.items closed.counts.items
-  pub history : HasHistory closed
 
 -- What a server whose epochs were checked told of its tenants: nothing, where an allocation failed; or, of what was left
 -- of their journals in the store that it closed, that it is right with some epochs before it, or that an epoch is not.
@@ -167,11 +153,6 @@ pub record ServesAndTells (unrecorded : Bool) (view : ConfigView) (names : List 
 pub record TellsOfPort (number : ℕ) (old new : Option (List ℕ)) (told : Result (Unit {0}) ProgramFault) : Type 0 where
   pub listened : HasListened old new told
   pub port : OnOk told (Appends old new (listening_line number))
-
--- what was done is so, or there was no memory, or a device failed
-pub record DoneOrRefused {A : Type 0} (IsDone : A → Type 0) (result : Result A ProgramFault) : Type 0 where
-  pub done : IfOk result IsDone
-  pub refused : IfErr result (λ fault. (fault ≡ OutOfMemory) ⊎ (fault ≡ Device))
 
 -- ---- what the words ask for
 

@@ -1,14 +1,6 @@
-//! The programs: a server, a load, and whatever the words ask for.
-//!
-//! Choices:
-//! - A load whose journals are cut keeps every epoch, and joins them after the lines `load`. A missing epoch is
-//!   OutOfMemory.
-//! - What a seat draws depends on the seed and its numbers alone, so the operations of a load are the same in each
-//!   run.
+//! The programs: a server, and whatever the words ask for.
 #![tactic(auto)]
 
-mod count_lines;
-mod load;
 mod serve;
 mod served_lines;
 mod words;

@@ -2,18 +2,17 @@
 ghost use Rattle.std.specs.Prelude.{◌≡◌, ◌<◌, ◌≤◌, ◌⊎◌, cond, false, not, true, Ok, Err, IfOk, IfErr, string_bytes};
 ghost use Rattle.line_runs.specs.declared.fault.ProgramFault.TheVariants.{Device, OutOfMemory as NoMemory};
 ghost use Rattle.hub.specs.Hubs.{config_view, view_with};
-ghost use Rattle.workload.specs.Serving.{DoneOrRefused, IsAskedFor, IsClosed, IsFaultBefore, ServesAndTells, TellsOfPort, TellsPortFirst, TellsPortFor, greater_fault, listening_line};
-ghost use Rattle.server_sessions.specs.Histories.{IsOfHistory};
-ghost use Rattle.server_sessions.specs.Ports.{IsServerOf, listener_of, most_of, options_of, port_of, stays_of, tenants_of, transcripts_of};
+ghost use Rattle.load.specs.Stores.{DoneOrRefused};
+ghost use Rattle.workload.specs.Serving.{IsAskedFor, IsFaultBefore, ServesAndTells, TellsOfPort, TellsPortFirst, TellsPortFor, greater_fault, listening_line};
+ghost use Rattle.server_sessions.specs.Ports.{IsServerOf, listener_of, most_of, options_of, port_of, stays_of, tenants_of};
 
 use crate::served_lines::tell_served;
 use command_line::{ServerOptions, VERSION};
-use hub::{Closed, Config, Front, Hub, HubFault, Named, Naming, NewStore, Sink};
+use hub::{Config, HubFault, Named, Naming, NewStore};
 use line_protocol::Name;
 use line_runs::{ProgramFault, write_text};
-use server_sessions::{
-    KeptTranscripts, Left, Listener, Open, OpenHub, Server, SessionOptions, serve_connections,
-};
+use load::{close_store, open_hub};
+use server_sessions::{Left, Listener, Open, OpenHub, Server, SessionOptions, serve_connections};
 use server_status::{StatusPort, Watched, serve_and_report};
 use server_verdicts::{Checking, Known, endings_of, tell_checks, tell_verdicts};
 use std::alloc::{AllocError, Global};
@@ -344,39 +343,6 @@ fn open_checked<
             Err(fault)
         }
     }
-}
-
-/// Opens a hub that nobody watches.
-pub(crate) fn open_hub<
-    J: Naming + Send + Sync + Drop + 'static,
-    S: Sink + Send + Sync + Drop + 'static,
-    H: Threads + Wait + Clone + Send + Drop + 'static,
->(rt: &H, alloc: Global, store: NewStore, sink: S) -> Result<OpenHub<J>, ProgramFault>
-    requires { store.history.seen.book ≡ J.book }
-    ensures { DoneOrRefused (λ hub. hub ≡ view_with store.config store.journals) result }
-{
-    match Hub::open(rt, alloc, store, Named::<J, Open>::new(Open), sink) {
-        Ok(hub) => Ok(hub),
-        Err(HubFault::OutOfMemory) => Err(ProgramFault::OutOfMemory),
-        Err(HubFault::Thread) => Err(ProgramFault::Device),
-    }
-}
-
-/// Closes a hub whose sessions left these transcripts, and answers what was seen of its history: where there are journals of a
-/// partition, they have all calls that this has of it, but for epochs that were cut off, and each reply in the transcripts has its place
-/// there.
-pub(crate) fn close_store<J: Naming + Send + Sync + Drop + 'static, H: Threads + Wait>(
-    rt: &H,
-    hub: OpenHub<J>,
-    kept: KeptTranscripts<Named<J, Open>>,
-) -> (Closed, Front<Named<J, Open>>)
-    ensures closed { IsClosed hub result.0 }
-    ensures transcripts { result.0.transcripts.items ≡ transcripts_of kept }
-    ensures history { ∥ IsOfHistory result.1 result.0 ∥₁ }
-{
-    let (transcripts, told) = kept.into_both();
-    let (closed, seen) = hub.close_with_history(rt, transcripts, &told);
-    (closed, seen.again())
 }
 
 // Reports the port, and serves the connections, and the status port beside them.

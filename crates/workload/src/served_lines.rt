@@ -5,9 +5,9 @@ ghost use Rattle.stamps.specs.Limits.{max_tenants};
 ghost use Rattle.server_verdicts.specs.Verdicts.{BreaksOff};
 ghost use Rattle.workload.specs.Unrecorded.{TellsServed, served_line};
 
-use crate::count_lines::push_count;
 use line_protocol::Name;
 use line_runs::{ProgramFault, write_text};
+use load::push_count;
 use server_sessions::{AnswerCounts, ServedCounts};
 use server_verdicts::name_at;
 use std::alloc::{AllocError, Global};

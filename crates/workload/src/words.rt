@@ -2,19 +2,19 @@
 ghost use Rattle.std.specs.Prelude.{◌≡◌, ◌<◌, ◌≤◌, ◌⊎◌, Result, IfOk, map, string_bytes};
 ghost use Rattle.std.specs.Io.KnownBytes.{Keeps};
 ghost use Rattle.line_runs.specs.declared.fault.ProgramFault.{ProgramFault as Fault};
-ghost use Rattle.workload.specs.Program.{Runs, ended_as};
-ghost use Rattle.workload.specs.Loading.{HasLoaded, RunsLoad, load_view};
+ghost use Rattle.workload.specs.Program.{Runs, RunsLoad, ended_as, load_view};
+ghost use Rattle.load.specs.Loading.{HasLoaded};
 ghost use Rattle.workload.specs.Serving.{IsAskedStore, IsPace, RunsServer, ServesAndTells, TellsPortFor, server_epoch, server_view, store_view};
 ghost use Rattle.line_runs.specs.Statuses.{IsHelpStatus, exit_status};
 ghost use Rattle.command_line.specs.Words.{AsksForHelp, AsksForVersion};
 ghost use Rattle.hub.specs.Hubs.{config_view};
 
-use crate::load::run_load;
 use crate::serve::run_server;
 use command_line::{Asked, LoadOptions, ServerOptions, StoreOptions, explain, read_words};
 use hub::Config;
 use line_protocol::Name;
 use line_runs::{End, ProgramFault, run_cell, run_sim, write_text};
+use load::run_load;
 use stamps::Limits;
 use std::alloc::{AllocError, Global};
 use std::io::{Read, Write};

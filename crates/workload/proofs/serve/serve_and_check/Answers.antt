@@ -2,7 +2,8 @@ use Rattle.std.proofs.Common.{◌∙◌, arith, ap, false, inr, rules}
 use Rattle.std.proofs.lemmas.Result.{err_from_is_err_and}
 use Rattle.hub.specs.Hubs.{ConfigView, config_view, view_with}
 use Rattle.server_sessions.specs.Ports.{port_of}
-use Rattle.workload.proofs.Listening.{closed_on, is_closed, no_port, no_room_to_check, no_store, nothing_told, port_then_checked}
+use Rattle.load.proofs.Histories.{is_closed}
+use Rattle.workload.proofs.Listening.{closed_on, no_port, no_room_to_check, no_store, nothing_told, port_then_checked}
 use Rattle.workload.proofs.serve.serve_and_check.Goals as goal
 
 pub returns : goal.returns

@@ -4,7 +4,8 @@ use Rattle.std.proofs.lemmas.Result.{err_from_is_err_and}
 use Rattle.hub.specs.Hubs.{config_view, view_with}
 use Rattle.server_sessions.specs.Ports.{port_of}
 use Rattle.server_verdicts.specs.Verdicts.{IsVerdictOf}
-use Rattle.workload.proofs.Listening.{closed_on, is_closed, no_port, no_store, no_transcript, nothing_told, port_then}
+use Rattle.load.proofs.Histories.{is_closed}
+use Rattle.workload.proofs.Listening.{closed_on, no_port, no_store, no_transcript, nothing_told, port_then}
 use Rattle.workload.proofs.serve.serve_and_settle.Goals as goal
 
 pub returns : goal.returns

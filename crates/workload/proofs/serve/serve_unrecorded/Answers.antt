@@ -3,7 +3,8 @@ use Rattle.std.proofs.lemmas.Result.{err_from_is_err_and}
 use Rattle.std.specs.Prelude.{length}
 use Rattle.hub.specs.Hubs.{ConfigView, view_with}
 use Rattle.server_sessions.specs.Ports.{port_of}
-use Rattle.workload.proofs.Listening.{closed_unrecorded, is_closed, no_port, no_store, nothing_told, port_then_served}
+use Rattle.load.proofs.Histories.{is_closed}
+use Rattle.workload.proofs.Listening.{closed_unrecorded, no_port, no_store, nothing_told, port_then_served}
 use Rattle.workload.specs.Unrecorded.{TellsServed}
 use Rattle.workload.proofs.serve.serve_unrecorded.Goals as goal
 

@@ -1,6 +1,7 @@
 use Rattle.std.proofs.Common.{subst}
 use Rattle.hub.specs.Hubs.{config_view}
-use Rattle.workload.specs.Loading.{HasLoaded, load_view}
+use Rattle.load.specs.Loading.{HasLoaded}
+use Rattle.workload.specs.Program.{load_view}
 use Rattle.workload.proofs.words.load_store.Goals as goal
 
 pub returns : goal.returns

@@ -1,0 +1,3 @@
+pub mod Stores
+pub mod Rounds
+pub mod Loading

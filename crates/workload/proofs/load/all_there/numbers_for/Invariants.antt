@@ -1,6 +1,0 @@
-use Rattle.std.proofs.Common.{◌≡◌, map, take}
-use Rattle.closed_store.specs.Joins.{given_for}
-use Rattle.workload.proofs.load.all_there.numbers_for.Given as goal
-
-abbrev pub invariant-loop-part : goal.invariant-loop-part
-invariant-loop-part l = l.numbers.items ≡ map (λ e. e.number) (given_for (take l.part-index l.given) l.partition l.tenant)

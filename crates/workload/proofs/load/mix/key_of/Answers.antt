@@ -1,7 +1,0 @@
-use Rattle.std.proofs.Common.{arith}
-use Rattle.std.proofs.lemmas.Grind.{common_steps}
-use Rattle.workload.proofs.Spelled.{no_key}
-use Rattle.workload.proofs.load.mix.key_of.Goals as goal
-
-pub unreachable-requires : goal.unreachable-requires
-unreachable-requires c = no_key _ c.args.number (omega (arith, c.ranges.number.fits)) c.in_default.ensures.exact.1 (grind (arith, common_steps))
