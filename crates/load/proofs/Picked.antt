@@ -12,23 +12,11 @@ use Rattle.plain_store.specs.declared.answer.Answer.{Answer}
 use Rattle.entry_list.specs.declared.kinds.Entry.{Entry}
 use Rattle.entry_list.specs.declared.kinds.Entry.TheVariants.{Began, Took, Answered}
 use Rattle.hub.specs.Operations.{IsOperation}
-use Rattle.hub.specs.Seats.{Follows, IsEntered, SeatView, is_inside}
+use Rattle.hub.specs.Seats.{Follows, IsEntered, SeatView, is_inside, is_unrecorded}
 use Rattle.load.specs.declared.mix.RoundKind.{RoundKind}
 use Rattle.load.specs.declared.mix.RoundKind.TheVariants.{Put, Get, Find}
 use Rattle.load.specs.declared.mix.DrawnRound.{DrawnRound}
-use Rattle.load.specs.Rounds.{ArePicked, act_in, act_of_kind, act_of_round, acts_drawn, four_keys, item_of_round, next_state, round_from, state_after, tag_of}
-
--- ---- some of a list
-
-skip_last : (picked acts : List Act) (act : Act) → ArePicked picked acts → ArePicked picked (acts ++ act ∷ [])
-skip_last picked [] act h = inl h
-skip_last picked (first ∷ acts) act (inl h) = inl (skip_last picked acts act h)
-skip_last picked (first ∷ acts) act (inr (rest, is, h)) = inr (rest, is, skip_last rest acts act h)
-
-pick_last : (picked acts : List Act) (act : Act) → ArePicked picked acts → ArePicked (picked ++ act ∷ []) (acts ++ act ∷ [])
-pick_last picked [] act h = inr ([], ap (λ (l : List Act). l ++ act ∷ []) h, refl)
-pick_last picked (first ∷ acts) act (inl h) = inl (pick_last picked acts act h)
-pick_last picked (first ∷ acts) act (inr (rest, is, h)) = inr (rest ++ act ∷ [], ap (λ (l : List Act). l ++ act ∷ []) is, pick_last rest acts act h)
+use Rattle.load.specs.Rounds.{act_in, act_of_kind, act_of_round, acts_drawn, four_keys, item_of_round, next_state, round_from, state_after, tag_of}
 
 -- ---- what an operation enters
 
@@ -47,31 +35,25 @@ began old new act told f =
     ∙ append-nil (filter_map act_in (old ++ Began act ∷ []))
     ∙ filter_map-append act_in old (Began act ∷ [])
 
--- an operation that was answered was begun, or nothing was
-entered_began : (act : Act) (old new : SeatView) (answer : Answer) → IsEntered act old answer new
-    → (filter_map act_in new.entries ≡ filter_map act_in old.entries) ⊎ (filter_map act_in new.entries ≡ filter_map act_in old.entries ++ act ∷ [])
-entered_began act old new answer (inl (recorded, going, goes, follows)) = inr (began old.entries new.entries act (Some answer) follows)
-entered_began act old new answer (inr (outside, (refusal, is, inl unbegun))) = inl (ap (λ (s : SeatView). filter_map act_in s.entries) unbegun.1)
-entered_began act old new answer (inr (outside, (refusal, is, inr stopped))) = inr (began old.entries new.entries act stopped.1.told stopped.1.entered)
-
-one_more : (drawn : List Act) (act : Act) (old new : List Entry) → ArePicked (filter_map act_in old) drawn
-    → (filter_map act_in new ≡ filter_map act_in old) ⊎ (filter_map act_in new ≡ filter_map act_in old ++ act ∷ []) → ArePicked (filter_map act_in new) (drawn ++ act ∷ [])
-one_more drawn act old new h (inl same) = subst (λ (l : List Act). ArePicked l (drawn ++ act ∷ [])) (sym same) (skip_last (filter_map act_in old) drawn act h)
-one_more drawn act old new h (inr more) = subst (λ (l : List Act). ArePicked l (drawn ++ act ∷ [])) (sym more) (pick_last (filter_map act_in old) drawn act h)
+-- an operation whose answer a transcript has was begun
+entered_began : (act : Act) (old new : SeatView) (answer : Answer) → is_unrecorded answer ≡ false → IsEntered act old answer new
+    → filter_map act_in new.entries ≡ filter_map act_in old.entries ++ act ∷ []
+entered_began act old new answer told (inl (recorded, going, goes, follows)) = began old.entries new.entries act (Some answer) follows
+entered_began act old new answer told (inr (outside, left)) = absurd (let no : false ≡ true = sym told ∙ outside in cc)
 
 -- the number from which is drawn after one round more
 pub one_round : (done state : ℕ) → next_state (next_state (next_state (state_after done state))) ≡ state_after (done + 1) state
 one_round done state = rw add-one refl
 
 -- one round more
-pub round_more : (client keys done first : ℕ) (old new : SeatView) → old.name.client ≡ client → ArePicked (filter_map act_in old.entries) (acts_drawn client keys done first)
-    → ((answer : Answer) × IsOperation (act_of_round old.name.client keys (done + 1) (round_from keys (state_after done first))) old answer new)
-    → ArePicked (filter_map act_in new.entries) (acts_drawn client keys (done + 1) first)
-round_more client keys done first old new same h served =
-    subst (ArePicked (filter_map act_in new.entries)) (sym (map-range_with_len_more (λ at. act_of_round client keys (at + 1) (round_from keys (state_after at first))) 0 done done (omega arith)))
-    (one_more (acts_drawn client keys done first) (act client) old.entries new.entries h
-    (subst (λ (c : ℕ). (filter_map act_in new.entries ≡ filter_map act_in old.entries) ⊎ (filter_map act_in new.entries ≡ filter_map act_in old.entries ++ act c ∷ [])) same
-    (entered_began (act old.name.client) old new served.0 served.1.entered)))
+pub round_more : (client keys done first : ℕ) (old new : SeatView) (answer : Answer) → old.name.client ≡ client → filter_map act_in old.entries ≡ acts_drawn client keys done first
+    → is_unrecorded answer ≡ false → IsOperation (act_of_round old.name.client keys (done + 1) (round_from keys (state_after done first))) old answer new
+    → filter_map act_in new.entries ≡ acts_drawn client keys (done + 1) first
+round_more client keys done first old new answer same h told served =
+    entered_began (act old.name.client) old new answer told served.entered
+    ∙ ap (λ (c : ℕ). filter_map act_in old.entries ++ act c ∷ []) same
+    ∙ ap (λ (l : List Act). l ++ act client ∷ []) h
+    ∙ sym (map-range_with_len_more (λ at. act_of_round client keys (at + 1) (round_from keys (state_after at first))) 0 done done (omega arith))
   where
     act : ℕ → Act
     act c = act_of_round c keys (done + 1) (round_from keys (state_after done first))
@@ -81,24 +63,22 @@ round_more client keys done first old new same h served =
 -- by the kind that it drew
 of_kind : (keys nth : ℕ) (round : DrawnRound) (which : RoundKind) (act : Act) (old new : SeatView) (answer : Answer) → round.kind ≡ which
     → act_of_kind which old.name.client (take (min round.count 4) (four_keys round.first keys)) nth round.searches_even ≡ act → IsOperation act old answer new
-    → (told : Answer) × IsOperation (act_of_round old.name.client keys nth round) old told new
-of_kind keys nth round which act old new answer is same served = (
-  answer,
-  subst (λ (k : RoundKind). IsOperation (act_of_kind k old.name.client (take (min round.count 4) (four_keys round.first keys)) nth round.searches_even) old answer new) (sym is)
-      (subst (λ (a : Act). IsOperation a old answer new) (sym same) served),
-)
+    → IsOperation (act_of_round old.name.client keys nth round) old answer new
+of_kind keys nth round which act old new answer is same served =
+    subst (λ (k : RoundKind). IsOperation (act_of_kind k old.name.client (take (min round.count 4) (four_keys round.first keys)) nth round.searches_even) old answer new) (sym is)
+    (subst (λ (a : Act). IsOperation a old answer new) (sym same) served)
 
 pub puts : (keys nth : ℕ) (round : DrawnRound) (items : List Item) (old new : SeatView) (answer : Answer) → round.kind ≡ Put
     → items ≡ take (min round.count 4) (map (item_of_round nth) (four_keys round.first keys)) → IsOperation (PutAct old.name.client items) old answer new
-    → (told : Answer) × IsOperation (act_of_round old.name.client keys nth round) old told new
+    → IsOperation (act_of_round old.name.client keys nth round) old answer new
 puts keys nth round items old new answer is same = of_kind keys nth round Put (PutAct old.name.client items) old new answer is
     (ap (PutAct old.name.client) (sym (take-map (item_of_round nth) (min round.count 4) (four_keys round.first keys)) ∙ sym same))
 
 pub gets : (keys nth : ℕ) (round : DrawnRound) (all : List (List ℕ)) (old new : SeatView) (answer : Answer) → round.kind ≡ Get
     → all ≡ take (min round.count 4) (four_keys round.first keys) → IsOperation (GetAct old.name.client all) old answer new
-    → (told : Answer) × IsOperation (act_of_round old.name.client keys nth round) old told new
+    → IsOperation (act_of_round old.name.client keys nth round) old answer new
 gets keys nth round all old new answer is same = of_kind keys nth round Get (GetAct old.name.client all) old new answer is (ap (GetAct old.name.client) (sym same))
 
 pub finds : (keys nth : ℕ) (round : DrawnRound) (tag : List ℕ) (old new : SeatView) (answer : Answer) → round.kind ≡ Find → tag ≡ tag_of round.searches_even
-    → IsOperation (FindAct old.name.client tag) old answer new → (told : Answer) × IsOperation (act_of_round old.name.client keys nth round) old told new
+    → IsOperation (FindAct old.name.client tag) old answer new → IsOperation (act_of_round old.name.client keys nth round) old answer new
 finds keys nth round tag old new answer is same = of_kind keys nth round Find (FindAct old.name.client tag) old new answer is (ap (FindAct old.name.client) (sym same))

@@ -1,6 +1,6 @@
 -- What the seats of a load draw, and what they do with it.
 use Rattle.std.specs.Prelude.{[], ℕ, All, ◌+◌, ◌*◌, ◌/◌, ◌%◌, ◌^◌, ◌==◌, nat_lt, min, Bool, List, ◌∷◌, map, take}
-use Rattle.std.specs.Prelude.{◌≡◌, ◌⊎◌, if◌then◌else◌, decimal, codes, zero, suc, Option, Some, None}
+use Rattle.std.specs.Prelude.{◌≡◌, if◌then◌else◌, decimal, codes, zero, suc, Option, Some, None}
 use Rattle.std.specs.List.{flat_map, filter_map, range_with_len}
 use Rattle.load.specs.declared.mix.RoundKind.{RoundKind}
 use Rattle.load.specs.declared.mix.RoundKind.TheVariants.{Put, Get, Find}
@@ -84,18 +84,11 @@ act_in (Began act) = Some act
 act_in (Took number partition place reply) = None
 act_in (Answered answer) = None
 
--- the first are some of the second, in their order
-abbrev pub ArePicked : List Act → List Act → Type 0
-ArePicked picked [] = picked ≡ []
-ArePicked picked (act ∷ acts) =
-    ArePicked picked acts ⊎ ((rest : List Act) × (picked ≡ act ∷ rest) × ArePicked rest acts)
-
--- the transcript is that of a client of a tenant, which began some of the acts that it drew, in their order
+-- the transcript is that of a client of a tenant, which began just the acts that it drew, in their order
 pub record IsOfSeat (seed rounds keys tenant client : ℕ) (transcript : Transcript) : Type 0 where
   pub of_tenant : transcript.tenant ≡ tenant
   pub of_client : transcript.client ≡ client
-  pub drawn : ArePicked (filter_map act_in transcript.entries.items)
-      (acts_drawn client keys rounds (first_state seed tenant client))
+  pub drawn : filter_map act_in transcript.entries.items ≡ acts_drawn client keys rounds (first_state seed tenant client)
 
 -- the seats of the first clients of a tenant, so many, in their order
 abbrev pub seats_of_tenant : ℕ → ℕ → List (ℕ × ℕ)
@@ -109,7 +102,7 @@ seats_of tenants seats = flat_map (seats_of_tenant seats) (range_with_len 0 tena
 abbrev pub seat_of : Transcript → ℕ × ℕ
 seat_of transcript = (transcript.tenant, transcript.client)
 
--- a transcript of each of these seats, in their order, each of which began some of the acts that it drew
+-- a transcript of each of these seats, in their order, each of which began just the acts that it drew
 pub record AreOfSeats (seed rounds keys : ℕ) (seats : List (ℕ × ℕ)) (transcripts : List Transcript) : Type 0 where
   pub named : map seat_of transcripts ≡ seats
   pub drawn : All (λ (t : Transcript). IsOfSeat seed rounds keys t.tenant t.client t) transcripts

@@ -7,13 +7,14 @@ use Rattle.server_sessions.specs.Histories.{IsOfHistory}
 use Rattle.line_runs.specs.declared.fault.ProgramFault.{ProgramFault}
 use Rattle.line_runs.specs.declared.fault.ProgramFault.TheVariants.{OutOfMemory, Device}
 
--- A store that was closed is that of one history: where there are journals of a partition, all calls that this has of it are in
--- them or in earlier epochs; and each reply in its transcripts has its place there.
+-- One history explains a store that was closed: where there are journals of a partition, all calls that it has of the
+-- partition are in them or in earlier epochs; and each reply in the transcripts has its place there. That it is the history of
+-- the store that was served is said by `close_store`, which answers what was seen of it.
 abbrev pub HasHistory : Closed → Type 0
 HasHistory closed = ∥ ((seen : List HistoryEntry) × IsOfHistory seen closed) ∥₁
 
 -- What the close of a hub of this config answers, whether it kept journals or not: that config, and for each of its partitions, in their order, sound
--- journals of its tenants, or none, and the counts of their events. It is all of the history of the store that was served.
+-- journals of its tenants, or none, and the counts of their events. One history explains them.
 pub record IsClosed (view : ConfigView) (closed : Closed) : Type 0 where
   pub config : config_view closed.config ≡ record view { journals = true }
   pub parts : length closed.journals.items ≡ view.parts

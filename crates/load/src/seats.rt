@@ -3,18 +3,18 @@ ghost use Rattle.std.specs.Prelude.{◌≡◌, ◌≤◌, ◌<◌, ◌++◌, ◌
 ghost use Rattle.std.specs.List.{filter_map};
 ghost use Rattle.stamps.specs.Limits.{max_tenants, max_seats};
 ghost use Rattle.line_runs.specs.declared.fault.ProgramFault.TheVariants.{Device, OutOfMemory as NoMemory};
-ghost use Rattle.plain_store.specs.declared.answer.Answer.{Answer as Told};
 ghost use Rattle.closed_store.specs.declared.transcript.Transcript.{Transcript as Left};
-ghost use Rattle.hub.specs.Seats.{IsNamed};
+ghost use Rattle.hub.specs.Seats.{IsNamed, is_unrecorded};
 ghost use Rattle.hub.specs.Operations.{IsOperation};
 ghost use Rattle.server_sessions.specs.Histories.{IsGivenIn};
 ghost use Rattle.server_sessions.specs.Ports.{transcripts_of};
 ghost use Rattle.load.specs.Stores.{DoneOrRefused};
-ghost use Rattle.load.specs.Rounds.{AreOfSeats, ArePicked, IsOfSeat, act_in, act_of_round, acts_drawn, seats_of};
+ghost use Rattle.load.specs.Rounds.{AreOfSeats, IsOfSeat, act_in, act_of_round, acts_drawn, seats_of};
 
 use crate::mix::{DrawnRound, Draws, RoundKind, four_keys, items_of, tag_of};
 use hub::{Named, Naming};
 use line_runs::ProgramFault;
+use plain_store::{Answer, Refusal};
 use server_sessions::{KeptTranscripts, Open, OpenHub, OpenSeat, SessionLeft};
 use stamps::{Client, Counter};
 use std::alloc::Global;
@@ -38,7 +38,7 @@ pub(crate) struct Orders {
 type SeatLeft<J> = SessionLeft<Named<J, Open>>;
 
 /// The seat of a client of a load. Its thread promises its transcript, and what the seat has seen of the store's history; or nothing
-/// where it found no memory.
+/// where it, or a worker that served it, found no memory.
 #[derive(Clone, Copy)]
 struct LoadSeat {
     tenant: u32,
@@ -165,63 +165,78 @@ fn run_seat<J: Naming, H: Wait>(rt: &H, hub: &OpenHub<J>, of: LoadSeat) -> Optio
     match hub.seat(rt, of.tenant, client, base) {
         Ok(seat) => {
             let draws = Draws::new(of.orders.seed, of.tenant, of.number);
-            Some(run_rounds(rt, seat, draws, of.orders))
+            let left = run_rounds(rt, seat, draws, of.orders)?;
+            Some(left)
         }
         Err(_) => None,
     }
 }
 
-/// Does so many rounds, and ends the seat.
+/// Does so many rounds, and ends the seat. Where a round is refused as no transcript has it, since memory was refused to the seat or to a
+/// worker, it answers nothing, and does no more of them.
 fn run_rounds<J: Naming, H: Wait>(
     rt: &H,
     seat: OpenSeat<'_, J>,
     draws: Draws,
     orders: Orders,
-) -> SeatLeft<J>
-    ensures name { IsNamed result.0 seat.entry.name }
+) -> Option<SeatLeft<J>>
+    ensures name { IfSome result (λ left. IsNamed left.0 seat.entry.name) }
     // Each reply that it was given has its place in what its seat has seen.
-    ensures given { seat.entry.entries ≡ [] → IsGivenIn result.1 result.0 }
-    // What it began are some of the acts that it drew, in their order.
+    ensures given { seat.entry.entries ≡ [] → IfSome result (λ left. IsGivenIn left.1 left.0) }
+    // What it began are just the acts that it drew, in their order.
     ensures began { seat.entry.entries ≡ []
-        → ArePicked (filter_map act_in result.0.entries.items)
-        (acts_drawn seat.entry.name.client orders.keys orders.rounds draws.state) }
+        → IfSome result
+        (λ left. filter_map act_in left.0.entries.items
+        ≡ acts_drawn seat.entry.name.client orders.keys orders.rounds draws.state) }
 {
     let mut seat = seat;
     let mut draws = draws;
     for done in 0..orders.rounds {
         let round = draws.round(orders.keys);
-        run_round(rt, &mut seat, done + 1, &round, orders.keys);
+        let answer = run_round(rt, &mut seat, done + 1, &round, orders.keys);
+        if is_left_out(&answer) {
+            let _ = seat.end(rt);
+            return None;
+        }
     }
     let seen = seat.seen();
-    (seat.end(rt), seen)
+    Some((seat.end(rt), seen))
 }
 
-/// Does a round. Whatever is answered, the next round follows.
+/// Whether no transcript has this answer, since memory or rows were refused.
+fn is_left_out(answer: &Answer) -> bool
+    ensures { result ≡ is_unrecorded answer.now }
+{
+    matches!(
+        answer,
+        Answer::Refused(
+            Refusal::NoTenant
+                | Refusal::Stopped
+                | Refusal::Late
+                | Refusal::RowsUsed
+                | Refusal::OutOfMemory
+        )
+    )
+}
+
+/// Does a round, just as it was drawn.
 fn run_round<J: Naming, H: Wait>(
     rt: &H,
     seat: &mut OpenSeat<'_, J>,
     nth: u32,
     round: &DrawnRound,
     keys: u32,
-)
+) -> Answer
     requires { 0 < keys }
-    // It does just what was drawn.
-    ensures operated { (answer : Told)
-        × IsOperation
-        (act_of_round seat.old.name.client keys nth round.now) seat.old answer seat.new }
+    ensures operated { IsOperation
+        (act_of_round seat.old.name.client keys nth round.now) seat.old result seat.new }
     ensures name { seat.new.name ≡ seat.old.name }
 {
     let count = (round.count as usize).min(MOST_KEYS);
     let all = four_keys(round.first, keys);
     match round.kind {
-        RoundKind::Put => {
-            let _ = seat.put_all(rt, &items_of(&all, nth)[..count]);
-        }
-        RoundKind::Get => {
-            let _ = seat.get_all(rt, &all[..count]);
-        }
-        RoundKind::Find => {
-            let _ = seat.find(rt, tag_of(round.searches_even));
-        }
+        RoundKind::Put => seat.put_all(rt, &items_of(&all, nth)[..count]),
+        RoundKind::Get => seat.get_all(rt, &all[..count]),
+        RoundKind::Find => seat.find(rt, tag_of(round.searches_even)),
     }
 }

@@ -1,10 +1,10 @@
-use Rattle.std.proofs.Common.{◌≡◌, ap, ◌∙◌, refl, ℕ, subst, arith}
+use Rattle.std.proofs.Common.{◌≡◌, ap, ◌∙◌, refl, sym, ℕ, subst, arith}
 use Rattle.std.specs.List.{filter_map}
 use Rattle.hub.specs.Limits.{max_calls}
 use Rattle.hub.specs.Seats.{IsNamed}
 use Rattle.server_sessions.proofs.SeatsGiven.{given_at_end, given_fresh, given_later}
 use Rattle.shard.specs.declared.seat_name.SeatName.{SeatName}
-use Rattle.load.specs.Rounds.{ArePicked, act_in, acts_drawn, next_state}
+use Rattle.load.specs.Rounds.{act_in, acts_drawn, next_state}
 use Rattle.load.proofs.Picked.{one_round, round_more}
 use Rattle.load.proofs.seats.run_rounds.Goals as goal
 
@@ -13,22 +13,22 @@ loop-done-init g c = record { name = refl; state = refl; began = λ fresh. rw fr
 
 pub loop-done-preserved : goal.loop-done-preserved
 loop-done-preserved g c = record {
-  name = c.run_round.ensures.name ∙ c.loop-done.invariant.name;
+  name = c.run_round-answer.ensures.name ∙ c.loop-done.invariant.name;
   state = c.round-round.ensures.state ∙ ap (λ (s : ℕ). next_state (next_state (next_state s))) c.loop-done.invariant.state ∙ one_round c.loop-done.done c.args.draws.state;
-  began = λ fresh. round_more c.args.seat.name.client c.args.orders.keys c.loop-done.done c.args.draws.state c.loop-done.seat c.run_round.new.seat
-      (ap (λ (n : SeatName). n.client) c.loop-done.invariant.name) (c.loop-done.invariant.began fresh)
-      (rw (c.round-round.ensures.round, c.loop-done.invariant.state) at c.run_round.ensures.operated);
-  given = λ fresh. given_later max_calls c.loop-done.seat c.run_round.new.seat c.run_round.ensures.operated.1.later (c.loop-done.invariant.given fresh);
+  began = λ fresh. round_more c.args.seat.name.client c.args.orders.keys c.loop-done.done c.args.draws.state c.loop-done.seat c.run_round-answer.new.seat c.run_round-answer.result
+      (ap (λ (n : SeatName). n.client) c.loop-done.invariant.name) (c.loop-done.invariant.began fresh) (sym c.is_left_out.ensures ∙ c.if-is_left_out.false)
+      (rw (c.round-round.ensures.round, c.loop-done.invariant.state) at c.run_round-answer.ensures.operated);
+  given = λ fresh. given_later max_calls c.loop-done.seat c.run_round-answer.new.seat c.run_round-answer.ensures.operated.later (c.loop-done.invariant.given fresh);
 }
 
 pub returns-clause-name : goal.returns-clause-name
-returns-clause-name g c = subst (IsNamed c.end.result) c.loop-done.invariant.name c.end.ensures.name
+returns-clause-name g c = subst (IsNamed c.end-2.result) c.loop-done.invariant.name c.end-2.ensures.name
 
 pub returns-clause-began : goal.returns-clause-began
 returns-clause-began g c = λ fresh.
     let all : c.loop-done.done ≡ c.args.orders.rounds = omega arith in
-    rw c.end.ensures.entries
-    (subst (λ (rounds : ℕ). ArePicked (filter_map act_in c.loop-done.seat.entries) (acts_drawn c.args.seat.name.client c.args.orders.keys rounds c.args.draws.state)) all (c.loop-done.invariant.began fresh))
+    rw c.end-2.ensures.entries
+    (subst (λ (rounds : ℕ). filter_map act_in c.loop-done.seat.entries ≡ acts_drawn c.args.seat.name.client c.args.orders.keys rounds c.args.draws.state) all (c.loop-done.invariant.began fresh))
 
 pub returns-clause-given : goal.returns-clause-given
-returns-clause-given g c = λ fresh. given_at_end c.loop-done.seat c.end.result c.seen-seen.result c.end.ensures.name c.end.ensures.entries c.seen-seen.ensures.same (c.loop-done.invariant.given fresh)
+returns-clause-given g c = λ fresh. given_at_end c.loop-done.seat c.end-2.result c.seen-seen.result c.end-2.ensures.name c.end-2.ensures.entries c.seen-seen.ensures.same (c.loop-done.invariant.given fresh)
