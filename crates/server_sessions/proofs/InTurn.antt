@@ -1,4 +1,4 @@
--- Lines are answered in their turn: for `answer_next`, `answer_waiting`, `answer_piece`, `answer_lines` and `run_session`.
+-- Lines are answered in their turn: for `answer_waiting`, `answer_piece`, `answer_lines` and `run_session`.
 use Rattle.std.proofs.Common.{◌≡◌, ℕ, ◌+◌, zero, suc, List, [], ◌∷◌, ◌++◌, length, take, Option, Some, None, Result, Ok, Err, refl, sym, ap, subst, ◌∙◌, append_assoc, inl, inr, arith}
 use Rattle.std.specs.Prelude.{Bool, IfErr, IfOk, IfSome, OnOk, is_some, true, false}
 use Rattle.std.specs.Io.KnownBytes.{Appends, Consumes, IsAtEnd, Keeps}
@@ -162,14 +162,12 @@ takes_kept options hub names ending old new bytes held a b c x z keeps h = recor
 }
 
 -- the same of the line that waits
-pub takes_waiting : {E : Type 0} (options : SessionOptions) (hub : ConfigView) (names : List (List ℕ)) (r : Result (Option SessionEnd) E) (old new : Option SeatView) (line bytes held : List ℕ) (a b c : Option (List ℕ)) (x z : List ℕ) → Keeps a b
-    → bytes ≡ terminated line → IsLine line → held ≡ [] → IfOk r (λ ending. IsLine line → TakesBytes options hub names ending old new (terminated line) [] b c x z)
-    → IfOk r (λ ending. TakesBytes options hub names ending old new bytes held a c x z)
-takes_waiting options hub names (Err e) old new line bytes held a b c x z keeps waits is none h = tt
-takes_waiting options hub names (Ok ending) old new line bytes held a b c x z keeps waits is none h =
+pub takes_waiting : (options : SessionOptions) (hub : ConfigView) (names : List (List ℕ)) (ending : Option SessionEnd) (old new : Option SeatView) (line bytes held : List ℕ) (a b c : Option (List ℕ)) (x z : List ℕ) → Keeps a b
+    → bytes ≡ terminated line → held ≡ [] → TakesBytes options hub names ending old new (terminated line) [] b c x z → TakesBytes options hub names ending old new bytes held a c x z
+takes_waiting options hub names ending old new line bytes held a b c x z keeps waits none h =
     subst (λ (l : List ℕ). TakesBytes options hub names ending old new l held a c x z) (sym waits)
     (subst (λ (l : List ℕ). TakesBytes options hub names ending old new (terminated line) l a c x z) (sym none)
-    (takes_kept options hub names ending old new (terminated line) [] a b c x z keeps (h is)))
+    (takes_kept options hub names ending old new (terminated line) [] a b c x z keeps h))
 
 -- before a front was answered, and then what is taken of what was left
 pub takes_after : (options : SessionOptions) (hub : ConfigView) (names : List (List ℕ)) (ending : SessionEnd) (first now last : Option SeatView) (stream bytes after held kept : List ℕ) (a b c : Option (List ℕ)) (x y z : List ℕ)
@@ -370,12 +368,10 @@ breaks_kept : (options : SessionOptions) (hub : ConfigView) (names : List (List 
 breaks_kept options hub names old new bytes a b c x keeps h =
     record { text = h.text; left = h.left; size = h.size; over = h.over; answers = h.answers; written = Appends-trans a b c [] (take h.size (x ++ h.text)) (Appends-kept a a b [] (Appends-nil a) keeps) h.written }
 
-pub breaks_waiting : {A E : Type 0} (options : SessionOptions) (hub : ConfigView) (names : List (List ℕ)) (r : Result A E) (old new : Option SeatView) (line bytes : List ℕ) (a b c : Option (List ℕ)) (x : List ℕ) → Keeps a b
-    → bytes ≡ terminated line → IsLine line → IfErr r (λ fault. IsLine line → BreaksOffIn options hub names old new (terminated line) b c x)
-    → IfErr r (λ fault. BreaksOffIn options hub names old new bytes a c x)
-breaks_waiting options hub names (Ok done) old new line bytes a b c x keeps waits is h = tt
-breaks_waiting options hub names (Err e) old new line bytes a b c x keeps waits is h =
-    subst (λ (l : List ℕ). BreaksOffIn options hub names old new l a c x) (sym waits) (breaks_kept options hub names old new (terminated line) a b c x keeps (h is))
+pub breaks_waiting : (options : SessionOptions) (hub : ConfigView) (names : List (List ℕ)) (old new : Option SeatView) (line bytes : List ℕ) (a b c : Option (List ℕ)) (x : List ℕ) → Keeps a b → bytes ≡ terminated line
+    → BreaksOffIn options hub names old new (terminated line) b c x → BreaksOffIn options hub names old new bytes a c x
+breaks_waiting options hub names old new line bytes a b c x keeps waits h =
+    subst (λ (l : List ℕ). BreaksOffIn options hub names old new l a c x) (sym waits) (breaks_kept options hub names old new (terminated line) a b c x keeps h)
 
 -- after a front was answered
 pub breaks_after : (options : SessionOptions) (hub : ConfigView) (names : List (List ℕ)) (first now last : Option SeatView) (stream bytes after : List ℕ) (a b c : Option (List ℕ)) (x y : List ℕ)

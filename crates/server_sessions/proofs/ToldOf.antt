@@ -530,12 +530,6 @@ told_line newest epoch a b x y z line first last is tells h = (line ++ [], Gathe
 pub told_flushed : (newest : Bool) (epoch : ℕ) (a b c : Option (List ℕ)) (x y z : List ℕ) (first last : Option SeatView) → ToldSo newest epoch a b x y first last → Appends b c y → z ≡ [] → ToldSo newest epoch a c x z first last
 told_flushed newest epoch a b c x y z first last h adds none = (h.0, Gathers-emptied a b c x y z h.0 h.1 adds none, h.2)
 
--- the same of a call that went well, after what was reported before
-pub told_after : {A E : Type 0} (newest : Bool) (epoch : ℕ) (r : Result A E) (a b c : Option (List ℕ)) (x y z : List ℕ) (first next last : Option SeatView) → ToldSo newest epoch a b x y first next
-    → OnOk r (ToldSo newest epoch b c y z next last) → OnOk r (ToldSo newest epoch a c x z first last)
-told_after newest epoch (Ok done) a b c x y z first next last told more = told_on newest epoch a b c x y z first next last told more
-told_after newest epoch (Err e) a b c x y z first next last told more = tt
-
 -- ---- the whole of a session
 
 -- whether its last lines were written
@@ -572,12 +566,6 @@ breaks_line newest epoch a b x y line first last n is tells adds = (line, n, tel
 pub breaks_after : (newest : Bool) (epoch : ℕ) (a b c : Option (List ℕ)) (x y : List ℕ) (first next last : Option SeatView) → ToldSo newest epoch a b x y first next → BreaksTelling newest epoch next last b c y → BreaksTelling newest epoch first last a c x
 breaks_after newest epoch a b c x y first next last h k =
     (h.0 ++ k.0, length h.1.written + k.1, Tells-trans newest epoch first next last h.0 k.0 h.2 k.2, begins_behind_gathered a b c x y h.0 k.0 k.1 h.1 k.3)
-
--- the same of a call that broke off
-pub begun_after : {A E : Type 0} (newest : Bool) (epoch : ℕ) (r : Result A E) (a b c : Option (List ℕ)) (x y : List ℕ) (first next last : Option SeatView) → ToldSo newest epoch a b x y first next
-    → IfErr r (λ fault. BreaksTelling newest epoch next last b c y) → IfErr r (λ fault. BreaksTelling newest epoch first last a c x)
-begun_after newest epoch (Ok done) a b c x y first next last told breaks = tt
-begun_after newest epoch (Err e) a b c x y first next last told breaks = breaks_after newest epoch a b c x y first next last told breaks
 
 -- the whole of a session that breaks off
 pub session_begun : (newest : Bool) (epoch : ℕ) (seat : Option SeatView) (left : Option SessionLeft) (a b : Option (List ℕ)) → BreaksTelling newest epoch None seat a b [] → IsOfSeat 0 seat left

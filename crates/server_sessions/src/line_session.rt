@@ -425,7 +425,14 @@ fn answer_waiting<'s, G: Gate + Naming, H: Wait, W: Write>(
         return Ok(None);
     };
     find_peer(out, writer)?;
-    answer_next(rt, hub, connection, line, out, writer)
+    if let Some(ending) = connection.answer(rt, hub, line) {
+        return Ok(Some(ending));
+    }
+    let ends = connection.ends();
+    let counted = connection.count();
+    connection.put_answer(counted, out);
+    make_room(out, writer)?;
+    Ok(if ends { Some(SessionEnd::Silent) } else { None })
 }
 
 // A fault where answers wait to be written and it is known that nobody takes them.
@@ -440,43 +447,6 @@ fn find_peer<W: Write>(out: &BytesMut, writer: &mut W) -> Result<(), RunFault>
         Ok(()) => Ok(()),
         Err(_) => Err(RunFault::Write),
     }
-}
-
-// Answers a line.
-fn answer_next<'s, G: Gate + Naming, H: Wait, W: Write>(
-    rt: &H,
-    hub: &'s Hub<G>,
-    connection: &mut Connection<'s, G>,
-    line: &[u8],
-    out: &mut BytesMut,
-    writer: &mut W,
-) -> Result<Option<SessionEnd>, RunFault>
-    requires { MayAnswer LINE_LIMIT out.old.spare connection.old.seat
-        connection.old.terms.names.now }
-    ensures keeps { let terms = connection.old.terms in
-        KeepsTelling terms.options.newest hub.now.epoch connection.new.terms.names.now
-        connection.old.seat connection.new.seat (W.contents writer.old) (W.contents writer.new)
-        out.old.items out.new.items LINE_LIMIT out.new.spare result }
-    ensures terms { connection.new.terms ≡ connection.old.terms }
-    ensures answered { let terms = connection.old.terms in
-        IfOk result (λ ending. IsLine line.now
-        → TakesBytes terms.options hub.now terms.names.now ending
-        connection.old.seat connection.new.seat (terminated line.now) []
-        (W.contents writer.old) (W.contents writer.new) out.old.items out.new.items) }
-    ensures broke { let terms = connection.old.terms in
-        IfErr result (λ _. IsLine line.now
-        → BreaksOffIn terms.options hub.now terms.names.now
-        connection.old.seat connection.new.seat (terminated line.now)
-        (W.contents writer.old) (W.contents writer.new) out.old.items) }
-{
-    if let Some(ending) = connection.answer(rt, hub, line) {
-        return Ok(Some(ending));
-    }
-    let ends = connection.ends();
-    let counted = connection.count();
-    connection.put_answer(counted, out);
-    make_room(out, writer)?;
-    Ok(if ends { Some(SessionEnd::Silent) } else { None })
 }
 
 // Writes what is gathered where there is no room for the next answer.
