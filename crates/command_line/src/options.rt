@@ -457,3 +457,35 @@ fn read_new_name(word: &str, names: &[Name]) -> Option<Name>
     }
     Some(name)
 }
+
+// The words of a command's tenants; none where it has no tenants.
+pub(crate) fn tenant_words<'a>(matches: &'a ArgMatches<'_>) -> &'a [&'a str] {
+    for command in ["sim", "serve", "load"] {
+        if let Some(its) = matches.subcommand_matches(command) {
+            return its.get_raw("tenant").unwrap_or(&[]);
+        }
+    }
+    &[]
+}
+
+// The first word that is no tenant's name.
+pub(crate) fn wrong_name<'a>(words: &[&'a str]) -> Option<&'a str>
+    ensures { IfSome result (λ word. IsName word.now → ⊥) }
+{
+    for word in words {
+        if Name::read(word.as_bytes()).is_none() {
+            return Some(word);
+        }
+    }
+    None
+}
+
+// The first word that stands before, too.
+pub(crate) fn named_twice<'a>(words: &[&'a str]) -> Option<&'a str> {
+    for at in 1..words.len() {
+        if words[..at].contains(&words[at]) {
+            return Some(words[at]);
+        }
+    }
+    None
+}

@@ -5,11 +5,12 @@ ghost use Rattle.command_line.specs.Asked.{WordsAskFor, IsWordsFault};
 ghost use Rattle.command_line.specs.Words.{AsksForHelp, AsksForNothing, AsksForVersion, IsText};
 
 use crate::command::command;
-use crate::options::{Asked, read_matches};
+use crate::options::{Asked, named_twice, read_matches, tenant_words, wrong_name};
+use clap::ArgMatches;
 use clap::error::ErrorKind;
 use line_runs::ProgramFault;
 use std::alloc::Global;
-use std::io::Write;
+use std::io::{Error, Write};
 
 /// A law: these words ask for help, and for nothing else.
 pub fn help_is_asked_for()
@@ -51,9 +52,24 @@ pub fn explain<E: Write>(alloc: Global, words: &[String], errors: &mut E) {
         return;
     };
     let _ = match command.try_get_matches_from(words) {
-        Ok(_) => errors.write_all(RULES.as_bytes()),
+        Ok(matches) => explain_rules(&matches, errors),
         Err(error) => write!(errors, "{error}"),
     };
+}
+
+// Writes which word is no tenant's name, or comes twice, or else all rules that clap does not look at.
+fn explain_rules<E: Write>(matches: &ArgMatches<'_>, errors: &mut E) -> Result<(), Error> {
+    let words = tenant_words(matches);
+    if let Some(word) = wrong_name(words) {
+        return write!(
+            errors,
+            "error: '{word}' is no tenant's name: 1 to 16 bytes of a-z, 0-9 and _\n"
+        );
+    }
+    if let Some(word) = named_twice(words) {
+        return write!(errors, "error: the tenant {word} is named twice\n");
+    }
+    errors.write_all(RULES.as_bytes())
 }
 
 // Help is an answer, and so is the version, and any other text of clap's is not.
