@@ -11,6 +11,7 @@ use packed_steps::{
     put_reply,
 };
 use plain_store::{Answer, Reply};
+use stamps::{Client, Counter};
 use std::alloc::AllocError;
 
 /// The most bytes of a reply's entry: one for its form, a number, a partition, a place and the reply.
@@ -18,6 +19,9 @@ pub const MAX_TOOK_BYTES: usize = 1 + 3 * MAX_NUMBER_BYTES + MAX_REPLY_BYTES;
 
 /// The most bytes of an answer's entry: one for its form, and the answer.
 pub const MAX_ANSWERED_BYTES: usize = 1 + MAX_ANSWER_BYTES;
+
+/// The most bytes of the entries of a raise: two for the forms of each, the client twice and the counter.
+pub const MAX_RAISE_BYTES: usize = 4 + 3 * MAX_NUMBER_BYTES;
 
 /// The entry that an operation began. At `Err` some of its bytes may stand there.
 pub fn put_began(out: &mut Buffer, act: &LentAct<'_>) -> Result<(), AllocError>
@@ -31,6 +35,58 @@ pub fn put_began(out: &mut Buffer, act: &LentAct<'_>) -> Result<(), AllocError>
         LentAct::Get(client, keys) => put_get_act(out, *client, keys),
         LentAct::Find(client, tag) => put_find_act(out, *client, tag),
         LentAct::Whole(act) => put_act(out, act),
+    }
+}
+
+/// The parts of the entry that a client's session ended.
+#[derive(Drop)]
+pub(crate) struct StoppedParts {
+    pub(crate) client: Client,
+}
+
+impl PackEntry for StoppedParts {
+    ghost use Rattle.std.specs.Prelude.{◌+◌};
+    ghost use Rattle.packed.specs.Sizes.{max_number_bytes};
+    ghost use Rattle.plain_store.specs.declared.step.Act.TheVariants.{Stop};
+    ghost use Rattle.entry_list.specs.declared.kinds.Entry.TheVariants.{Began};
+    ghost use Rattle.entry_list.specs.PackedEntries.{packed_entry, IsStoreEntry};
+
+    ghost packed_as = { λ e. packed_entry (Began (Stop e.client)) };
+
+    ghost most_bytes = { λ e. 2 + max_number_bytes };
+
+    ghost is_stored = { λ e. IsStoreEntry (Began (Stop e.client)) };
+
+    fn put(&self, out: &mut Buffer) {
+        out.put_front(&[0, 7], 2);
+        put_number(out, u64::from(self.client.get()));
+    }
+}
+
+/// The parts of the entry that a client's session began at this counter.
+#[derive(Drop)]
+pub(crate) struct GreetedParts {
+    pub(crate) client: Client,
+    pub(crate) counter: Counter,
+}
+
+impl PackEntry for GreetedParts {
+    ghost use Rattle.std.specs.Prelude.{◌+◌, ◌*◌};
+    ghost use Rattle.packed.specs.Sizes.{max_number_bytes};
+    ghost use Rattle.plain_store.specs.declared.step.Act.TheVariants.{Hello};
+    ghost use Rattle.entry_list.specs.declared.kinds.Entry.TheVariants.{Began};
+    ghost use Rattle.entry_list.specs.PackedEntries.{packed_entry, IsStoreEntry};
+
+    ghost packed_as = { λ e. packed_entry (Began (Hello e.client e.counter)) };
+
+    ghost most_bytes = { λ e. 2 + 2 * max_number_bytes };
+
+    ghost is_stored = { λ e. IsStoreEntry (Began (Hello e.client e.counter)) };
+
+    fn put(&self, out: &mut Buffer) {
+        out.put_front(&[0, 0], 2);
+        put_number(out, u64::from(self.client.get()));
+        put_number(out, self.counter.get());
     }
 }
 

@@ -5,7 +5,10 @@ ghost use Rattle.entry_list.specs.Raises.{raise_entries};
 ghost use Rattle.entry_list.specs.PackedEntries.{taken_of, answer_of, operation_of, entry_in, IsPackedEntry};
 
 use crate::entry_decoding::{answer_in, operation_in, taken_in, unpacked};
-use crate::entry_encoding::{AnsweredParts, MAX_TOOK_BYTES, TookParts, put_began};
+use crate::entry_encoding::{
+    AnsweredParts, GreetedParts, MAX_RAISE_BYTES, MAX_TOOK_BYTES, StoppedParts, TookParts,
+    put_began,
+};
 use crate::kinds::{Entry, LentAct, Operation, Taken};
 use packed::{Buffer, PackedList};
 use plain_store::{Act, Answer, Reply};
@@ -178,17 +181,9 @@ impl EntryList {
         ensures err { OnErr result (self.new.items ≡ self.old.items) }
     {
         self.room = 0;
-        self.scratch.clear();
-        put_began(&mut self.scratch, &LentAct::Whole(&Act::Stop(client)))?;
-        let first = self.scratch.len();
-        put_began(
-            &mut self.scratch,
-            &LentAct::Whole(&Act::Hello(client, counter)),
-        )?;
-        let (stop, hello) = self.scratch.as_slice().split_at(first);
-        self.list.reserve(2, stop.len() + hello.len())?;
-        self.list.push_reserved(stop);
-        self.list.push_reserved(hello);
+        self.list.reserve(2, MAX_RAISE_BYTES)?;
+        self.list.push_packed(&StoppedParts { client });
+        self.list.push_packed(&GreetedParts { client, counter });
         Ok(())
     }
 
