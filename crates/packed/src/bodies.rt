@@ -48,7 +48,7 @@ pub fn unpack_body(bytes: &[u8], stamp: Stamp, place: &mut Record)
     place.tag = tag;
     place.value = value;
     place.stamp = stamp;
-    place.writes = stored_writes(rest);
+    unpack_writes(rest, &mut place.writes);
 }
 
 /// The key in a body. It checks no byte.
@@ -159,4 +159,33 @@ fn stored_keys(count: usize, bytes: &[u8]) -> WriteSet
         rest = after;
     }
     WriteSet::of_stored(keys, count)
+}
+
+// Writes the write set at the end over another one, so that none is copied.
+#[inline(always)]
+fn unpack_writes(bytes: &[u8], place: &mut WriteSet)
+    requires { IsSome (writes_at bytes.now) }
+    ensures { (rest : List ℕ) × (Some (place.new, rest) ≡ writes_at bytes.now) }
+{
+    let (count, rest) = read_byte(bytes).unwrap();
+    unpack_keys(usize::from(count), rest, place);
+}
+
+// Writes a write set of so many keys over another one.
+#[inline(always)]
+fn unpack_keys(count: usize, bytes: &[u8], place: &mut WriteSet)
+    requires some { 0 < count }
+    requires few { count ≤ max_keys }
+    requires there { IsSome (writes_of count bytes.now) }
+    ensures { (rest : List ℕ) × (Some (place.new, rest) ≡ writes_of count bytes.now) }
+{
+    let (first, after_first) = stored_key(bytes);
+    let mut keys = [first; WriteSet::MAX_LEN];
+    let mut rest = after_first;
+    for at in 1..count {
+        let (key, after) = stored_key(rest);
+        keys[at] = key;
+        rest = after;
+    }
+    *place = WriteSet::of_stored(keys, count);
 }

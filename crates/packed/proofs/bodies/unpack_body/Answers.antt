@@ -2,7 +2,7 @@ use Rattle.std.proofs.Common.{◌≡◌, sym, subst, ◌∙◌}
 use Rattle.stamps.specs.Record.{Record, IsRecord}
 use Rattle.packed.proofs.BodyParts.{is_there, key_is, after_key, after_tag, after_value, after_writes, tag_there, value_there, writes_there, record_is}
 use Rattle.packed.proofs.bodies.unpack_body.Goals as goal
-use Rattle.packed.proofs.bodies.unpack_body.Goals.{After-place-1}
+use Rattle.packed.proofs.bodies.unpack_body.Goals.{After-unpack_writes}
 
 pub stored_key-key-requires : goal.stored_key-key-requires
 stored_key-key-requires c = is_there (key_is c.requires.0 c.requires.1 c.args.bytes.now c.requires.3)
@@ -18,26 +18,26 @@ stored_value-value-requires c =
     let tag = after_tag c.requires.0 c.requires.1 c.stored_key-key.result.1.now c.stored_tag-tag.result.0 c.stored_tag-tag.result.1.now key.1 c.stored_tag-tag.ensures in
     value_there c.requires.0 c.requires.1 c.stored_tag-tag.result.1.now tag.1
 
-pub stored_writes-place-inside-requires : goal.stored_writes-place-inside-requires
-stored_writes-place-inside-requires c =
+pub unpack_writes-requires : goal.unpack_writes-requires
+unpack_writes-requires c =
     let key = after_key c.requires.0 c.requires.1 c.args.bytes.now c.stored_key-key.result.0 c.stored_key-key.result.1.now c.requires.3 c.stored_key-key.ensures in
     let tag = after_tag c.requires.0 c.requires.1 c.stored_key-key.result.1.now c.stored_tag-tag.result.0 c.stored_tag-tag.result.1.now key.1 c.stored_tag-tag.ensures in
     let value = after_value c.requires.0 c.requires.1 c.stored_tag-tag.result.1.now c.stored_value-value.result.0 c.stored_value-value.result.1.now tag.1 c.stored_value-value.ensures in
     writes_there c.requires.0 c.requires.1 c.stored_value-value.result.1.now value.1
 
 -- the parts that were read are those of the record
-parts : (c : After-place-1) → ◌≡◌ {A = Record} (record {
+parts : (c : After-unpack_writes) → ◌≡◌ {A = Record} (record {
   key = c.stored_key-key.result.0;
   tag = c.stored_tag-tag.result.0;
   value = c.stored_value-value.result.0;
   stamp = c.args.stamp;
-  writes = c.stored_writes-place-inside.result;
+  writes = c.unpack_writes.new.place;
 }) c.requires.0
 parts c =
     let key = after_key c.requires.0 c.requires.1 c.args.bytes.now c.stored_key-key.result.0 c.stored_key-key.result.1.now c.requires.3 c.stored_key-key.ensures in
     let tag = after_tag c.requires.0 c.requires.1 c.stored_key-key.result.1.now c.stored_tag-tag.result.0 c.stored_tag-tag.result.1.now key.1 c.stored_tag-tag.ensures in
     let value = after_value c.requires.0 c.requires.1 c.stored_tag-tag.result.1.now c.stored_value-value.result.0 c.stored_value-value.result.1.now tag.1 c.stored_value-value.ensures in
-    let writes = after_writes c.requires.0 c.requires.1 c.stored_value-value.result.1.now c.stored_writes-place-inside.result c.stored_writes-place-inside.ensures.0 value.1 c.stored_writes-place-inside.ensures.1 in
+    let writes = after_writes c.requires.0 c.requires.1 c.stored_value-value.result.1.now c.unpack_writes.new.place c.unpack_writes.ensures.0 value.1 c.unpack_writes.ensures.1 in
     λ i. record {
       key = key.0 i;
       tag = tag.0 i;
