@@ -5,6 +5,7 @@ use Rattle.stamps.specs.Key.{home_of}
 use Rattle.plain_store.specs.Words.{Key}
 use Rattle.put_all.specs.declared.write_progress.ItemProgress.{ItemProgress}
 use Rattle.put_all.specs.declared.write_progress.Marked.{Marked}
+use Rattle.put_all.specs.declared.write_progress.CommitMarked.{CommitMarked}
 
 -- an item of which nothing was answered
 abbrev pub place_for : ℕ → Key → ItemProgress
@@ -42,3 +43,9 @@ pub record MarksPrepared (key : Key) (old new : List ItemProgress) (marked : Mar
   pub places : new ≡ map (with_prepared key) old
   pub awaited : marked.was_awaited ≡ list_any (awaits_prepared key) old
   pub all : marked.are_prepared ≡ list_all (λ (place : ItemProgress). place.is_prepared) new
+
+-- each item knows that the COMMIT at the partition was answered; it is known whether one waited for that, and whether that of each was
+pub record MarksCommitted (partition : ℕ) (old new : List ItemProgress) (marked : CommitMarked) : Type 0 where
+  pub places : new ≡ map (with_committed partition) old
+  pub awaited : marked.was_awaited ≡ list_any (awaits_committed partition) old
+  pub all : marked.are_committed ≡ list_all (λ (place : ItemProgress). place.is_committed) new

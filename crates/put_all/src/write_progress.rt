@@ -3,7 +3,7 @@ ghost use Rattle.std.specs.Prelude.{◌≡◌, ◌<◌, ◌≤◌, [], length, m
 ghost use Rattle.std.specs.List.{list_any, list_all};
 ghost use Rattle.stamps.specs.Bounds.{IsParts};
 ghost use Rattle.stamps.specs.Limits.{max_keys};
-ghost use Rattle.put_all.specs.WriteProgress.{MarksPrepared, place_for, with_prepared, with_committed, awaits_prepared, awaits_committed, is_at};
+ghost use Rattle.put_all.specs.WriteProgress.{MarksPrepared, MarksCommitted, place_for, with_prepared, with_committed, awaits_prepared, awaits_committed, is_at};
 
 use lists::SmallList;
 use stamps::{Item, Key, limits};
@@ -44,11 +44,14 @@ impl ItemProgress {
         awaits
     }
 
-    /// Takes that the COMMIT at this partition was answered.
-    fn take_committed(&mut self, partition: u32)
-        ensures { self.new ≡ with_committed partition self.old }
+    /// Takes that the COMMIT at this partition was answered, and says whether that was awaited.
+    fn take_committed(&mut self, partition: u32) -> bool
+        ensures place { self.new ≡ with_committed partition self.old }
+        ensures awaited { result ≡ awaits_committed partition self.old }
     {
-        self.is_committed = self.is_committed || self.home == partition;
+        let awaits = self.awaits_committed(partition);
+        self.is_committed |= awaits;
+        awaits
     }
 
     /// Whether a Prepared of this key is the first.
@@ -74,6 +77,15 @@ pub(crate) struct Marked {
     pub(crate) was_awaited: bool,
     /// Each item is prepared now.
     pub(crate) are_prepared: bool,
+}
+
+/// What an answered COMMIT did to the items of a write.
+#[derive(Clone, Copy)]
+pub(crate) struct CommitMarked {
+    /// An item waited for it.
+    pub(crate) was_awaited: bool,
+    /// The COMMIT at the home of each item is answered now.
+    pub(crate) are_committed: bool,
 }
 
 /// The items of a write in the order given, up to `MAX_KEYS`.
@@ -145,15 +157,6 @@ impl WriteProgress {
             .any(|place| place.awaits_prepared(key))
     }
 
-    /// Whether an item homed on this partition waits for its COMMIT.
-    pub(crate) fn await_committed(&self, partition: u32) -> bool
-        ensures { result ≡ list_any (awaits_committed partition) self.now }
-    {
-        self.as_slice()
-            .iter()
-            .any(|place| place.awaits_committed(partition))
-    }
-
     /// Whether an item belongs to this partition.
     pub(crate) fn are_at(&self, partition: u32) -> bool
         ensures { result ≡ list_any (is_at partition) self.now }
@@ -167,12 +170,6 @@ impl WriteProgress {
         self.as_slice().iter().all(|place| place.is_prepared)
     }
 
-    pub(crate) fn are_committed(&self) -> bool
-        ensures { result ≡ list_all (λ place. place.is_committed) self.now }
-    {
-        self.as_slice().iter().all(|place| place.is_committed)
-    }
-
     /// Takes the Prepared of this key. Where no item of it waits for that, they stay as they were.
     pub(crate) fn mark_prepared(&mut self, key: &Key) -> Marked
         ensures { MarksPrepared key.now self.old self.new result }
@@ -180,11 +177,11 @@ impl WriteProgress {
         self.0.change(|places| take_prepared(places, key))
     }
 
-    /// Takes the answered COMMIT of this partition.
-    pub(crate) fn mark_committed(&mut self, partition: u32)
-        ensures { self.new ≡ map (with_committed partition) self.old }
+    /// Takes the answered COMMIT of this partition. Where no item waits for that, they stay as they were.
+    pub(crate) fn mark_committed(&mut self, partition: u32) -> CommitMarked
+        ensures { MarksCommitted partition self.old self.new result }
     {
-        self.0.change(|places| take_committed(places, partition));
+        self.0.change(|places| take_committed(places, partition))
     }
 }
 
@@ -204,11 +201,18 @@ fn take_prepared(places: &mut [ItemProgress], key: &Key) -> Marked
     marked
 }
 
-/// Has each place take that the COMMIT at the partition was answered.
-fn take_committed(places: &mut [ItemProgress], partition: u32)
-    ensures { places.new ≡ map (with_committed partition) places.old }
+/// Has each place take that the COMMIT at the partition was answered. It looks through them once.
+fn take_committed(places: &mut [ItemProgress], partition: u32) -> CommitMarked
+    ensures { MarksCommitted partition places.old places.new result }
 {
+    let mut marked = CommitMarked {
+        was_awaited: false,
+        are_committed: true,
+    };
     for place in places.iter_mut() {
-        place.take_committed(partition);
+        let awaits = place.take_committed(partition);
+        marked.was_awaited |= awaits;
+        marked.are_committed &= place.is_committed;
     }
+    marked
 }
