@@ -94,6 +94,10 @@ newest_rule = record (new_rule (codes "newest")) { long = Some (codes "newest");
 abbrev pub unrecorded_rule : Rule
 unrecorded_rule = record (new_rule (codes "unrecorded")) { long = Some (codes "unrecorded"); action = Some SetTrue }
 
+-- and one, which says that it reports of how much its verdicts are
+abbrev pub counts_rule : Rule
+counts_rule = record (new_rule (codes "counts")) { long = Some (codes "counts"); action = Some SetTrue }
+
 abbrev pub queue_rule : Rule
 queue_rule = number_rule (codes "queue") (codes "64") (pos 1024)
 
@@ -149,11 +153,11 @@ abbrev pub sim_command : App
 sim_command = with_rules (new_app (codes "sim")) (store_rules ++ tenants_rule ∷ [])
 
 -- `serve [--parts N] [--slots N] [--items N] [--clients N] [--keep N] [--port N] [--sessions N] [--stay] [--strict]
--- [--newest] [--unrecorded] [--queue N] [--every N] [--epoch N] [--status N] TENANT..`
+-- [--newest] [--unrecorded] [--counts] [--queue N] [--every N] [--epoch N] [--status N] TENANT..`
 abbrev pub serve_command : App
 serve_command = with_rules (new_app (codes "serve"))
     (store_rules ++ port_rule ∷ sessions_rule ∷ stay_rule ∷ strict_rule ∷ newest_rule ∷ unrecorded_rule
-    ∷ pace_rules ++ status_rule ∷ tenants_rule ∷ [])
+    ∷ counts_rule ∷ pace_rules ++ status_rule ∷ tenants_rule ∷ [])
 
 -- `load [--parts N] [--slots N] [--items N] [--clients N] [--keep N] [--seats N] [--rounds N] [--seed N] [--keys N]
 -- [--queue N] [--every N] [--epoch N] TENANT..`
@@ -224,6 +228,7 @@ pub record GivesOptions (rows : List Row) (options : ServerOptions) : Type 0 whe
   pub of_strict : IsOptionFlag (codes "strict") rows options.strict
   pub of_newest : IsOptionFlag (codes "newest") rows options.newest
   pub of_unrecorded : IsOptionFlag (codes "unrecorded") rows options.unrecorded
+  pub of_counts : IsOptionFlag (codes "counts") rows options.counts
   pub of_queue : IsOptionNumber (codes "queue") rows options.queue
   pub of_every : IsOptionNumber (codes "every") rows options.every
   pub of_epoch : IsOptionNumber (codes "epoch") rows options.epoch

@@ -2,11 +2,11 @@
 ghost use Rattle.std.specs.Prelude.{◌≡◌, IfOk, false, pos};
 ghost use Rattle.clap.specs.Words.{app_of};
 ghost use Rattle.clap.specs.declared.builder.command.Command.TheViews.{out-Command as fields_of};
-ghost use Rattle.command_line.specs.Words.{IsOwnOption, Knows, cell_command, load_command, mix_rules, newest_rule, pace_rules, port_rule, program, ranged_rule, rules_of, serve_command, sim_command, stay_rule, store_rules, strict_rule, tenants_rule, unrecorded_rule, with_rules};
+ghost use Rattle.command_line.specs.Words.{IsOwnOption, Knows, cell_command, counts_rule, load_command, mix_rules, newest_rule, pace_rules, port_rule, program, ranged_rule, rules_of, serve_command, sim_command, stay_rule, store_rules, strict_rule, tenants_rule, unrecorded_rule, with_rules};
 
 use crate::options::{
-    CLIENTS, EPOCH, EVERY, ITEMS, KEEP, KEYS, NEWEST, NumberOption, PARTS, PORT, QUEUE, ROUNDS,
-    SEATS, SEED, SESSIONS, SLOTS, STATUS, STAY, STRICT, UNRECORDED,
+    CLIENTS, COUNTS, EPOCH, EVERY, ITEMS, KEEP, KEYS, NEWEST, NumberOption, PARTS, PORT, QUEUE,
+    ROUNDS, SEATS, SEED, SESSIONS, SLOTS, STATUS, STAY, STRICT, UNRECORDED,
 };
 use clap::builder::ValueParser;
 use clap::{Arg, ArgAction, Command};
@@ -85,6 +85,9 @@ With --epoch it is instead:
   checked TENANT no                 one was not, and the status is 1
 With --unrecorded it is what was answered, and no verdict:
   served TENANT puts N gets N finds N refusals N restarts N
+With --counts a line of how much was judged follows for each tenant:
+  judged TENANT calls N operations N    calls at partitions, collections too; puts, gets and finds
+  judged TENANT calls N                 with --epoch
 
 With --status N, GET http://127.0.0.1:N/metrics has numbers for each tenant and partition, in the text format
 of Prometheus. GET http://127.0.0.1:N/health answers 200, or 503 where an epoch was not right or not checked,
@@ -156,7 +159,8 @@ fn serve_command<'a>(alloc: Global) -> Result<Command<'a>, AllocError>
         .arg(stay(alloc))?
         .arg(strict(alloc))?
         .arg(newest(alloc))?
-        .arg(unrecorded(alloc))?;
+        .arg(unrecorded(alloc))?
+        .arg(counts(alloc))?;
     with_pace(alloc, serve)?
         .arg(number(alloc, &STATUS))?
         .arg(tenants(alloc))
@@ -291,6 +295,16 @@ fn unrecorded<'a>(alloc: Global) -> Arg<'a>
         .long(UNRECORDED)
         .action(ArgAction::SetTrue)
         .help("Record nothing and tell no verdict; excludes an --epoch above 0")
+}
+
+// Whether it reports of how much its verdicts are.
+fn counts<'a>(alloc: Global) -> Arg<'a>
+    ensures { IsOwnOption result counts_rule }
+{
+    Arg::new(alloc, COUNTS)
+        .long(COUNTS)
+        .action(ArgAction::SetTrue)
+        .help("After the verdicts, print how much was judged; with --unrecorded nothing more")
 }
 
 // The names of the tenants.

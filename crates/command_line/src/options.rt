@@ -99,6 +99,9 @@ pub(crate) const NEWEST: &str = "newest";
 /// The option of a server that records nothing.
 pub(crate) const UNRECORDED: &str = "unrecorded";
 
+/// The option of a server that reports of how much its verdicts are.
+pub(crate) const COUNTS: &str = "counts";
+
 /// How many calls may wait at a partition for the cut of a full journal. Without epochs no journal is full.
 pub(crate) const QUEUE: NumberOption = NumberOption {
     name: "queue",
@@ -309,6 +312,7 @@ fn read_server(serve: &ArgMatches<'_>) -> Option<ServerOptions>
     let strict = read_flag(serve, STRICT)?;
     let newest = read_flag(serve, NEWEST)?;
     let unrecorded = read_flag(serve, UNRECORDED)?;
+    let counts = read_flag(serve, COUNTS)?;
     let queue = read_within(serve, &QUEUE)?;
     let every = read_within(serve, &EVERY)?;
     let epoch = read_within(serve, &EPOCH)?;
@@ -323,6 +327,7 @@ fn read_server(serve: &ArgMatches<'_>) -> Option<ServerOptions>
         strict,
         newest,
         unrecorded,
+        counts,
         queue,
         every,
         epoch,

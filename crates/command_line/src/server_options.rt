@@ -16,6 +16,8 @@ pub struct ServerOptions {
     pub newest: bool,
     /// Whether it records nothing: its journals are cut and dropped, and it has no verdict.
     pub unrecorded: bool,
+    /// Whether it reports of how much its verdicts are. Without a verdict this changes nothing.
+    pub counts: bool,
     /// How many calls may wait at a partition, 1 to 1024.
     pub queue: u32,
     /// After how many calls a partition is collected, 1 to 65536.

@@ -20,6 +20,9 @@ returns-in_err-newest-clause-none c = rw c.from_residual-in_err-newest.ensures (
 pub returns-in_err-unrecorded-clause-none : goal.returns-in_err-unrecorded-clause-none
 returns-in_err-unrecorded-clause-none c = rw c.from_residual-in_err-unrecorded.ensures (λ options given. c.in_err-unrecorded.ensures.none options.unrecorded given.of_unrecorded)
 
+pub returns-in_err-counts-clause-none : goal.returns-in_err-counts-clause-none
+returns-in_err-counts-clause-none c = rw c.from_residual-in_err-counts.ensures (λ options given. c.in_err-counts.ensures.none options.counts given.of_counts)
+
 pub returns-in_err-queue-clause-none : goal.returns-in_err-queue-clause-none
 returns-in_err-queue-clause-none c = rw c.from_residual-in_err-queue.ensures (λ options given. c.in_err-queue.ensures.none options.queue
     (record { from = options.some_room; up_to = options.little_room; of_option = given.of_queue }))
