@@ -1,3 +1,4 @@
 pub mod Outcomes
 pub mod Listening
-pub mod Served
+pub mod Counts
+pub mod ToldLines

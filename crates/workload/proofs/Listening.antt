@@ -1,7 +1,8 @@
 -- What a server told of itself: for `tell_port`, `serve_and_settle`, `serve_and_check` and `serve_unrecorded`.
-use Rattle.std.proofs.Common.{◌≡◌, ℕ, ◌<◌, ◌^◌, ◌⊎◌, Bool, true, false, List, [], length, take, Option, Some, None, Result, Ok, Err, refl, sym, subst, inl, inr, arith, ◌∙◌}
-use Rattle.std.specs.Prelude.{codes, if◌then◌else◌, nat_lt}
+use Rattle.std.proofs.Common.{◌≡◌, ℕ, ◌<◌, ◌^◌, ◌⊎◌, ◌&&◌, Bool, true, false, List, [], ◌++◌, length, slice_get, take, Option, Some, None, Result, Ok, Err, refl, sym, ap, subst, inl, inr, arith, ◌∙◌}
+use Rattle.std.specs.Prelude.{IsTrue, codes, if◌then◌else◌, nat_eq, nat_lt}
 use Rattle.std.specs.Io.KnownBytes.{Appends}
+use Rattle.std.proofs.lemmas.Bool.{eq-eqb, ne_eqb}
 use Rattle.std.proofs.KnownBytes.{Appends-nil, Appends-trans, Keeps-refl}
 use Rattle.std.proofs.Math.Seq.{take-length}
 use Rattle.line_runs.specs.declared.fault.ProgramFault.{ProgramFault}
@@ -9,13 +10,17 @@ use Rattle.line_runs.specs.declared.fault.ProgramFault.TheVariants.{LineTooLong,
 use Rattle.hub.specs.Hubs.{ConfigView}
 use Rattle.closed_store.specs.declared.closed.Closed.{Closed}
 use Rattle.line_runs.specs.Statuses.{status_of}
-use Rattle.workload.specs.Serving.{EndsAfter, HasChecked, HasListened, HasServed, IsFaultBefore, TellsPortFirst, TellsPortFor, greater_fault, listening_line}
+use Rattle.workload.specs.Amounts.{AreAmounts, IsAmountOf, TellsAmounts, judged_line}
+use Rattle.workload.specs.declared.judged_lines.Amount.{Amount}
+use Rattle.workload.specs.Serving.{ComesBehind, EndsAfter, HasChecked, HasListened, HasServed, IsFaultBefore, TellsPortFirst, TellsPortFor, greater_fault, is_told, listening_line}
+use Rattle.workload.specs.TenantLines.{TellsLines}
+use Rattle.workload.proofs.ToldLines.{same_lines}
 use Rattle.load.specs.Stores.{IsClosed}
-use Rattle.workload.specs.Unrecorded.{TellsAllServed, TellsServed, served_line}
+use Rattle.workload.specs.Unrecorded.{IsServedOf, TellsServed, served_line}
 use Rattle.server_sessions.specs.declared.listener.Listener.{Listener}
 use Rattle.server_sessions.specs.Ports.{IsPortFor, port_of}
 use Rattle.server_verdicts.specs.Judged.{IsCheckedAs}
-use Rattle.server_verdicts.specs.Verdicts.{TellsAll, TellsEach, TellsVerdicts, lines_text, verdict_line}
+use Rattle.server_verdicts.specs.Verdicts.{TellsEach, TellsVerdicts, lines_text, verdict_line}
 
 -- a beginning of the line was written
 pub line_begun : (old new : Option (List ℕ)) (line : List ℕ) (port n : ℕ) → line ≡ listening_line port → port < 2 ^ 16 → Appends old new (take n line)
@@ -33,79 +38,116 @@ not_both bad = absurd cc
 both_not : {A : Type 0} → ◌≡◌ {A = Bool} false true → A
 both_not bad = absurd cc
 
--- a server told its port, closed its store, and told the verdicts
-pub closed_on : (view : ConfigView) (names : List (List ℕ)) (old between new : Option (List ℕ)) (closed : Closed) (told ended : Result (Unit {0}) ProgramFault)
-    → HasListened old between (Ok tt) → IsClosed view closed → (view.epoch ≡ 0 → TellsVerdicts closed names between new told)
-    → (0 < view.epoch → HasChecked view closed names between new told) → EndsAfter told ended → HasServed false view names old new ended
-closed_on view names old between new closed told (Ok done) listened opened verdicts checks ends = record {
+-- a server told its port, closed its store, and told the verdicts, and of how much they are where that is asked for
+pub closed_on : (counts : Bool) (view : ConfigView) (names : List (List ℕ)) (old between behind new : Option (List ℕ)) (closed : Closed) (told came ended : Result (Unit {0}) ProgramFault)
+    → HasListened old between (Ok tt) → IsClosed view closed → (view.epoch ≡ 0 → TellsVerdicts closed names between behind told)
+    → (0 < view.epoch → HasChecked view closed names between behind told) → ComesBehind (is_told told && counts) (TellsAmounts (nat_eq view.epoch 0) closed names) behind new told came
+    → EndsAfter came ended → HasServed false counts view names old new ended
+closed_on counts view names old between behind new closed told came (Ok done) listened opened verdicts checks amounts ends = record {
   between = between;
   listened = listened;
   closed = closed;
   opened = opened;
+  behind = behind;
   told = told;
   verdicts = λ recorded. verdicts;
   checks = λ recorded. checks;
   served = λ unrecorded. both_not unrecorded;
+  came = came;
+  amounts = amounts;
   ends = ends;
 }
-closed_on view names old between new closed told (Err fault) listened opened verdicts checks ends = inr (record {
+closed_on counts view names old between behind new closed told came (Err fault) listened opened verdicts checks amounts ends = inr (record {
   between = between;
   listened = listened;
   closed = closed;
   opened = opened;
+  behind = behind;
   told = told;
   verdicts = λ recorded. verdicts;
   checks = λ recorded. checks;
   served = λ unrecorded. both_not unrecorded;
+  came = came;
+  amounts = amounts;
   ends = ends;
 })
 
 -- a server that records nothing told its port, closed its store, and told what it had answered
-pub closed_unrecorded : (view : ConfigView) (names : List (List ℕ)) (old between new : Option (List ℕ)) (closed : Closed) (told ended : Result (Unit {0}) ProgramFault)
-    → HasListened old between (Ok tt) → IsClosed view closed → TellsServed (length view.limits) names between new told → EndsAfter told ended → HasServed true view names old new ended
-closed_unrecorded view names old between new closed told (Ok done) listened opened served ends = record {
+pub closed_unrecorded : (counts : Bool) (view : ConfigView) (names : List (List ℕ)) (old between new : Option (List ℕ)) (closed : Closed) (told ended : Result (Unit {0}) ProgramFault)
+    → HasListened old between (Ok tt) → IsClosed view closed → TellsServed (length view.limits) names between new told → EndsAfter told ended → HasServed true counts view names old new ended
+closed_unrecorded counts view names old between new closed told (Ok done) listened opened served ends = record {
   between = between;
   listened = listened;
   closed = closed;
   opened = opened;
+  behind = new;
   told = told;
   verdicts = λ recorded. not_both recorded;
   checks = λ recorded. not_both recorded;
   served = λ unrecorded. served;
+  came = told;
+  amounts = (refl, refl);
   ends = ends;
 }
-closed_unrecorded view names old between new closed told (Err fault) listened opened served ends = inr (record {
+closed_unrecorded counts view names old between new closed told (Err fault) listened opened served ends = inr (record {
   between = between;
   listened = listened;
   closed = closed;
   opened = opened;
+  behind = new;
   told = told;
   verdicts = λ recorded. not_both recorded;
   checks = λ recorded. not_both recorded;
   served = λ unrecorded. served;
+  came = told;
+  amounts = (refl, refl);
   ends = ends;
 })
 
--- a server one of whose transcripts found no memory told its port and no verdict
-pub no_transcript : (view : ConfigView) (names : List (List ℕ)) (old new : Option (List ℕ)) (closed : Closed)
-    → HasListened old new (Ok tt) → IsClosed view closed → view.epoch ≡ 0 → HasServed false view names old new (Err OutOfMemory)
-no_transcript view names old new closed listened opened kept =
-    closed_on view names old new new closed (Err OutOfMemory) (Err OutOfMemory) listened opened
+-- a server that found no memory for a transcript, or for how much there was to judge, told its port and no verdict
+pub no_transcript : (counts : Bool) (view : ConfigView) (names : List (List ℕ)) (old new : Option (List ℕ)) (closed : Closed)
+    → HasListened old new (Ok tt) → IsClosed view closed → view.epoch ≡ 0 → HasServed false counts view names old new (Err OutOfMemory)
+no_transcript counts view names old new closed listened opened kept =
+    closed_on counts view names old new new new closed (Err OutOfMemory) (Err OutOfMemory) (Err OutOfMemory) listened opened
     (λ again. record { verdicts = []; few = omega arith; each = λ tenant verdict at. absurd (let bad : None ≡ Some verdict = at in cc); size = 0; written = Appends-nil new })
-    (λ cut. absurd (omega (arith, kept, cut))) (Ok tt, tt, refl)
+    (λ cut. absurd (omega (arith, kept, cut))) (refl, refl) (Ok tt, tt, refl)
 
 -- a server that could not open its store told nothing
-pub nothing_told : (unrecorded : Bool) (view : ConfigView) (names : List (List ℕ)) (writer : Option (List ℕ)) (fault : ProgramFault) → (fault ≡ OutOfMemory) ⊎ (fault ≡ Device)
-    → HasServed unrecorded view names writer writer (Err fault)
-nothing_told unrecorded view names writer fault (inl same) = subst (λ (f : ProgramFault). HasServed unrecorded view names writer writer (Err f)) (sym same) (inl (Keeps-refl writer))
-nothing_told unrecorded view names writer fault (inr same) =
-    subst (λ (f : ProgramFault). HasServed unrecorded view names writer writer (Err f)) (sym same) (inl (0, omega arith, (0, Appends-nil writer)))
+pub nothing_told : (unrecorded counts : Bool) (view : ConfigView) (names : List (List ℕ)) (writer : Option (List ℕ)) (fault : ProgramFault) → (fault ≡ OutOfMemory) ⊎ (fault ≡ Device)
+    → HasServed unrecorded counts view names writer writer (Err fault)
+nothing_told unrecorded counts view names writer fault (inl same) = subst (λ (f : ProgramFault). HasServed unrecorded counts view names writer writer (Err f)) (sym same) (inl (Keeps-refl writer))
+nothing_told unrecorded counts view names writer fault (inr same) =
+    subst (λ (f : ProgramFault). HasServed unrecorded counts view names writer writer (Err f)) (sym same) (inl (0, omega arith, (0, Appends-nil writer)))
 
 -- a server whose epochs were checked told its port and nothing else, since an allocation failed
-pub no_room_to_check : (view : ConfigView) (names : List (List ℕ)) (old new : Option (List ℕ)) (closed : Closed)
-    → HasListened old new (Ok tt) → IsClosed view closed → 0 < view.epoch → HasServed false view names old new (Err OutOfMemory)
-no_room_to_check view names old new closed listened opened cut =
-    closed_on view names old new new closed (Err OutOfMemory) (Err OutOfMemory) listened opened (λ kept. absurd (omega (arith, kept, cut))) (λ more. inl (refl, Keeps-refl new)) (Ok tt, tt, refl)
+pub no_room_to_check : (counts : Bool) (view : ConfigView) (names : List (List ℕ)) (old new : Option (List ℕ)) (closed : Closed)
+    → HasListened old new (Ok tt) → IsClosed view closed → 0 < view.epoch → HasServed false counts view names old new (Err OutOfMemory)
+no_room_to_check counts view names old new closed listened opened cut =
+    closed_on counts view names old new new new closed (Err OutOfMemory) (Err OutOfMemory) (Err OutOfMemory) listened opened (λ kept. absurd (omega (arith, kept, cut))) (λ more. inl (refl, Keeps-refl new)) (refl, refl) (Ok tt, tt, refl)
+
+-- ---- of how much the verdicts are
+
+-- whether journals are cut
+pub is_uncut : (epoch : ℕ) → epoch ≡ 0 → nat_eq epoch 0 ≡ true
+is_uncut epoch is = eq-eqb epoch 0 is
+
+pub is_cut : (epoch : ℕ) → 0 < epoch → nat_eq epoch 0 ≡ false
+is_cut epoch more = ne_eqb epoch 0 (λ same. absurd (omega (arith, more, same)))
+
+-- what is behind the verdicts is of what was closed
+pub amounts_behind : (told_all counts with_operations of_uncut : Bool) (closed : Closed) (amounts : List Amount) (names : List (List ℕ)) (behind new : Option (List ℕ)) (told came : Result (Unit {0}) ProgramFault)
+    → of_uncut ≡ with_operations → (IsTrue counts → AreAmounts closed amounts)
+    → ComesBehind (told_all && counts) (TellsLines (judged_line with_operations) (λ tenant amount. slice_get amounts tenant ≡ Some amount) (length amounts) names) behind new told came
+    → ComesBehind (told_all && counts) (TellsAmounts of_uncut closed names) behind new told came
+amounts_behind true true with_operations of_uncut closed amounts names behind new told came same are (counted, lines, is) =
+    let its : AreAmounts closed amounts = are refl in (
+      counted,
+      subst (λ b. TellsAmounts b closed names behind new counted) (sym same)
+          (same_lines (judged_line with_operations) (λ tenant amount. slice_get amounts tenant ≡ Some amount) (IsAmountOf closed) _ _ names behind new counted its.count its.each lines),
+      is,
+    )
+amounts_behind true false with_operations of_uncut closed amounts names behind new told came same are nothing = nothing
+amounts_behind false counts with_operations of_uncut closed amounts names behind new told came same are nothing = nothing
 
 -- ---- the port comes first
 
@@ -141,50 +183,69 @@ told_wrong (Err Device) (Err Options) may is = is
 told_wrong (Err Device) (Err OutOfMemory) may is = is
 told_wrong (Err Device) (Err Device) may is = is
 
--- the verdicts were reported behind the line of the port
-pub port_then : (IsVerdict : ℕ → Bool → Type 0) (word : List ℕ) (tenants : ℕ) (names : List (List ℕ)) (port : ℕ) (old between new : Option (List ℕ)) (told ended : Result (Unit {0}) ProgramFault)
-    → Appends old between (listening_line port) → TellsEach IsVerdict word tenants names between new told → EndsAfter told ended → TellsPortFirst port old new ended
-port_then IsVerdict word tenants names port old between new told (Ok done) first h (before, may, is) =
-    let all : TellsAll IsVerdict word tenants names true between new = subst (TellsEach IsVerdict word tenants names between new) (told_well before told (sym is)) h in
-    (lines_text (verdict_line word) all.verdicts names, Appends-trans old between new (listening_line port) _ first all.written)
-port_then IsVerdict word tenants names port old between new told (Err Settle) first h (before, may, is) =
-    let all : TellsAll IsVerdict word tenants names false between new = subst (TellsEach IsVerdict word tenants names between new) (told_wrong before told may (sym is)) h in
-    (lines_text (verdict_line word) all.verdicts names, Appends-trans old between new (listening_line port) _ first all.written)
-port_then IsVerdict word tenants names port old between new told (Err LineTooLong) first h ends = tt
-port_then IsVerdict word tenants names port old between new told (Err Cut) first h ends = tt
-port_then IsVerdict word tenants names port old between new told (Err Options) first h ends = tt
-port_then IsVerdict word tenants names port old between new told (Err OutOfMemory) first h ends = tt
-port_then IsVerdict word tenants names port old between new told (Err Device) first h ends = tt
+-- where all was told, some text was written
+abbrev pub HasText : Option (List ℕ) → Option (List ℕ) → Result (Unit {0}) ProgramFault → Type 0
+HasText old new told = is_told told ≡ true → (text : List ℕ) × Appends old new text
 
--- nothing was reported behind the line of the port, since an allocation failed
-port_alone : (port : ℕ) (old new : Option (List ℕ)) (told ended : Result (Unit {0}) ProgramFault) → told ≡ Err OutOfMemory → EndsAfter told ended → TellsPortFirst port old new ended
-port_alone port old new told (Ok done) none (before, may, is) = absurd (let bad : Err OutOfMemory ≡ Ok tt = sym none ∙ told_well before told (sym is) in cc)
-port_alone port old new told (Err Settle) none (before, may, is) = absurd (let bad : Err OutOfMemory ≡ Err Settle = sym none ∙ told_wrong before told may (sym is) in cc)
-port_alone port old new told (Err LineTooLong) none ends = tt
-port_alone port old new told (Err Cut) none ends = tt
-port_alone port old new told (Err Options) none ends = tt
-port_alone port old new told (Err OutOfMemory) none ends = tt
-port_alone port old new told (Err Device) none ends = tt
+pub verdicts_text : (IsVerdict : ℕ → Bool → Type 0) (word : List ℕ) (tenants : ℕ) (names : List (List ℕ)) (old new : Option (List ℕ)) (told : Result (Unit {0}) ProgramFault)
+    → TellsEach IsVerdict word tenants names old new told → HasText old new told
+verdicts_text IsVerdict word tenants names old new (Ok done) all is = (lines_text (verdict_line word) all.verdicts names, all.written)
+verdicts_text IsVerdict word tenants names old new (Err Settle) all is = (lines_text (verdict_line word) all.verdicts names, all.written)
+verdicts_text IsVerdict word tenants names old new (Err LineTooLong) all is = both_not is
+verdicts_text IsVerdict word tenants names old new (Err Cut) all is = both_not is
+verdicts_text IsVerdict word tenants names old new (Err Options) all is = both_not is
+verdicts_text IsVerdict word tenants names old new (Err OutOfMemory) all is = both_not is
+verdicts_text IsVerdict word tenants names old new (Err Device) all is = both_not is
 
 -- the same of epochs that were checked
-pub port_then_checked : (view : ConfigView) (closed : Closed) (names : List (List ℕ)) (port : ℕ) (old between new : Option (List ℕ)) (told ended : Result (Unit {0}) ProgramFault)
-    → Appends old between (listening_line port) → HasChecked view closed names between new told → EndsAfter told ended → TellsPortFirst port old new ended
-port_then_checked view closed names port old between new told ended first (inl (none, keeps)) ends = port_alone port old new told ended none ends
-port_then_checked view closed names port old between new told ended first (inr (endings, limits, parts, left, checks)) ends =
-    port_then (IsCheckedAs endings) (codes "checked ") (length endings.limits.items) names port old between new told ended first checks ends
+pub checks_text : (view : ConfigView) (closed : Closed) (names : List (List ℕ)) (old new : Option (List ℕ)) (told : Result (Unit {0}) ProgramFault) → HasChecked view closed names old new told → HasText old new told
+checks_text view closed names old new told (inl (none, keeps)) = λ is. both_not (ap is_told (sym none) ∙ is)
+checks_text view closed names old new told (inr (endings, limits, parts, left, checks)) =
+    verdicts_text (IsCheckedAs endings) (codes "checked ") (length endings.limits.items) names old new told checks
 
--- the same of what was answered
-pub port_then_served : (tenants : ℕ) (names : List (List ℕ)) (port : ℕ) (old between new : Option (List ℕ)) (told ended : Result (Unit {0}) ProgramFault)
-    → Appends old between (listening_line port) → TellsServed tenants names between new told → EndsAfter told ended → TellsPortFirst port old new ended
-port_then_served tenants names port old between new told (Ok done) first h (before, may, is) =
-    let all : TellsAllServed tenants names between new = subst (TellsServed tenants names between new) (told_well before told (sym is)) h in
-    (lines_text served_line all.all names, Appends-trans old between new (listening_line port) _ first all.written)
-port_then_served tenants names port old between new told (Err Settle) first h (before, may, is) = absurd (subst (TellsServed tenants names between new) (told_wrong before told may (sym is)) h)
-port_then_served tenants names port old between new told (Err LineTooLong) first h ends = tt
-port_then_served tenants names port old between new told (Err Cut) first h ends = tt
-port_then_served tenants names port old between new told (Err Options) first h ends = tt
-port_then_served tenants names port old between new told (Err OutOfMemory) first h ends = tt
-port_then_served tenants names port old between new told (Err Device) first h ends = tt
+-- lines of tenants are some text, however they end
+lines_are_text : {X : Type 0} (line : List ℕ → X → List ℕ) (IsOf : ℕ → X → Type 0) (tenants : ℕ) (names : List (List ℕ)) (old new : Option (List ℕ)) (told : Result (Unit {0}) ProgramFault)
+    → TellsLines line IsOf tenants names old new told → (text : List ℕ) × Appends old new text
+lines_are_text line IsOf tenants names old new (Ok done) lines = (lines_text line lines.all names, lines.written)
+lines_are_text line IsOf tenants names old new (Err Settle) lines = absurd lines
+lines_are_text line IsOf tenants names old new (Err LineTooLong) lines = absurd lines
+lines_are_text line IsOf tenants names old new (Err Cut) lines = absurd lines
+lines_are_text line IsOf tenants names old new (Err Options) lines = absurd lines
+lines_are_text line IsOf tenants names old new (Err OutOfMemory) lines = (take lines.size (lines_text line lines.all names), lines.written)
+lines_are_text line IsOf tenants names old new (Err Device) lines = (take lines.size (lines_text line lines.all names), lines.written)
+
+pub served_text : (tenants : ℕ) (names : List (List ℕ)) (old new : Option (List ℕ)) (told : Result (Unit {0}) ProgramFault) → TellsServed tenants names old new told → HasText old new told
+served_text tenants names old new told served is = lines_are_text served_line IsServedOf tenants names old new told served
+
+-- where amounts are told, all verdicts were
+told_before : (told_all counts : Bool) → (told_all && counts) ≡ true → told_all ≡ true
+told_before true counts is = refl
+told_before false counts is = is
+
+-- the text of the verdicts, and what comes behind it
+pub text_behind : (due counts with_operations : Bool) (closed : Closed) (names : List (List ℕ)) (old behind new : Option (List ℕ)) (told came : Result (Unit {0}) ProgramFault) → due ≡ (is_told told && counts)
+    → HasText old behind told → ComesBehind due (TellsAmounts with_operations closed names) behind new told came → HasText old new came
+text_behind true counts with_operations closed names old behind new told came due first (counted, lines, is) all =
+    let one = first (told_before (is_told told) counts (sym due)) in
+    let more = lines_are_text (judged_line with_operations) (IsAmountOf closed) (length closed.config.limits.items) names behind new counted lines in
+    (one.0 ++ more.0, Appends-trans old behind new one.0 more.0 one.1 more.1)
+text_behind false counts with_operations closed names old behind new told came due first (kept, is) all =
+    subst (λ (writer : Option (List ℕ)). (text : List ℕ) × Appends old writer text) (sym kept) (first (ap is_told (sym is) ∙ all))
+
+-- the text was written behind the line of the port
+pub port_then : (port : ℕ) (old between new : Option (List ℕ)) (came ended : Result (Unit {0}) ProgramFault) → Appends old between (listening_line port) → HasText between new came → EndsAfter came ended
+    → TellsPortFirst port old new ended
+port_then port old between new came (Ok done) first has (before, may, is) =
+    let text = has (ap is_told (told_well before came (sym is))) in
+    (text.0, Appends-trans old between new (listening_line port) text.0 first text.1)
+port_then port old between new came (Err Settle) first has (before, may, is) =
+    let text = has (ap is_told (told_wrong before came may (sym is))) in
+    (text.0, Appends-trans old between new (listening_line port) text.0 first text.1)
+port_then port old between new came (Err LineTooLong) first has ends = tt
+port_then port old between new came (Err Cut) first has ends = tt
+port_then port old between new came (Err Options) first has ends = tt
+port_then port old between new came (Err OutOfMemory) first has ends = tt
+port_then port old between new came (Err Device) first has ends = tt
 
 -- where the port was not told, no verdict was
 pub no_port : (port : ℕ) (old between new : Option (List ℕ)) (fault : ProgramFault) → HasListened old between (Err fault) → TellsPortFirst port old new (Err fault)

@@ -1,6 +1,6 @@
 -- What a server reports about itself, and what one did that the words ask for.
 use Rattle.std.specs.Prelude.{◌≡◌, ◌⊎◌, ℕ, ◌<◌, ◌≤◌, ◌^◌, ◌++◌, length, List, Option, Result, Ok, Err, IfOk, IfErr, OnOk}
-use Rattle.std.specs.Prelude.{Bool, IsTrue, codes, decimal, false, true, if◌then◌else◌, map, nat_lt, not, take}
+use Rattle.std.specs.Prelude.{Bool, IsTrue, ◌&&◌, codes, decimal, false, true, if◌then◌else◌, map, nat_eq, nat_lt, not, take}
 use Rattle.std.specs.Io.KnownBytes.{Appends, Keeps}
 use Rattle.stamps.specs.Bounds.{IsParts}
 use Rattle.stamps.specs.declared.bounds.Limits.{Limits}
@@ -20,6 +20,7 @@ use Rattle.command_line.specs.Words.{AreTenants, AsksForServer}
 use Rattle.server_sessions.specs.Ports.{IsPortFor}
 use Rattle.server_sessions.specs.declared.session_options.SessionOptions.{SessionOptions}
 use Rattle.load.specs.Stores.{IsClosed}
+use Rattle.workload.specs.Amounts.{TellsAmounts}
 use Rattle.workload.specs.Unrecorded.{TellsServed}
 
 -- the line that reports at which port a server listens
@@ -90,20 +91,42 @@ abbrev pub EndsAfter : Result (Unit {0}) ProgramFault → Result (Unit {0}) Prog
 EndsAfter told ended =
     (before : Result (Unit {0}) ProgramFault) × IsFaultBefore before × (ended ≡ greater_fault before told)
 
+-- all verdicts were reported that came to this
+abbrev pub is_told : Result (Unit {0}) ProgramFault → Bool
+is_told (Ok done) = true
+is_told (Err Settle) = true
+is_told (Err LineTooLong) = false
+is_told (Err Cut) = false
+is_told (Err Options) = false
+is_told (Err OutOfMemory) = false
+is_told (Err Device) = false
+
+-- What stands behind lines that came to `told`, and what both came to: what is reported there, and the greater fault; or nothing.
+abbrev pub ComesBehind : Bool → (Option (List ℕ) → Option (List ℕ) → Result (Unit {0}) ProgramFault → Type 0)
+    → Option (List ℕ) → Option (List ℕ) → Result (Unit {0}) ProgramFault → Result (Unit {0}) ProgramFault → Type 0
+ComesBehind true Tells old new told came =
+    (counted : Result (Unit {0}) ProgramFault) × Tells old new counted × (came ≡ greater_fault told counted)
+ComesBehind false Tells old new told came = (new ≡ old) × (came ≡ told)
+
 -- What a server wrote that closed its store: the line of a port, and then the verdicts over what the close answered,
 -- or, where its journals were cut, those over what was left of them; or, where it records nothing, how many lines of each
--- tenant it answered. It told them also where an allocation failed to a connection or a device failed before.
-pub record HasClosed (unrecorded : Bool) (view : ConfigView) (names : List (List ℕ)) (old new : Option (List ℕ))
+-- tenant it answered. It told them also where an allocation failed to a connection or a device failed before. Where counts are
+-- asked for and all verdicts were reported, whether yes or no, it reported behind them of how much of what the close answered they are.
+pub record HasClosed (unrecorded counts : Bool) (view : ConfigView) (names : List (List ℕ)) (old new : Option (List ℕ))
     (ended : Result (Unit {0}) ProgramFault) : Type 0 where
   pub between : Option (List ℕ)
   pub listened : HasListened old between (Ok tt)
   pub closed : Closed
   pub opened : IsClosed view closed
+  pub behind : Option (List ℕ)
   pub told : Result (Unit {0}) ProgramFault
-  pub verdicts : unrecorded ≡ false → view.epoch ≡ 0 → TellsVerdicts closed names between new told
-  pub checks : unrecorded ≡ false → 0 < view.epoch → HasChecked view closed names between new told
-  pub served : IsTrue unrecorded → TellsServed (length view.limits) names between new told
-  pub ends : EndsAfter told ended
+  pub verdicts : unrecorded ≡ false → view.epoch ≡ 0 → TellsVerdicts closed names between behind told
+  pub checks : unrecorded ≡ false → 0 < view.epoch → HasChecked view closed names between behind told
+  pub served : IsTrue unrecorded → TellsServed (length view.limits) names between behind told
+  pub came : Result (Unit {0}) ProgramFault
+  pub amounts : ComesBehind (not unrecorded && is_told told && counts)
+      (TellsAmounts (nat_eq view.epoch 0) closed names) behind new told came
+  pub ends : EndsAfter came ended
 
 -- What a server of such a store wrote that ended so, whether it served so many connections or stayed until its input
 -- ended: its port and all verdicts, which are all yes where it ended well, and not all where it ended with Settle; one that
@@ -111,11 +134,11 @@ pub record HasClosed (unrecorded : Bool) (view : ConfigView) (names : List (List
 -- Where an allocation failed, it told its port at most, or its port and some verdicts: all, where it was refused to a
 -- connection alone. Where a device failed, it told a beginning of the line of its port, or its port and the verdicts:
 -- all, unless that device was the one that takes them. It ends in no other way.
-abbrev pub HasServed : Bool → ConfigView → List (List ℕ) → Option (List ℕ) → Option (List ℕ)
+abbrev pub HasServed : Bool → Bool → ConfigView → List (List ℕ) → Option (List ℕ) → Option (List ℕ)
     → Result (Unit {0}) ProgramFault → Type 0
-HasServed unrecorded view names old new (Ok done) = HasClosed unrecorded view names old new (Ok done)
-HasServed unrecorded view names old new (Err fault) =
-    HasListened old new (Err fault) ⊎ HasClosed unrecorded view names old new (Err fault)
+HasServed unrecorded counts view names old new (Ok done) = HasClosed unrecorded counts view names old new (Ok done)
+HasServed unrecorded counts view names old new (Err fault) =
+    HasListened old new (Err fault) ⊎ HasClosed unrecorded counts view names old new (Err fault)
 
 -- A store of so many partitions and a tenant of these limits for each name. As many calls may wait at a partition, and
 -- it is collected after so many. It keeps journals, and one is cut after so many events, or never.
@@ -138,15 +161,15 @@ abbrev pub RunsServer : List (List ℕ) → Option (List ℕ) → Option (List �
 RunsServer words old new ended =
     (parts : ℕ) × (limits : Limits) × (names : List (List ℕ)) × (options : ServerOptions)
     × AsksForServer words parts limits names options
-    × HasServed options.unrecorded
+    × HasServed options.unrecorded options.counts
     (server_view parts limits names options) names old new ended
     × TellsPortFor options.port old new ended
 
 -- the server wrote so, and told a port as is asked
-pub record ServesAndTells (unrecorded : Bool) (view : ConfigView) (names : List (List ℕ))
+pub record ServesAndTells (unrecorded counts : Bool) (view : ConfigView) (names : List (List ℕ))
     (TellsPort : Option (List ℕ) → Option (List ℕ) → Result (Unit {0}) ProgramFault → Type 0)
     (old new : Option (List ℕ)) (ended : Result (Unit {0}) ProgramFault) : Type 0 where
-  pub served : HasServed unrecorded view names old new ended
+  pub served : HasServed unrecorded counts view names old new ended
   pub port : TellsPort old new ended
 
 -- what was written of this port went so

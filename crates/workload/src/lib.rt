@@ -1,6 +1,7 @@
 //! The programs: a server, and whatever the words ask for.
 #![tactic(auto)]
 
+mod judged_lines;
 mod serve;
 mod served_lines;
 mod words;

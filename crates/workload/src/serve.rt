@@ -1,11 +1,14 @@
 //! A server: sessions over TCP, and the verdicts over the store that they left.
-ghost use Rattle.std.specs.Prelude.{◌≡◌, ◌<◌, ◌≤◌, ◌⊎◌, cond, false, not, true, Ok, Err, IfOk, IfErr, string_bytes};
+ghost use Rattle.std.specs.Prelude.{◌≡◌, ◌<◌, ◌≤◌, ◌⊎◌, ◌&&◌, cond, false, length, not, slice_get, true, Ok, Err, IfOk, IfErr, Some, string_bytes};
 ghost use Rattle.line_runs.specs.declared.fault.ProgramFault.TheVariants.{Device, OutOfMemory as NoMemory};
 ghost use Rattle.hub.specs.Hubs.{config_view, view_with};
 ghost use Rattle.load.specs.Stores.{DoneOrRefused};
-ghost use Rattle.workload.specs.Serving.{IsAskedFor, IsFaultBefore, ServesAndTells, TellsOfPort, TellsPortFirst, TellsPortFor, greater_fault, listening_line};
+ghost use Rattle.workload.specs.Amounts.{judged_line};
+ghost use Rattle.workload.specs.TenantLines.{TellsLines};
+ghost use Rattle.workload.specs.Serving.{ComesBehind, IsAskedFor, IsFaultBefore, ServesAndTells, TellsOfPort, TellsPortFirst, TellsPortFor, greater_fault, is_told, listening_line};
 ghost use Rattle.server_sessions.specs.Ports.{IsServerOf, listener_of, most_of, options_of, port_of, stays_of, tenants_of};
 
+use crate::judged_lines::{Amount, amounts_asked, tell_judged};
 use crate::served_lines::tell_served;
 use command_line::{ServerOptions, VERSION};
 use hub::{Config, HubFault, Named, Naming, NewStore};
@@ -48,6 +51,9 @@ struct Reporting<'s> {
 /// while the store goes on; the partition's worker waits where two are left to be checked. At the end the lines are those of
 /// `tell_checks`, over these epochs and what is left.
 ///
+/// Where the options ask for counts, it also writes behind these lines, be they yes or no, of how much of what the close answered they
+/// are, by the lines of `tell_judged`: how many calls, and without epochs how many operations. Their faults are those of the lines.
+///
 /// Where the options say that it records nothing, the store keeps no journals, and nothing is checked: the lines are then those of
 /// `tell_served`, how many lines of each tenant were answered.
 ///
@@ -79,7 +85,8 @@ pub fn run_server<
     reader: &mut R,
     writer: &mut W,
 ) -> Result<(), ProgramFault>
-    ensures { ServesAndTells options.unrecorded (view_with config (not options.unrecorded))
+    ensures { ServesAndTells options.unrecorded options.counts
+        (view_with config (not options.unrecorded))
         names.now (TellsPortFor options.port) (W.contents writer.old) (W.contents writer.new) result }
 {
     let Ok(listener) = Listener::bind(rt, options.port) else {
@@ -177,7 +184,7 @@ fn serve_and_settle<
     requires journals { store.journals ≡ true }
     requires kept { store.config.epoch ≡ 0 }
     requires name { store.history.seen.book ≡ J.book }
-    ensures { ServesAndTells false (config_view store.config) names.now
+    ensures { ServesAndTells false options.counts (config_view store.config) names.now
         (TellsPortFirst (port_of ports.listener))
         (W.contents writer.old) (W.contents writer.new) result }
 {
@@ -196,7 +203,17 @@ fn serve_and_settle<
     if left.has_lost {
         return Err(ProgramFault::OutOfMemory);
     }
-    let ended = tell_verdicts(alloc, &closed, names, writer);
+    let amounts = amounts_asked(alloc, &closed, options.counts)?;
+    let verdicts = tell_verdicts(alloc, &closed, names, writer);
+    let ended = tell_behind(
+        alloc,
+        verdicts,
+        &amounts,
+        options.counts,
+        true,
+        names,
+        writer,
+    );
     ended_after(before, ended)
 }
 
@@ -219,7 +236,7 @@ fn serve_and_check<
     requires journals { store.journals ≡ true }
     requires cut { 0 < store.config.epoch }
     requires name { store.history.seen.book ≡ J.book }
-    ensures { ServesAndTells false (config_view store.config) names.now
+    ensures { ServesAndTells false options.counts (config_view store.config) names.now
         (TellsPortFirst (port_of ports.listener))
         (W.contents writer.old) (W.contents writer.new) result }
 {
@@ -236,9 +253,19 @@ fn serve_and_check<
     let (closed, _seen) = close_store(rt, hub, left.kept);
     let known = checking.end(rt, alloc);
     told?;
+    let amounts = amounts_asked(alloc, &closed, options.counts)?;
     let limits = closed.config.limits;
     let endings = endings_of(alloc, limits, closed.journals, known)?;
-    let ended = tell_checks(alloc, &endings, names, writer);
+    let verdicts = tell_checks(alloc, &endings, names, writer);
+    let ended = tell_behind(
+        alloc,
+        verdicts,
+        &amounts,
+        options.counts,
+        false,
+        names,
+        writer,
+    );
     ended_after(before, ended)
 }
 
@@ -260,7 +287,7 @@ fn serve_unrecorded<
 ) -> Result<(), ProgramFault>
     requires journals { store.journals ≡ false }
     requires name { store.history.seen.book ≡ J.book }
-    ensures { ServesAndTells true (view_with store.config false) names.now
+    ensures { ServesAndTells true options.counts (view_with store.config false) names.now
         (TellsPortFirst (port_of ports.listener))
         (W.contents writer.old) (W.contents writer.new) result }
 {
@@ -299,6 +326,39 @@ fn fault_of<G: Naming>(
         return Err(ProgramFault::Device);
     }
     Ok(())
+}
+
+// Writes what `tell_judged` does behind verdicts that came to this, where that is asked for and all of their lines were written. Of two
+// faults it returns the greater.
+fn tell_behind<W: Write>(
+    alloc: Global,
+    verdicts: Result<(), ProgramFault>,
+    amounts: &[Amount],
+    asked: bool,
+    with_operations: bool,
+    names: &[Name],
+    writer: &mut W,
+) -> Result<(), ProgramFault>
+    ensures { ComesBehind (is_told verdicts && asked)
+        (TellsLines (judged_line with_operations)
+        (λ tenant amount. slice_get amounts.now tenant ≡ Some amount) (length amounts.now)
+        names.now) (W.contents writer.old) (W.contents writer.new) verdicts result }
+{
+    if !comes_behind(&verdicts, asked) {
+        return verdicts;
+    }
+    let counted = tell_judged(alloc, amounts, with_operations, names, writer);
+    ended_after(verdicts, counted)
+}
+
+// Whether more comes behind verdicts that came to this: where it is asked for, and all of their lines were written.
+fn comes_behind(verdicts: &Result<(), ProgramFault>, asked: bool) -> bool
+    ensures { result ≡ (is_told verdicts.now && asked) }
+{
+    match verdicts {
+        Ok(()) | Err(ProgramFault::Settle) => asked,
+        Err(_) => false,
+    }
 }
 
 // What a server comes to that had this fault, or none, before its last lines, which came to this: the greater fault is reported.

@@ -150,9 +150,9 @@ fn serve_store<
 ) -> Result<(), ProgramFault>
     requires { IsAskedStore store.now }
     ensures { let names = store.now.names.items in
-        ServesAndTells options.unrecorded (server_view store.now.parts store.now.limits names
-        options) names (TellsPortFor options.port)
-        (W.contents writer.old) (W.contents writer.new) result }
+        ServesAndTells options.unrecorded options.counts
+        (server_view store.now.parts store.now.limits names options) names
+        (TellsPortFor options.port) (W.contents writer.old) (W.contents writer.new) result }
 {
     let epoch = epoch_of(options);
     let config = config_of(alloc, store, options.queue, options.every, epoch)?;

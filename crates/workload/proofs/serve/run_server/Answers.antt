@@ -39,7 +39,7 @@ pub returns-in_err-status : goal.returns-in_err-status
 returns-in_err-status g c = record {
   served =
       let p = err_from_is_err_and c.from_residual.result c.from_residual.ensures.1 in
-      rw (p.1, p.2) (nothing_told c.args.options.unrecorded (view_with c.args.config (not c.args.options.unrecorded)) c.args.names.now (g.W.Write.contents c.args.writer.now) c.in_err-status.field-0.0 c.in_err-status.ensures);
+      rw (p.1, p.2) (nothing_told c.args.options.unrecorded c.args.options.counts (view_with c.args.config (not c.args.options.unrecorded)) c.args.names.now (g.W.Write.contents c.args.writer.now) c.in_err-status.field-0.0 c.in_err-status.ensures);
   port =
       let p = err_from_is_err_and c.from_residual.result c.from_residual.ensures.1 in
       rw (p.1, p.2) (no_port_for c.args.options.port (g.W.Write.contents c.args.writer.now) c.in_err-status.field-0.0 c.in_err-status.ensures);

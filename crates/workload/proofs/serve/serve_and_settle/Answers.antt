@@ -1,30 +1,53 @@
-use Rattle.std.proofs.Common.{◌∙◌, ap, arith, false, rules}
-use Rattle.std.specs.Prelude.{codes, length}
+use Rattle.std.proofs.Common.{◌∙◌, ◌&&◌, ap, arith, false, refl, rules, subst, sym, true}
+use Rattle.std.specs.Prelude.{codes, length, nat_eq}
 use Rattle.std.proofs.lemmas.Result.{err_from_is_err_and}
 use Rattle.hub.specs.Hubs.{config_view, view_with}
 use Rattle.server_sessions.specs.Ports.{port_of}
 use Rattle.server_verdicts.specs.Verdicts.{IsVerdictOf}
 use Rattle.load.proofs.Histories.{is_closed}
-use Rattle.workload.proofs.Listening.{closed_on, no_port, no_store, no_transcript, nothing_told, port_then}
+use Rattle.workload.specs.Amounts.{AreAmounts, TellsAmounts}
+use Rattle.workload.specs.Serving.{ComesBehind, is_told}
+use Rattle.workload.proofs.Listening.{amounts_behind, closed_on, is_uncut, no_port, no_store, no_transcript, nothing_told, port_then, text_behind, verdicts_text}
 use Rattle.workload.proofs.serve.serve_and_settle.Goals as goal
 
 pub returns : goal.returns
-returns g c = record {
-  served =
-      closed_on (config_view c.args.store.config) c.args.names.now (g.W.Write.contents c.args.writer.now) (g.W.Write.contents c.serve_all-told.new.writer) (g.W.Write.contents c.tell_verdicts-ended.new.writer)
-      c.close_store-closed.result.0 c.tell_verdicts-ended.result c.ended_after.result c.in_ok-told.ensures.listened (is_closed (config_view c.args.store.config) _ c.close_store-closed.result.0 c.close_store-closed.ensures.closed (c.in_ok-hub.ensures.done ∙ ap (view_with c.args.store.config) c.requires.journals)) (λ kept. c.tell_verdicts-ended.ensures)
-      (λ cut. absurd (omega (arith, cut, c.requires.kept))) (_, c.fault_of-before.ensures.before, c.ended_after.ensures);
-  port =
-      port_then (IsVerdictOf c.close_store-closed.result.0) (codes "settled ") (length c.close_store-closed.result.0.config.limits.items) c.args.names.now (port_of c.args.ports.listener) (g.W.Write.contents c.args.writer.now)
-      (g.W.Write.contents c.serve_all-told.new.writer) (g.W.Write.contents c.tell_verdicts-ended.new.writer) c.tell_verdicts-ended.result c.ended_after.result
-      (rw c.in_ok-server.ensures.listener at c.in_ok-told.ensures.port) c.tell_verdicts-ended.ensures (_, c.fault_of-before.ensures.before, c.ended_after.ensures);
-}
+returns g c =
+    let closed = c.close_store-closed.result.0 in
+    let old = g.W.Write.contents c.args.writer.now in
+    let between = g.W.Write.contents c.serve_all-told.new.writer in
+    let behind = g.W.Write.contents c.tell_verdicts-verdicts.new.writer in
+    let new = g.W.Write.contents c.tell_behind-ended.new.writer in
+    let told = c.tell_verdicts-verdicts.result in
+    let came = c.tell_behind-ended.result in
+    let view = config_view c.args.store.config in
+    let amounts : ComesBehind (is_told told && c.args.options.counts) (TellsAmounts (nat_eq view.epoch 0) closed c.args.names.now) behind new told came =
+    amounts_behind (is_told told) c.args.options.counts true (nat_eq view.epoch 0) closed c.deref.result.now c.args.names.now behind new told came (is_uncut view.epoch c.requires.kept) (λ asked. subst (AreAmounts closed) (sym c.deref.ensures.value) (c.in_ok-amounts.ensures asked)) c.tell_behind-ended.ensures in
+    record {
+      served =
+          closed_on c.args.options.counts view c.args.names.now old between behind new closed told came c.ended_after.result c.in_ok-told.ensures.listened
+          (is_closed view _ closed c.close_store-closed.ensures.closed (c.in_ok-hub.ensures.done ∙ ap (view_with c.args.store.config) c.requires.journals)) (λ kept. c.tell_verdicts-verdicts.ensures)
+          (λ cut. absurd (omega (arith, cut, c.requires.kept))) amounts (_, c.fault_of-before.ensures.before, c.ended_after.ensures);
+      port =
+          port_then (port_of c.args.ports.listener) old between new came c.ended_after.result (rw c.in_ok-server.ensures.listener at c.in_ok-told.ensures.port)
+          (text_behind (is_told told && c.args.options.counts) c.args.options.counts (nat_eq view.epoch 0) closed c.args.names.now between behind new told came refl
+          (verdicts_text (IsVerdictOf closed) (codes "settled ") (length closed.config.limits.items) c.args.names.now between behind told c.tell_verdicts-verdicts.ensures) amounts)
+          (_, c.fault_of-before.ensures.before, c.ended_after.ensures);
+    }
 
 pub returns-then-left : goal.returns-then-left
 returns-then-left g c = record {
   served =
-      no_transcript (config_view c.args.store.config) c.args.names.now (g.W.Write.contents c.args.writer.now) (g.W.Write.contents c.serve_all-told.new.writer) c.close_store-closed.result.0 c.in_ok-told.ensures.listened
+      no_transcript c.args.options.counts (config_view c.args.store.config) c.args.names.now (g.W.Write.contents c.args.writer.now) (g.W.Write.contents c.serve_all-told.new.writer) c.close_store-closed.result.0 c.in_ok-told.ensures.listened
       (is_closed (config_view c.args.store.config) _ c.close_store-closed.result.0 c.close_store-closed.ensures.closed (c.in_ok-hub.ensures.done ∙ ap (view_with c.args.store.config) c.requires.journals)) c.requires.kept;
+  port = search rules;
+}
+
+pub returns-in_err-amounts : goal.returns-in_err-amounts
+returns-in_err-amounts g c = record {
+  served =
+      let p = err_from_is_err_and c.from_residual-in_err-amounts.result c.from_residual-in_err-amounts.ensures.1 in
+      rw (p.1, p.2) (no_transcript c.args.options.counts (config_view c.args.store.config) c.args.names.now (g.W.Write.contents c.args.writer.now) (g.W.Write.contents c.serve_all-told.new.writer) c.close_store-closed.result.0 c.in_ok-told.ensures.listened
+      (is_closed (config_view c.args.store.config) _ c.close_store-closed.result.0 c.close_store-closed.ensures.closed (c.in_ok-hub.ensures.done ∙ ap (view_with c.args.store.config) c.requires.journals)) c.requires.kept);
   port = search rules;
 }
 
@@ -32,7 +55,7 @@ pub returns-in_err-hub : goal.returns-in_err-hub
 returns-in_err-hub g c = record {
   served =
       let p = err_from_is_err_and c.from_residual-in_err-hub.result c.from_residual-in_err-hub.ensures.1 in
-      rw (p.1, p.2) (nothing_told false (config_view c.args.store.config) c.args.names.now (g.W.Write.contents c.args.writer.now) c.in_err-hub.field-0.0 c.in_err-hub.ensures.refused);
+      rw (p.1, p.2) (nothing_told false c.args.options.counts (config_view c.args.store.config) c.args.names.now (g.W.Write.contents c.args.writer.now) c.in_err-hub.field-0.0 c.in_err-hub.ensures.refused);
   port =
       let p = err_from_is_err_and c.from_residual-in_err-hub.result c.from_residual-in_err-hub.ensures.1 in
       rw (p.1, p.2) (no_store (port_of c.args.ports.listener) (g.W.Write.contents c.args.writer.now) (g.W.Write.contents c.args.writer.now) c.in_err-hub.field-0.0 c.in_err-hub.ensures.refused);

@@ -4,7 +4,7 @@ use Rattle.std.specs.Prelude.{length}
 use Rattle.hub.specs.Hubs.{ConfigView, view_with}
 use Rattle.server_sessions.specs.Ports.{port_of}
 use Rattle.load.proofs.Histories.{is_closed}
-use Rattle.workload.proofs.Listening.{closed_unrecorded, no_port, no_store, nothing_told, port_then_served}
+use Rattle.workload.proofs.Listening.{closed_unrecorded, no_port, no_store, nothing_told, port_then, served_text}
 use Rattle.workload.specs.Unrecorded.{TellsServed}
 use Rattle.workload.proofs.serve.serve_unrecorded.Goals as goal
 
@@ -17,18 +17,18 @@ returns g c =
     subst (λ n. TellsServed n c.args.names.now between new c.tell_served-ended.result) (c.len-tenants.ensures ∙ c.close_store-closed.result.0.config.limits.ok.0 ∙ ap (λ (v : ConfigView). length v.limits) c.close_store-closed.ensures.closed.config ∙ ap (λ (v : ConfigView). length v.limits) opened) c.tell_served-ended.ensures in
     record {
       served =
-          closed_unrecorded (view_with c.args.store.config false) c.args.names.now (g.W.Write.contents c.args.writer.now) between new c.close_store-closed.result.0 c.tell_served-ended.result c.ended_after.result
+          closed_unrecorded c.args.options.counts (view_with c.args.store.config false) c.args.names.now (g.W.Write.contents c.args.writer.now) between new c.close_store-closed.result.0 c.tell_served-ended.result c.ended_after.result
           c.in_ok-told.ensures.listened (is_closed (view_with c.args.store.config false) _ c.close_store-closed.result.0 c.close_store-closed.ensures.closed opened) served (_, c.fault_of-before.ensures.before, c.ended_after.ensures);
       port =
-          port_then_served (length (view_with c.args.store.config false).limits) c.args.names.now (port_of c.args.ports.listener) (g.W.Write.contents c.args.writer.now) between new c.tell_served-ended.result c.ended_after.result
-          (rw c.in_ok-server.ensures.listener at c.in_ok-told.ensures.port) served (_, c.fault_of-before.ensures.before, c.ended_after.ensures);
+          port_then (port_of c.args.ports.listener) (g.W.Write.contents c.args.writer.now) between new c.tell_served-ended.result c.ended_after.result (rw c.in_ok-server.ensures.listener at c.in_ok-told.ensures.port)
+          (served_text (length (view_with c.args.store.config false).limits) c.args.names.now between new c.tell_served-ended.result served) (_, c.fault_of-before.ensures.before, c.ended_after.ensures);
     }
 
 pub returns-in_err-hub : goal.returns-in_err-hub
 returns-in_err-hub g c = record {
   served =
       let p = err_from_is_err_and c.from_residual-in_err-hub.result c.from_residual-in_err-hub.ensures.1 in
-      rw (p.1, p.2) (nothing_told true (view_with c.args.store.config false) c.args.names.now (g.W.Write.contents c.args.writer.now) c.in_err-hub.field-0.0 c.in_err-hub.ensures.refused);
+      rw (p.1, p.2) (nothing_told true c.args.options.counts (view_with c.args.store.config false) c.args.names.now (g.W.Write.contents c.args.writer.now) c.in_err-hub.field-0.0 c.in_err-hub.ensures.refused);
   port =
       let p = err_from_is_err_and c.from_residual-in_err-hub.result c.from_residual-in_err-hub.ensures.1 in
       rw (p.1, p.2) (no_store (port_of c.args.ports.listener) (g.W.Write.contents c.args.writer.now) (g.W.Write.contents c.args.writer.now) c.in_err-hub.field-0.0 c.in_err-hub.ensures.refused);
