@@ -83,7 +83,7 @@ class Installed(unittest.TestCase):
             self.assertEqual(server.stop(), ["settled t yes"])
         name = next(pathlib.Path(it).name for it in self.installed if pathlib.Path(it).name in ("ramp", "ramp-unproved"))
         for words, shown in (((name, "se"), ["serve"]), ((name, "help", "se"), ["serve"]), ((name, "serve", "--st"), ["--stay", "--strict", "--status"]), ((name, "serve", "--port", ""), []),
-                             ((name, "load", "--se"), ["--seats", "--seed"]), (("rampd", "--co"), ["--config"]), (("rampd", "--config", "/etc/host"), None),
+                             ((name, "load", "--se"), ["--seats", "--seed"]), (("rampd", "--co"), ["--config", "--counts"]), (("rampd", "--config", "/etc/host"), None),
                              (("ramp-cli", "--ten"), ["--tenant"]), (("ramp-cli", "--json", "put-"), ["put-text", "put-json"]), (("ramp-cli", "get", ""), []),
                              (("ramp-cli", "--port", ""), [])):
             told = self.completed(*words)
