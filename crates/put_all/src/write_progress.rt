@@ -21,14 +21,15 @@ pub(crate) struct ItemProgress {
 }
 
 impl ItemProgress {
-    /// An item of which nothing was answered.
-    fn new(key: Key, parts: u32) -> ItemProgress
+    /// An item of which nothing was answered. The key is borrowed, and this stands alone: its bytes are then summed many at once.
+    #[inline(never)]
+    fn new(key: &Key, parts: u32) -> ItemProgress
         requires { IsParts parts }
-        ensures { result ≡ place_for parts key }
+        ensures { result ≡ place_for parts key.now }
     {
         ItemProgress {
-            key,
-            home: stamps::home(&key, parts),
+            key: *key,
+            home: stamps::home(key, parts),
             is_prepared: false,
             is_committed: false,
         }
@@ -118,7 +119,7 @@ impl WriteProgress {
     pub(crate) fn none(filler: Key) -> WriteProgress
         ensures { result ≡ [] }
     {
-        WriteProgress(SmallList::empty(ItemProgress::new(filler, 1)))
+        WriteProgress(SmallList::empty(ItemProgress::new(&filler, 1)))
     }
 
     /// Puts in its place those of these items, of which nothing was answered.
@@ -129,7 +130,7 @@ impl WriteProgress {
     {
         self.0.clear();
         for item in items {
-            self.0.push(ItemProgress::new(item.key, parts));
+            self.0.push(ItemProgress::new(&item.key, parts));
         }
     }
 
