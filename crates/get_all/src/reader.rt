@@ -121,7 +121,8 @@ impl Reader {
         self.told(kind)
     }
 
-    /// Does what `take` does, and leaves out what is asked for or read.
+    /// Does what `take` does, and leaves out what is asked for or read. A move may have a key, so it is written where it is returned.
+    #[inline(always)]
     pub fn take_kind(&mut self, key: &Key, round: u8, reply: &ReadReply) -> ReadMoveKind
         ensures { TakesInRound key.now round reply.now self.old (told_by self.new result) self.new }
     {
@@ -129,7 +130,11 @@ impl Reader {
             return ReadMoveKind::Ignored;
         }
         match round {
-            1 => self.take_first(key, reply),
+            1 => {
+                let mut kind = ReadMoveKind::Ignored;
+                self.take_first(key, reply, &mut kind);
+                kind
+            }
             2 => self.take_second(key, reply),
             _ => ReadMoveKind::Ignored,
         }
@@ -173,60 +178,64 @@ impl Reader {
         }
     }
 
-    fn take_first(&mut self, key: &Key, reply: &ReadReply) -> ReadMoveKind
+    /// Takes the reply to a GET of round one, and writes the move into the caller's buffer.
+    fn take_first(&mut self, key: &Key, reply: &ReadReply, kind: &mut ReadMoveKind)
         requires { self.old.has_ended ≡ false }
         ensures takes { (keys : List Key) (taken : List Message) (message : Message)
             → StandsFor keys self.old taken
             → IsFirst key.now reply.now message
-            → TakesRead keys taken message (told_by self.new result) self.new }
-        ensures few { calls_asked (told_by self.new result) + calls_left self.new
+            → TakesRead keys taken message (told_by self.new kind.new) self.new }
+        ensures few { calls_asked (told_by self.new kind.new) + calls_left self.new
             ≤ calls_left self.old }
     {
         if !self.slots.await_first(key) {
-            return ReadMoveKind::Ignored;
+            *kind = ReadMoveKind::Ignored;
+            return;
         }
         match reply {
             ReadReply::Version(version) => {
                 if is_of(version, key) {
-                    self.show_first(key, Some(version))
+                    self.show_first(key, Some(version), kind);
                 } else {
                     self.end();
-                    ReadMoveKind::Torn
+                    *kind = ReadMoveKind::Torn;
                 }
             }
-            ReadReply::Initial => self.show_first(key, None),
+            ReadReply::Initial => self.show_first(key, None, kind),
             ReadReply::Collected(_) => {
                 self.end();
-                ReadMoveKind::Torn
+                *kind = ReadMoveKind::Torn;
             }
             ReadReply::Unknown => {
                 self.end();
-                ReadMoveKind::Torn
+                *kind = ReadMoveKind::Torn;
             }
         }
     }
 
     /// Takes what round one showed of the key, which is the first of it.
-    fn show_first(&mut self, key: &Key, shown: Option<&Record>) -> ReadMoveKind
+    fn show_first(&mut self, key: &Key, shown: Option<&Record>, kind: &mut ReadMoveKind)
         requires open { self.old.has_ended ≡ false }
         requires first { list_any (awaits_first key.now) self.old.slots ≡ true }
         ensures slots { self.new.slots
             ≡ map (with_first key.now (option_copied shown.entry)) self.old.slots }
         ensures ended { self.new.has_ended ≡ is_whole self.new.slots }
-        ensures answer { told_by self.new result ≡ (if list_all has_first self.new.slots
+        ensures answer { told_by self.new kind.new ≡ (if list_all has_first self.new.slots
             then (if list_all (is_answered_by self.new.slots) self.new.slots
             then ReadMove.Read (readings_by self.new.slots)
             else ReadMove.Ask (late_by self.new.slots))
             else ReadMove.Wait) }
     {
         if !self.slots.mark_first(key, shown) {
-            return ReadMoveKind::Wait;
+            *kind = ReadMoveKind::Wait;
+            return;
         }
         if self.slots.are_answered() {
             self.end();
-            return ReadMoveKind::Read;
+            *kind = ReadMoveKind::Read;
+            return;
         }
-        ReadMoveKind::Ask
+        *kind = ReadMoveKind::Ask;
     }
 
     #[cold]

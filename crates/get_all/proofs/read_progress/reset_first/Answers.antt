@@ -1,4 +1,4 @@
-use Rattle.std.proofs.Common.{◌≡◌, ◌<◌, ◌≤◌, ◌+◌, length, map, take, ap, sym, ◌∙◌, arith, length-set}
+use Rattle.std.proofs.Common.{◌≡◌, ◌<◌, ◌≤◌, length, map, take, ap, sym, ◌∙◌, arith, length-set}
 use Rattle.std.proofs.lemmas.List.{take_all}
 use Rattle.plain_store.proofs.Marking.{filled_more}
 use Rattle.get_all.specs.ReadProgress.{slot_for}

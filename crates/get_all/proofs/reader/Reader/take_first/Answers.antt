@@ -26,7 +26,7 @@ returns-then-is_of-clause-takes c = λ keys taken message s is.
     let got : IsFirst c.args.key.now (Version c.in-Version.version) message = record { call = is.call; replied = is.replied ∙ ap (λ (r : ReadReply). Some (ToGet r)) c.in-Version.is } in
     takes_first keys taken message r c.show_first.new.self s c.requires c.args.key.now (Version version) got (Some version) (λ k. refl) (λ t ws. refl)
     (ap not key_is) (sym c.await_first.ensures ∙ c.if-not-await_first.false)
-    c.show_first.ensures.slots c.show_first.ensures.ended (told_by c.show_first.new.self c.show_first.result) c.show_first.ensures.answer
+    c.show_first.ensures.slots c.show_first.ensures.ended (told_by c.show_first.new.self c.show_first.new.kind) c.show_first.ensures.answer
 
 pub returns-else-is_of-clause-takes : goal.returns-else-is_of-clause-takes
 returns-else-is_of-clause-takes c = λ keys taken message s is.
@@ -44,7 +44,7 @@ returns-in-Initial-clause-takes c = λ keys taken message s is.
     let got : IsFirst c.args.key.now (Initial) message = record { call = is.call; replied = is.replied ∙ ap (λ (r : ReadReply). Some (ToGet r)) c.in-Initial.is } in
     takes_first keys taken message r c.show_first-in-Initial.new.self s c.requires c.args.key.now Initial got None (λ k. refl) (λ t ws. refl)
     refl (sym c.await_first.ensures ∙ c.if-not-await_first.false)
-    c.show_first-in-Initial.ensures.slots c.show_first-in-Initial.ensures.ended (told_by c.show_first-in-Initial.new.self c.show_first-in-Initial.result) c.show_first-in-Initial.ensures.answer
+    c.show_first-in-Initial.ensures.slots c.show_first-in-Initial.ensures.ended (told_by c.show_first-in-Initial.new.self c.show_first-in-Initial.new.kind) c.show_first-in-Initial.ensures.answer
 
 pub returns-in-Collected-clause-takes : goal.returns-in-Collected-clause-takes
 returns-in-Collected-clause-takes c = λ keys taken message s is.
