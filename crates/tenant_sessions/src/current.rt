@@ -2,6 +2,7 @@
 ghost use Rattle.std.specs.Prelude.{◌≡◌, ◌<◌};
 ghost use Rattle.stamps.specs.Bounds.{IsParts};
 ghost use Rattle.tenant_sessions.specs.Asking.{MayWrite};
+ghost use Rattle.tenant_sessions.specs.ReadBegun.{RunsRead};
 
 use crate::MoveKind;
 use crate::begin::Beginning;
@@ -105,14 +106,18 @@ impl Current {
         self.is_running = true;
     }
 
-    /// Begins a read of these keys, in a store of so many partitions (1 to `MAX_PARTS`).
-    pub(crate) fn begin_get(&mut self, keys: &[Key], parts: u32)
+    /// Begins a read of these keys, in a store of so many partitions (1 to `MAX_PARTS`), and says whether it could: a read may have
+    /// them. Else none runs.
+    pub(crate) fn begin_get(&mut self, keys: &[Key], parts: u32) -> bool
         requires { IsParts parts }
-        ensures { (setup : Setup) → setup.partitions ≡ parts → MayBegin (Gets keys.now)
-            → IsSome self.new × IfSome self.new (λ running. Starts setup (Gets keys.now) running) }
+        ensures { RunsRead parts keys.now result self.new }
     {
-        self.running.begin_get(keys, parts);
+        if !self.running.begin_get(keys, parts) {
+            self.is_running = false;
+            return false;
+        }
         self.is_running = true;
+        true
     }
 
     /// Begins a search by this tag, in a store of so many partitions (1 to `MAX_PARTS`).

@@ -55,7 +55,8 @@ impl Model for Running {
 }
 
 impl Running {
-    ghost use Rattle.std.specs.Prelude.{◌≡◌, ◌+◌, ◌<◌, ◌≤◌, List, length, slice_get, nat_lt, false, Some, None, if◌then◌else◌};
+    ghost use Rattle.std.specs.Prelude.{◌≡◌, ◌+◌, ◌<◌, ◌≤◌, List, length, slice_get, nat_lt, not, false, Some, None, if◌then◌else◌};
+    ghost use Rattle.plain_store.specs.Run.{are_bad};
     ghost use Rattle.tenant_sessions.specs.Parts.{outgoing_of};
     ghost use Rattle.plain_store.specs.declared.message.Message.{Message as Sent};
     ghost use Rattle.plain_store.specs.History.{Intent, Writes, Gets, Finds};
@@ -91,7 +92,9 @@ impl Running {
     {
         match kind {
             Beginning::Put(stamp, items, writes) => self.begin_put(*stamp, items, writes, parts),
-            Beginning::Get(keys) => self.begin_get(keys, parts),
+            Beginning::Get(keys) => {
+                self.begin_get(keys, parts);
+            }
             Beginning::Find(tag) => self.begin_find(*tag, parts),
         }
     }
@@ -110,18 +113,19 @@ impl Running {
         self.parts = parts;
     }
 
-    /// Makes of it a read of these keys, which took no reply yet.
-    pub(crate) fn begin_get(&mut self, keys: &[Key], parts: u32)
+    /// Makes of it a read of these keys, which took no reply yet, and says whether it could: a read may have them.
+    pub(crate) fn begin_get(&mut self, keys: &[Key], parts: u32) -> bool
         requires { IsParts parts }
-        ensures { (setup : Setup) → setup.partitions ≡ parts → MayBegin (Gets keys.now)
-            → Starts setup (Gets keys.now) self.new }
+        ensures { (result ≡ not (are_bad keys.now)) × ((setup : Setup) → setup.partitions ≡ parts
+            → MayBegin (Gets keys.now) → Starts setup (Gets keys.now) self.new) }
     {
         if !self.reader.reset(keys) {
-            return;
+            return false;
         }
         self.kind = TransactionKind::Get;
         self.waiting.read(keys, parts);
         self.parts = parts;
+        true
     }
 
     /// Makes of it a search by this tag, which took no reply yet.

@@ -219,11 +219,10 @@ impl ClientSession {
         if let Err(refusal) = self.test_idle() {
             return Err(refusal);
         }
-        if !are_readable(keys) {
+        if !self.running.begin_get(keys, parts) {
             return Err(Refusal::BadItems);
         }
         self.draw(0);
-        self.running.begin_get(keys, parts);
         Ok(())
     }
 

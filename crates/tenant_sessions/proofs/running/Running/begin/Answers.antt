@@ -27,7 +27,7 @@ pub returns-in-Get : goal.returns-in-Get
 returns-in-Get c = λ setup parts fits.
     let is = ap request_begun c.in-Get.is in
     let new = c.begin_get.new.self in
-    subst (λ (r : Intent). Starts setup r new) (sym is) (c.begin_get.ensures setup parts (subst MayBegin is fits))
+    subst (λ (r : Intent). Starts setup r new) (sym is) (c.begin_get.ensures.1 setup parts (subst MayBegin is fits))
 
 pub returns-in-Find : goal.returns-in-Find
 returns-in-Find c = λ setup parts fits.
