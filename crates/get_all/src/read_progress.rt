@@ -337,6 +337,7 @@ impl ReadProgress {
     }
 
     /// Takes what round one showed of the key, which is the first of it, and says whether round one is complete then.
+    #[inline(always)]
     pub(crate) fn mark_first(&mut self, key: &Key, shown: Option<&Record>) -> bool
         requires { list_any (awaits_first key.now) self.old ≡ true }
         ensures slots { self.new ≡ map (with_first key.now (option_copied shown.entry)) self.old }

@@ -214,6 +214,7 @@ impl Reader {
     }
 
     /// Takes what round one showed of the key, which is the first of it.
+    #[inline(always)]
     fn show_first(&mut self, key: &Key, shown: Option<&Record>, kind: &mut ReadMoveKind)
         requires open { self.old.has_ended ≡ false }
         requires first { list_any (awaits_first key.now) self.old.slots ≡ true }
