@@ -2,6 +2,7 @@
 ghost use Rattle.std.specs.Prelude.{◌≡◌, ◌==◌, count_by, nat_lt};
 ghost use Rattle.server_sessions.specs.LineTiming.{edges, line_feed};
 
+use memchr::memchr_iter;
 use std::alloc::{AllocError, Global};
 use std::cell::Cell;
 use std::sync::atomic::{AtomicU64, Ordering};
@@ -137,5 +138,9 @@ fn class_of(nanos: u64) -> usize
 fn lines_in(bytes: &[u8]) -> usize
     ensures { result ≡ count_by (λ byte. byte == line_feed) bytes.now }
 {
-    bytes.iter().filter(|byte| **byte == b'\n').count()
+    let mut lines = 0;
+    for _end in memchr_iter(b'\n', bytes) {
+        lines += 1;
+    }
+    lines
 }
