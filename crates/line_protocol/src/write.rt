@@ -3,7 +3,7 @@ ghost use Rattle.std.specs.Prelude.{◌+◌, ◌≤◌, ◌++◌, ◌↔◌, len
 ghost use Rattle.plain_store.specs.Numbers.{number_of};
 ghost use Rattle.line_protocol.specs.Stream.{terminated};
 ghost use Rattle.line_protocol.specs.ServeSpelling.{bye_line, info_line, ready_as_line};
-ghost use Rattle.line_protocol.specs.Spelling.{stamp_text, tag_text, record_text, keys_text, found_keys_text, prepare_text, discard_text, read_text, reply_text, reply_line, refused_text};
+ghost use Rattle.line_protocol.specs.Spelling.{stamp_text, tag_text, record_text, keys_text, found_keys_text, prepare_text, read_text, reply_text, reply_line, refused_text};
 ghost use Rattle.line_protocol.specs.Room.{Appends, WritesLine, number_room, stamp_room, tag_room, key_room, keys_room, record_room, refusal_room, reply_room, count_room};
 
 use crate::LINE_LIMIT;
@@ -108,10 +108,31 @@ pub(crate) fn put(out: &mut BytesMut, text: &[u8])
     out.extend_reserved(text);
 }
 
+// A client's number mostly has one digit, and a counter of a young store at most three.
 pub(crate) fn put_number(out: &mut BytesMut, number: u64)
     requires { number_room ≤ out.old.spare }
     ensures { Appends number_room out.old out.new (decimal number) }
 {
+    if number < 10 {
+        put(out, &[b'0' + number as u8]);
+        return;
+    }
+    let last = b'0' + (number % 10) as u8;
+    if number < 100 {
+        put(out, &[b'0' + (number / 10) as u8, last]);
+        return;
+    }
+    if number < 1000 {
+        put(
+            out,
+            &[
+                b'0' + (number / 10 / 10) as u8,
+                b'0' + (number / 10 % 10) as u8,
+                last,
+            ],
+        );
+        return;
+    }
     let mut digits = Buffer::new();
     put(out, digits.format(number).as_bytes());
 }
@@ -125,11 +146,14 @@ pub(crate) fn put_stamp(out: &mut BytesMut, stamp: Stamp)
     put_number(out, u64::from(stamp.client()));
 }
 
+// The whole array, whose length is known where this is compiled; what stands behind the key is cut off.
 pub(crate) fn put_key(out: &mut BytesMut, key: &Key)
     requires { key_room ≤ out.old.spare }
     ensures { Appends key_room out.old out.new key.now }
 {
-    put(out, key.as_bytes());
+    let end = out.len() + key.len();
+    put(out, key.padded());
+    out.truncate(end);
 }
 
 /// A tag after a `#`, and nothing for the empty one.
@@ -200,16 +224,6 @@ fn put_prepare_reply(out: &mut BytesMut, reply: PrepareReply)
     }
 }
 
-fn put_discard_reply(out: &mut BytesMut, reply: DiscardReply)
-    requires { count_room ≤ out.old.spare }
-    ensures { Appends count_room out.old out.new (discard_text reply) }
-{
-    match reply {
-        DiscardReply::Dropped(count) => put_count(out, b"dropped ", count),
-        DiscardReply::FullMarks => put_refusal(out, Refusal::FullMarks),
-    }
-}
-
 fn put_read_reply(out: &mut BytesMut, reply: &ReadReply)
     requires { reply_room ≤ out.old.spare }
     ensures { Appends reply_room out.old out.new (read_text reply.now) }
@@ -243,7 +257,8 @@ pub(crate) fn put_reply(out: &mut BytesMut, reply: &Reply)
             put_found_keys(out, found);
         }
         Reply::Freed(count) => put_count(out, b"freed ", *count),
-        Reply::Discard(reply) => put_discard_reply(out, *reply),
+        Reply::Discard(DiscardReply::Dropped(count)) => put_count(out, b"dropped ", *count),
+        Reply::Discard(DiscardReply::FullMarks) => put_refusal(out, Refusal::FullMarks),
     }
 }
 
