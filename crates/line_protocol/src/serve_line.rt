@@ -8,7 +8,7 @@ ghost use Rattle.line_protocol.specs.ServeReading.{get_at, hello_at, plain_reque
 
 use crate::Request;
 use crate::step_line::{read_base, read_client, read_each, read_keep, read_name};
-use crate::token::{next_part, read_tag, split_first};
+use crate::token::{next_short_part, read_tag, split_first};
 use plain_store::{Items, Keys, Refusal};
 use stamps::{Client, Counter};
 use std::alloc::{AllocError, Global};
@@ -38,7 +38,7 @@ pub fn read_serve_line(alloc: Global, line: &[u8]) -> Result<Request, Refusal>
 fn read_request(alloc: Global, line: &[u8]) -> Option<Result<Request, AllocError>>
     ensures { FindsRequest (request_at line.now) result }
 {
-    let (command, words) = next_part(line, b' ');
+    let (command, words) = next_short_part(line, b' ');
     if command == b"put".as_slice() {
         return read_put(alloc, words);
     }

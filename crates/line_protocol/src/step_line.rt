@@ -11,10 +11,11 @@ ghost use Rattle.line_protocol.specs.StepReading.{client_at, item_at, hello_at, 
 
 use crate::Name;
 use crate::token::{
-    next_part, read_key, read_number, read_tag, read_tagged, read_value, split_first,
+    next_part, next_short_part, read_key, read_number, read_tag, read_tagged, read_value,
+    split_first,
 };
 use plain_store::{Act, Items, Keys, Refusal, Step};
-use stamps::{Client, Counter, Item, Keep, Key, Stamp};
+use stamps::{Client, Counter, Item, Keep, Key, Stamp, Tag};
 use std::alloc::{AllocError, Global};
 
 /// The step that a line asks for, of one of the tenants of these names. The line is handed in without its LF. The
@@ -109,12 +110,19 @@ fn read_get(alloc: Global, words: &[u8]) -> Option<Result<Act, AllocError>>
 
 /// What a word of a list is read as.
 pub(crate) trait Word: Sized {
-    ghost use Rattle.std.specs.Prelude.{ℕ, List, Option};
+    ghost use Rattle.std.specs.Prelude.{◌≡◌, ℕ, List, Option};
+    ghost use Rattle.std.specs.Option.{option_map};
+    ghost use Rattle.line_protocol.specs.Spelling.{space};
+    ghost use Rattle.line_protocol.specs.Reading.{part_at};
 
     ghost at: { List ℕ → Option Self };
 
     fn read(word: &[u8]) -> Option<Self>
         ensures { result ≡ at word.now };
+
+    /// The first word of a text, and what follows the space behind it, if there is one.
+    fn split(text: &[u8]) -> (&[u8], Option<&[u8]>)
+        ensures { (result.0.now, option_map (λ t. t.now) result.1) ≡ part_at space text.now };
 }
 
 impl Word for Item {
@@ -122,6 +130,10 @@ impl Word for Item {
 
     fn read(word: &[u8]) -> Option<Item> {
         read_item(word)
+    }
+
+    fn split(text: &[u8]) -> (&[u8], Option<&[u8]>) {
+        next_part(text, b' ')
     }
 }
 
@@ -132,6 +144,10 @@ impl Word for Key {
 
     fn read(word: &[u8]) -> Option<Key> {
         read_key(word)
+    }
+
+    fn split(text: &[u8]) -> (&[u8], Option<&[u8]>) {
+        next_short_part(text, b' ')
     }
 }
 
@@ -147,7 +163,7 @@ pub(crate) fn read_each<T: Word + Drop>(
     let mut kept = Ok(());
     let mut rest = text;
     while let Some(more) = rest {
-        let (word, after) = next_part(more, b' ');
+        let (word, after) = T::split(more);
         let word = T::read(word)?;
         kept = keep_word(&mut list, kept, word);
         rest = after;
@@ -164,20 +180,27 @@ fn keep_word<T: Drop>(
     ensures { OnOk result (IsOk kept × (list.new.items ≡ list.old.items ++ word ∷ [])) }
 {
     kept?;
-    list.push(word).map_err(AllocError::from)
+    list.reserve(1)?;
+    list.push_reserved(word);
+    Ok(())
 }
 
-// KEY=VALUE, or KEY#TAG=VALUE.
+// KEY=VALUE, or KEY#TAG=VALUE. What is a key as a whole has no tag.
 #[tactic(auto, unfolding(crate::specs::StepReading::item_at))]
 fn read_item(text: &[u8]) -> Option<Item>
     ensures { result ≡ item_at text.now }
 {
     let (front, value) = split_first(text, b'=')?;
     let value = read_value(value)?;
-    let Some((key, tag)) = read_tagged(front) else {
-        return None;
+    let (key, tag) = match read_key(front) {
+        Some(key) => (key, Tag::read(b"")?),
+        None => {
+            let Some(tagged) = read_tagged(front) else {
+                return None;
+            };
+            (read_key(tagged.0)?, tagged.1)
+        }
     };
-    let key = read_key(key)?;
     Some(Item { key, tag, value })
 }
 

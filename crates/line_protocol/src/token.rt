@@ -11,8 +11,12 @@ use std::str;
 pub fn split_first(text: &[u8], byte: u8) -> Option<(&[u8], &[u8])>
     ensures { option_map (λ p. (p.0.now, p.1.now)) result ≡ split_first byte text.now }
 {
-    let at = memchr(byte, text)?;
-    Some((&text[..at], &text[at + 1..]))
+    for (at, &other) in text.iter().enumerate() {
+        if other == byte {
+            return Some((&text[..at], &text[at + 1..]));
+        }
+    }
+    None
 }
 
 // Whether each byte is a digit.
@@ -106,8 +110,18 @@ pub(crate) fn read_writes(text: &[u8]) -> Option<WriteSet>
 }
 
 /// What stands before the first such byte, and what follows that byte, if there is one.
-#[tactic(auto, unfolding(crate::specs::Reading::part_at))]
 pub fn next_part(text: &[u8], byte: u8) -> (&[u8], Option<&[u8]>)
+    ensures { (result.0.now, option_map (λ t. t.now) result.1) ≡ part_at byte text.now }
+{
+    match memchr(byte, text) {
+        None => (text, None),
+        Some(at) => (&text[..at], Some(&text[at + 1..])),
+    }
+}
+
+/// The same, of a part that is mostly short: byte by byte.
+#[tactic(auto, unfolding(crate::specs::Reading::part_at))]
+pub(crate) fn next_short_part(text: &[u8], byte: u8) -> (&[u8], Option<&[u8]>)
     ensures { (result.0.now, option_map (λ t. t.now) result.1) ≡ part_at byte text.now }
 {
     match split_first(text, byte) {

@@ -9,12 +9,12 @@ loop-rest-init g c = read-begins g.T.Word.at (option_map (λ t. t.now) c.args.te
 pub returns-in_err-word : goal.returns-in_err-word
 returns-in_err-word g c =
     let so_far : IsReadTo g.T.Word.at (option_map (λ t. t.now) c.args.text) (Some c.in-Some.more.now) c.loop-rest.kept c.loop-rest.list.items = rw c.in-Some.is at c.loop-rest.invariant in
-    rw c.from_residual.ensures (read-stops g.T.Word.at _ c.in-Some.more.now c.next_part.result.0.now _ _ _ so_far c.next_part.ensures c.in_err-word.ensures)
+    rw c.from_residual.ensures (read-stops g.T.Word.at _ c.in-Some.more.now c.split.result.0.now _ _ _ so_far c.split.ensures c.in_err-word.ensures)
 
 pub loop-rest-smaller : goal.loop-rest-smaller
-loop-rest-smaller g c = rw c.in-Some.is (let le = read-smaller c.in-Some.more.now c.next_part.result.0.now _ c.next_part.ensures in omega arith)
+loop-rest-smaller g c = rw c.in-Some.is (let le = read-smaller c.in-Some.more.now c.split.result.0.now _ c.split.ensures in omega arith)
 
 pub loop-rest-preserved : goal.loop-rest-preserved
 loop-rest-preserved g c =
     let so_far : IsReadTo g.T.Word.at (option_map (λ t. t.now) c.args.text) (Some c.in-Some.more.now) c.loop-rest.kept c.loop-rest.list.items = rw c.in-Some.is at c.loop-rest.invariant in
-    read-goes_on g.T.Word.at _ c.in-Some.more.now c.next_part.result.0.now _ _ _ _ _ c.in_ok-word.word so_far c.next_part.ensures (sym c.in_ok-word.ensures) c.keep_word-kept.ensures
+    read-goes_on g.T.Word.at _ c.in-Some.more.now c.split.result.0.now _ _ _ _ _ c.in_ok-word.word so_far c.split.ensures (sym c.in_ok-word.ensures) c.keep_word-kept.ensures
