@@ -12,7 +12,7 @@ use Rattle.history.specs.declared.entry.ServedCall.{ServedCall}
 use Rattle.history.specs.Entries.{is_of, own, count, limits_of, room_in, room_of, served_to, served_at, calls_served, reply_in, StandsInHistory}
 use Rattle.history.specs.Legal.{IsLegal}
 use Rattle.history.specs.Rules.{IsAdded, IsOvertaken, TakesNoEntry, is_opening}
-use Rattle.history.proofs.Counts.{count_more, own_same}
+use Rattle.history.proofs.Counts.{count_later, count_more, own_same}
 
 and_false : (a b : Bool) → b ≡ false → (a && b) ≡ false
 and_false true b e = e
@@ -94,10 +94,11 @@ is_served entries served seen now legal counted a =
       refl,
     )
 
--- where a later history has other entries of the word than were counted, it takes none
-pub none_taken : (k entries : ℕ) (seen start now : List HistoryEntry) → start ≡ seen → count k seen ≡ entries → IsPrefix start now → IsOvertaken k entries now → TakesNoEntry k seen
+-- where what was found of the history has other entries of the word than were counted, it takes none
+pub none_taken : (k entries : ℕ) (seen start now : List HistoryEntry) → start ≡ seen → count k seen ≡ entries → IsPrefix start now → IsOvertaken k entries now → TakesNoEntry k seen now
 none_taken k entries seen start now same counted pre other =
-    inr (now, subst (λ (l : List HistoryEntry). IsPrefix l now) same pre, subst (λ (n : ℕ). IsOvertaken k n now) (sym counted) other)
+    let first : IsPrefix seen now = subst (λ (l : List HistoryEntry). IsPrefix l now) same pre in
+    inr (first, omega (arith, count_later k seen now first, counted, other.0))
 
 -- the word has one entry more
 pub added_count : (k entries : ℕ) (e : HistoryEntry) (seen now : List HistoryEntry) → is_of k e ≡ true → IsAdded k entries e seen now → count k now ≡ entries + 1

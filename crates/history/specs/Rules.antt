@@ -41,9 +41,9 @@ IsAdded k entries e seen now =
 abbrev pub IsOvertaken : ℕ → ℕ → List HistoryEntry → Type 0
 IsOvertaken k entries now = (count k now ≢ entries) × IsLegal now
 
--- The word takes no entry behind what was seen: it has as many as a word can have, or a later history has others of it.
-abbrev pub TakesNoEntry : ℕ → List HistoryEntry → Type 0
-TakesNoEntry k seen = (2 ^ 62 ≤ count k seen) ⊎ ((later : List HistoryEntry) × IsPrefix seen later × IsOvertaken k (count k seen) later)
+-- The word takes no entry behind what was seen: it has as many as a word can have, or what was found of the history has more of it.
+abbrev pub TakesNoEntry : ℕ → (seen found : List HistoryEntry) → Type 0
+TakesNoEntry k seen found = (2 ^ 62 ≤ count k seen) ⊎ (IsPrefix seen found × (count k seen < count k found))
 
 abbrev pub Looks : Step HistoryEntry → View HistoryEntry ℕ → ℕ → View HistoryEntry ℕ → Type 0
 Looks s v found w = (count s.key w.0 ≡ found) × IsLegal w.0

@@ -17,3 +17,5 @@ mod Reported
 mod Fresh
 mod Done
 mod Leaving
+mod Deciding
+mod Decided

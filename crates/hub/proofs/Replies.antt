@@ -1,6 +1,6 @@
 -- What a seat answers: for the functions of an operation.
 use Rattle.std.proofs.Common.{◌≡◌, ℕ, List, [], ◌∷◌, ◌++◌, refl, sym, ap, ◌∙◌, subst, Option, Some, None, inl, inr, Bool, true, false, cond, is_some, Result, Ok, Err}
-use Rattle.std.specs.Prelude.{OnOk, IfErr, IfSome, IsSome, IsNone, nat_le}
+use Rattle.std.specs.Prelude.{OnOk, IfErr, IfOk, IfSome, IsSome, IsNone, nat_le}
 use Rattle.std.proofs.Math.Logic.{∥∥₁_map}
 use Rattle.std.proofs.lemmas.List.{append_assoc, append-nil}
 use Rattle.plain_store.specs.declared.answer.Answer.{Answer}
@@ -527,18 +527,18 @@ marked_since_later name (ask.Get keys) mark seen now before pre since = own_late
 marked_since_later name (ask.Find tag) mark seen now before pre since = own_later name mark mark before seen now since pre refl
 
 -- a read's entry is that of the client whose word began it
-own_read : (name : SeatName) (result : Option Mark) (old new : ClientTrace) (before : List HistoryEntry) → IsOfClient name (Some old) → IsPrefix old.seen new.seen → IfSome result (λ mark. HasJoined mark.word old)
-    → IfSome result (λ mark. HasReadEntry mark new.seen before) → IfSome result (λ mark. HasOwnReadEntry name mark new.seen before)
-own_read name None old new before its later joined since = tt
-own_read name (Some mark) old new before its later joined since =
+own_read : {E : Type 0} (name : SeatName) (result : Result Mark E) (old new : ClientTrace) (before : List HistoryEntry) → IsOfClient name (Some old) → IsPrefix old.seen new.seen → IfOk result (λ mark. HasJoined mark.word old)
+    → IfOk result (λ mark. HasReadEntry mark new.seen before) → IfOk result (λ mark. HasOwnReadEntry name mark new.seen before)
+own_read name (Err found) old new before its later joined since = tt
+own_read name (Ok mark) old new before its later joined since =
     let P : ℕ → Type 0 = λ t. Joined (record { word = mark.word; tenant = t; client = name.client }) ∈ new.seen in
     let Q : ℕ → Type 0 = λ n. Joined (record { word = mark.word; tenant = old.tenant; client = n }) ∈ new.seen in
     record { entry = since; joined = subst P its.0 (subst Q its.1 (prefix_has old.seen new.seen _ later joined)) }
 
-pub marked_read : (name : SeatName) (request : SeatRequest) (result : Option Mark) (old new : ClientTrace) (before : List HistoryEntry) → IsOfClient name (Some old) → IsPrefix old.seen new.seen
-    → IfSome result (λ mark. HasJoined mark.word old) → IfSome result (λ mark. HasReadEntry mark new.seen before) → IfSome result (λ mark. IsMarkedSince name request mark new.seen before)
-marked_read name (ask.Put items) None old new before its later joined since = tt
-marked_read name (ask.Put items) (Some mark) old new before its later joined since = tt
+pub marked_read : {E : Type 0} (name : SeatName) (request : SeatRequest) (result : Result Mark E) (old new : ClientTrace) (before : List HistoryEntry) → IsOfClient name (Some old) → IsPrefix old.seen new.seen
+    → IfOk result (λ mark. HasJoined mark.word old) → IfOk result (λ mark. HasReadEntry mark new.seen before) → IfOk result (λ mark. IsMarkedSince name request mark new.seen before)
+marked_read name (ask.Put items) (Err found) old new before its later joined since = tt
+marked_read name (ask.Put items) (Ok mark) old new before its later joined since = tt
 marked_read name (ask.Get keys) result old new before its later joined since = own_read name result old new before its later joined since
 marked_read name (ask.Find tag) result old new before its later joined since = own_read name result old new before its later joined since
 

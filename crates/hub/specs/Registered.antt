@@ -1,5 +1,5 @@
 -- Who has a session, and what is kept of the clients that had one.
-use Rattle.std.specs.Prelude.{◌≡◌, ◌≢◌, ◌⊎◌, ◌+◌, ◌<◌, ◌≤◌, ℕ, Bool, false, true, Option, None, Some, IsSome, IsSomeAnd, All, cond, length, max, min, nat_eq, nat_le, nat_lt, slice_get, ◌||◌, ◌^◌, ◌-◌}
+use Rattle.std.specs.Prelude.{◌≡◌, ◌≢◌, ◌⊎◌, ◌+◌, ◌<◌, ◌≤◌, ℕ, Bool, false, true, Option, None, Some, IsSome, IsSomeAnd, Result, Err, IfErr, IfOk, All, cond, length, max, min, nat_eq, nat_le, nat_lt, slice_get, ◌||◌, ◌^◌, ◌-◌}
 use Rattle.std.specs.Option.{option_map_or}
 use Rattle.indexmap.specs.IndexMap.{IsEmpty, get, index_map_len, spare}
 use Rattle.plain_store.specs.declared.refusal.Refusal.{Refusal}
@@ -7,8 +7,11 @@ use Rattle.plain_store.specs.declared.refusal.Refusal.TheVariants.{Busy, Clients
 use Rattle.hub.specs.declared.register.Register.{Register}
 use Rattle.hub.specs.declared.register.KnownClient.{KnownClient}
 use Rattle.hub.specs.declared.register.Admission.{Admission}
+use Rattle.hub.specs.declared.clients.AdmissionCheck.{AdmissionCheck}
 use Rattle.hub.specs.declared.clients.Departure.{Departure}
+use Rattle.hub.specs.Seats.{SeatView}
 use Rattle.shard.specs.declared.seat_name.SeatName.{SeatName}
+use Rattle.traced_client.specs.Clients.{is_of_word}
 
 -- what is kept of a tenant's client, if it had a session
 abbrev pub known_of : Register → ℕ → ℕ → Option KnownClient
@@ -32,11 +35,11 @@ is_known known = option_map_or (λ _. true) known false
 
 -- Why a client of which this is kept may have no session, if it may not: it has one; it is new, and its tenant has as many clients
 -- as it may have; or the numbers of seats, or of its transactions, are used up.
-abbrev pub admission_test : Register → ℕ → Option KnownClient → ℕ → Option Refusal
-admission_test register tenant known most =
+abbrev pub admission_test : (seats clients : ℕ) → Option KnownClient → ℕ → Option Refusal
+admission_test seats clients known most =
     cond (has_session known) (Some Busy)
-    (cond (cond (is_known known) false (nat_le most (clients_of register tenant))) (Some ClientsFull)
-    (cond (nat_le (2 ^ 62) register.seats || nat_lt (2 ^ 62) (tickets_of known)) (Some RowsUsed) None))
+    (cond (cond (is_known known) false (nat_le most clients)) (Some ClientsFull)
+    (cond (nat_le (2 ^ 62) seats || nat_lt (2 ^ 62) (tickets_of known)) (Some RowsUsed) None))
 
 -- the refusals of a client of a tenant that is there: 12, 24, 26, and 30 where an allocation failed
 abbrev pub is_unopened : Refusal → Bool
@@ -55,6 +58,33 @@ next_session seats known base = record {
   counter = max (option_map_or (λ (row : KnownClient). row.counter) known base) base;
   ticket = tickets_of known;
 }
+
+-- a seat's name has what its session has
+abbrev pub IsNamedBy : Admission → SeatName → Type 0
+IsNamedBy its name = (name.seat ≡ its.seat) × (name.turn ≡ its.turn) × (name.counter ≡ its.counter)
+
+-- what was there as a client of a tenant asked for a session
+abbrev pub check_of : Register → ℕ → ℕ → AdmissionCheck
+check_of register tenant client = record {
+  tenant = tenant;
+  client = client;
+  known = known_of register tenant client;
+  clients = clients_of register tenant;
+  seats = register.seats;
+  is_taken = false;
+}
+
+-- What a client that asked for a session of its tenant got, by what was there then, and where the tenant may have so many clients.
+pub record IsDecidedBy (check : AdmissionCheck) (tenant client most base : ℕ) (opened : Result SeatView Refusal) : Type 0 where
+  pub whose : (check.tenant ≡ tenant) × (check.client ≡ client)
+  -- It is refused by the first of the tests that it did not pass.
+  pub tested : (refusal : Refusal) → admission_test check.seats check.clients check.known most ≡ Some refusal → opened ≡ Err refusal
+  -- Where it passed them all it may still be refused: 12 where its word was with another seat, 26 where the numbers of words or clocks were
+  -- used up, and 30 where an allocation failed.
+  pub passed : admission_test check.seats check.clients check.known most ≡ None
+      → IfErr opened (λ refusal. (is_of_word refusal ≡ true) × (refusal ≡ Busy → check.is_taken ≡ true))
+  -- Its session is the next one, and goes on at the greater of the counter that was kept of it and the base.
+  pub next : IfOk opened (λ seat. IsNamedBy (next_session check.seats check.known base) seat.name)
 
 -- what is kept of a client whose session began so
 abbrev pub opened_row : Admission → KnownClient

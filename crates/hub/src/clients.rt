@@ -3,14 +3,27 @@ ghost use Rattle.std.specs.Prelude.{◌≡◌, ◌↔◌, Ok, Some, IfErr, IfOk,
 ghost use Rattle.std.specs.Option.{option_map};
 ghost use Rattle.plain_store.specs.declared.refusal.Refusal.TheVariants.{Busy as IsTaken};
 ghost use Rattle.traced_client.specs.Clients.{ClientTrace, HasRow, LiesThere, is_of_word};
-ghost use Rattle.hub.specs.Registered.{HasRoomFor, IsDeparture, KeepsOf, SetsFree, after_session, known_of, opened_row};
+ghost use Rattle.hub.specs.Registered.{HasRoomFor, IsDeparture, KeepsOf, SetsFree, after_session, check_of, known_of, opened_row};
 
-use crate::register::{Admission, Register};
+use crate::register::{Admission, KnownClient, Register};
 use history::Naming;
 use plain_store::Refusal;
 use shard::SeatName;
 use stamps::{Client, Counter};
 use traced_client::{ClientWords, TracedClient};
+
+/// By what a client that asked for a session got one or none: what was kept of it, how many clients its tenant had, and how many seats there
+/// were, behind the hub's lock at that moment. `Clients::check` alone makes one.
+#[derive(Clone, Copy)]
+pub struct AdmissionCheck {
+    tenant: u32,
+    client: Client,
+    known: Option<KnownClient>,
+    clients: usize,
+    seats: u64,
+    /// Whether its word was found to be with another seat.
+    is_taken: bool,
+}
 
 /// That a session of a client ended, which had this turn, with its counter and its last ticket, and whether the client's word came back
 /// with it. `Clients::leave` alone makes one.
@@ -32,15 +45,30 @@ pub(crate) struct Clients<G: Naming> {
 }
 
 impl<G: Naming> Clients<G> {
+    /// What is there as a client asks for a session.
+    pub(crate) fn check(&self, tenant: u32, client: Client) -> AdmissionCheck
+        ensures { result ≡ check_of self.now.register tenant client }
+    {
+        AdmissionCheck {
+            tenant,
+            client,
+            known: self.register.known(tenant, client),
+            clients: self.register.clients(tenant),
+            seats: self.register.seats,
+            is_taken: false,
+        }
+    }
+
     /// Begins the session that was offered, for which there is room, and returns the client's word.
     ///
-    /// It fails where the word is taken (12), where the history has other clients than were seen, or 2^62 (26), and where an allocation
+    /// It fails where the word is taken (12), which the check has from then on, where the history has other clients than were seen, or 2^62 (26), and where an allocation
     /// failed (30). Then the register is as it was. A word that came back is returned again.
     pub(crate) fn admit(
         &mut self,
         tenant: u32,
         client: Client,
         admission: &Admission,
+        check: &mut AdmissionCheck,
     ) -> Result<TracedClient<G>, Refusal>
         requires room { HasRoomFor self.old.register tenant client }
         ensures whose { IfOk result (λ its. (its.tenant ≡ tenant) × (its.client ≡ client)) }
@@ -49,15 +77,20 @@ impl<G: Naming> Clients<G> {
         ensures lies { (its : ClientTrace) → LiesThere self.old.words.rows its
             → its.tenant ≡ tenant → its.client ≡ client → result ≡ Ok its }
         ensures refused { IfErr result (λ e. (is_of_word e ≡ true)
-            × ((e ≡ IsTaken) ↔ HasRow self.old.words.rows tenant client)) }
-        ensures unchanged { OnErr result (self.new.register ≡ self.old.register) }
+            × ((e ≡ IsTaken) ↔ HasRow self.old.words.rows tenant client)
+            × ((e ≡ IsTaken) ↔ (check.new.is_taken ≡ true))) }
+        ensures unchanged { OnErr result (self.new.register ≡ self.old.register)
+            × (check.new ≡ record check.old { is_taken = check.new.is_taken }) }
     {
         match self.words.take(tenant, client) {
             Ok(word) => {
                 self.register.admit(tenant, client, admission);
                 Ok(word)
             }
-            Err(refusal) => Err(refusal),
+            Err(refusal) => {
+                check.is_taken = matches!(refusal, Refusal::Busy);
+                Err(refusal)
+            }
         }
     }
 

@@ -68,7 +68,7 @@ pub fn take_out<G: Naming>(
     ensures traced { AreTraced seen.now partition (map account_of result.0.items) }
 {
     if let Some(book) = book_of(shard) {
-        if let Some(whole) = book.into_book(seen, calls) {
+        if let Ok(whole) = book.into_book(seen, calls) {
             let (journals, counts) = whole.into_journals();
             if are_under(journals.as_slice(), config.limits.as_slice()) {
                 return (journals, counts);

@@ -2,12 +2,13 @@
 ghost use mathlib.Core.List.{IsPrefix};
 ghost use Rattle.stamps.specs.Bounds.{IsParts};
 ghost use Rattle.hub.specs.Hubs.{view_with, AllTraced, IsLeftBy};
-ghost use Rattle.hub.specs.Registered.{IsDeparture, is_unopened};
+ghost use Rattle.hub.specs.Registered.{IsDecidedBy, IsDeparture, is_unopened};
+ghost use Rattle.hub.specs.Seats.{IsOpened};
 ghost use Rattle.shard.specs.Queues.{unsent};
-ghost use Rattle.shard.specs.UsedAt.{AreUsagesAt, WasElsewhere};
+ghost use Rattle.shard.specs.UsedAt.{AreUsagesAt};
 ghost use Rattle.std.specs.Prelude.{◌≡◌, ◌≤◌, ◌<◌, ◌+◌, ◌↔◌, ◌⊎◌, true, false, [], length, map, slice_get, vec_len, vec_capacity, Ok, IfOk, IfErr, IfSome, OnOk, IsErrOf, IsTrue, is_some};
 
-use crate::clients::{Clients, Departure};
+use crate::clients::{AdmissionCheck, Clients, Departure};
 use crate::clocks::Clocks;
 use crate::closing::{look_at_calls, seen_with, take_out};
 use crate::dispatcher::Dispatcher;
@@ -75,7 +76,7 @@ impl<G: Gate + Naming + Send + Sync + Drop + 'static> Hub<G> {
     ///
     /// The gate's type carries the name of the store's history: `Named` puts a gate under a name.
     pub fn open<
-        S: Sink + Send + Sync + Drop + 'static,
+        S: Sink<G> + Send + Sync + Drop + 'static,
         R: Threads + Wait + Clone + Send + Drop + 'static,
     >(rt: &R, alloc: Global, store: NewStore, gate: G, sink: S) -> Result<Hub<G>, HubFault>
         requires { store.history.seen.book ≡ G.book }
@@ -242,8 +243,6 @@ impl<G: Gate + Naming> Hub<G> {
         ensures used { IfOk result (λ is_there. IsTrue is_there
             → AreUsagesAt self.now.parts partition usages.new.items) }
         ensures past { self.now.parts ≤ partition → result ≡ Ok false }
-        ensures elsewhere { partition < self.now.parts
-            → IfOk result (λ is_there. is_there ≡ false → WasElsewhere self.now.parts partition) }
     {
         match self.shards.get(partition as usize) {
             Some(shard) => shard.put_usages(rt, self.config.parts, partition, usages),
@@ -276,7 +275,7 @@ impl<G: Gate + Naming> Hub<G> {
     }
 
     /// Opens a session of a client. The tests come first, in the order of the refusals' numbers, and then memory: 10 where
-    /// there is no such tenant, 12 where the client has a session, 24 where the tenant has as many clients as it may have,
+    /// there is no such tenant, 12 where the client has a session, 24 where the client is new and the tenant has as many as it may have,
     /// 26 where seats, tickets or the words of clients and clocks are used up, 30 where an allocation failed. A refusal changes nothing.
     pub fn seat<R: Wait>(
         &self,
@@ -285,30 +284,49 @@ impl<G: Gate + Naming> Hub<G> {
         client: Client,
         base: Counter,
     ) -> Result<Seat<'_, G>, Refusal>
-        ensures fresh { IfOk result (λ s. (s.stopped ≡ false) × (s.sent ≡ 0) × (s.entries ≡ [])
-            × (s.parts ≡ self.now.parts)) }
-        ensures name { IfOk result (λ s. (s.name.tenant ≡ tenant) × (s.name.client ≡ client)
-            × (s.name.base ≡ base)) }
-        ensures counter { IfOk result (λ s. (s.counter ≡ s.name.counter)
-            × (base ≤ s.name.counter)) }
+        ensures opened { IfOk result (IsOpened self.now.parts tenant client base) }
         ensures no_tenant { IsErrOf result Refusal.NoTenant ↔ (length self.now.limits ≤ tenant) }
         ensures refusals { IfErr result (λ refusal. (refusal ≡ Refusal.NoTenant)
             ⊎ (is_unopened refusal ≡ true)) }
     {
-        let Some(limits) = self.config.limits.get(tenant as usize) else {
-            return Err(Refusal::NoTenant);
-        };
+        let (opened, _check) = self.seat_with_check(rt, tenant, client, base);
+        opened
+    }
+
+    /// As `seat`, and answers by what that was decided: which client asked, what was kept of it, how many clients its tenant had, and how many
+    /// seats there were. Each refusal but 30 has its cause there, or in the numbers of words and clocks.
+    pub fn seat_with_check<R: Wait>(
+        &self,
+        rt: &R,
+        tenant: u32,
+        client: Client,
+        base: Counter,
+    ) -> (Result<Seat<'_, G>, Refusal>, AdmissionCheck)
+        ensures opened { IfOk result.0 (IsOpened self.now.parts tenant client base) }
+        ensures no_tenant { IsErrOf result.0 Refusal.NoTenant ↔ (length self.now.limits ≤ tenant) }
+        ensures decided { IfSome (slice_get self.now.limits tenant)
+            (λ its. IsDecidedBy result.1 tenant client its.clients base result.0) }
+    {
         let mut guard = self.clients.lock(rt);
         let clients = &mut *guard;
-        let admission = clients.register.offer(tenant, client, base, limits)?;
+        let mut check = clients.check(tenant, client);
+        let Some(limits) = self.config.limits.get(tenant as usize) else {
+            return (Err(Refusal::NoTenant), check);
+        };
+        let admission = match clients.register.offer(tenant, client, base, limits) {
+            Ok(admission) => admission,
+            Err(refusal) => return (Err(refusal), check),
+        };
         let Some(clock) = self.clocks.of(tenant) else {
-            return Err(Refusal::RowsUsed);
+            return (Err(Refusal::RowsUsed), check);
         };
-        let ends = match self.ends(rt, client, admission.counter) {
-            Ok(ends) => ends,
-            Err(_) => return Err(Refusal::OutOfMemory),
+        let Ok(ends) = self.ends(rt, client, admission.counter) else {
+            return (Err(Refusal::OutOfMemory), check);
         };
-        let word = clients.admit(tenant, client, &admission)?;
+        let word = match clients.admit(tenant, client, &admission, &mut check) {
+            Ok(word) => word,
+            Err(refusal) => return (Err(refusal), check),
+        };
         let name = SeatName {
             tenant,
             client,
@@ -319,7 +337,8 @@ impl<G: Gate + Naming> Hub<G> {
         };
         let mut seen = self.seen.again();
         seen.learn(&word.seen());
-        Ok(Seat::new(self, name, admission.ticket, ends, seen, word, clock))
+        let seat = Seat::new(self, name, admission.ticket, ends, seen, word, clock);
+        (Ok(seat), check)
     }
 
     /// From now on each collection of this tenant keeps so many committed versions of an item. It begins with as many as its

@@ -38,7 +38,7 @@ mod seat;
 mod seat_request;
 mod start;
 
-pub use clients::Departure;
+pub use clients::{AdmissionCheck, Departure};
 pub use closed_store::{Closed, Config, Entry, EntryList, JoinFault, Operation, Taken, Transcript};
 pub use history::{Front, Naming};
 pub use hub::Hub;

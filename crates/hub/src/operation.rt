@@ -181,11 +181,11 @@ fn begun_mark<G: Naming>(
     ensures whose { IsSameClient its.old its.new }
 {
     let SeatRequest::Put(items) = request else {
-        return its.begin_read(seen);
+        return its.begin_read(seen).ok();
     };
-    if !its.begin(own, items) {
+    let Ok(()) = its.begin(own, items) else {
         return None;
-    }
+    };
     Some(NO_MARK)
 }
 
@@ -212,9 +212,9 @@ fn enter_decided<G: Naming>(
     let Some(its) = client else {
         return false;
     };
-    if !its.decide(*stamp, seen) {
+    let Ok(()) = its.decide(*stamp, seen) else {
         return false;
-    }
+    };
     seen.learn(&its.seen());
     true
 }
@@ -236,9 +236,9 @@ fn enter_given_up<G: Naming>(
     let Some(its) = client else {
         return false;
     };
-    if !its.give_up(stamp) {
+    let Ok(()) = its.give_up(stamp) else {
         return false;
-    }
+    };
     seen.learn(&its.seen());
     true
 }

@@ -1,9 +1,9 @@
 //! The clients of all tenants: who has a session, and what is kept of it.
-ghost use Rattle.std.specs.Prelude.{◌≡◌, ◌<◌, ◌^◌, IfOk, IfErr, OnOk, IsSomeAnd, Some, None, Err, slice_get, true};
+ghost use Rattle.std.specs.Prelude.{◌≡◌, ◌<◌, ◌^◌, IfOk, IfErr, OnOk, IsSomeAnd, Some, None, Err, slice_get};
 ghost use Rattle.indexmap.specs.IndexMap.{spare};
 ghost use Rattle.std.specs.Option.{option_map};
 ghost use Rattle.plain_store.specs.declared.refusal.Refusal.{Refusal as Why};
-ghost use Rattle.hub.specs.Registered.{known_of, clients_of, tickets_of, admission_test, next_session, after_session, HasNoClients, HasRoomFor, KeepsClients, KeepsOf, is_unopened, opened_row};
+ghost use Rattle.hub.specs.Registered.{known_of, clients_of, tickets_of, admission_test, next_session, after_session, HasNoClients, HasRoomFor, KeepsClients, KeepsOf, opened_row};
 
 use indexmap::IndexMap;
 use plain_store::Refusal;
@@ -15,7 +15,7 @@ const LAST: u64 = 1 << 62;
 
 /// What is kept of a client that had a session.
 #[derive(Clone, Copy)]
-struct KnownClient {
+pub(crate) struct KnownClient {
     is_open: bool,
     counter: Counter,
     /// How many transactions it began.
@@ -42,7 +42,8 @@ impl KnownClient {
 pub struct Register {
     /// The rows of each tenant's clients, by their numbers.
     tenants: Vec<IndexMap<u16, KnownClient>>,
-    seats: u64,
+    /// How many sessions began.
+    pub(crate) seats: u64,
 }
 
 /// The next session of a client.
@@ -91,17 +92,15 @@ impl Register {
         limits: &Limits,
     ) -> Result<Admission, Refusal>
         ensures keeps { KeepsClients self.old self.new }
-        ensures next { IfOk result (λ admission. admission
-            ≡ next_session self.old.seats (known_of self.old tenant client) base) }
-        ensures room { OnOk result (HasRoomFor self.new tenant client) }
+        ensures next { IfOk result (λ admission. HasRoomFor self.new tenant client × (admission
+            ≡ next_session self.old.seats (known_of self.old tenant client) base)) }
         // It is refused exactly by the first of the tests that it does not pass, or else for an allocation failure.
-        ensures refused { (refusal : Why)
-            → admission_test self.old tenant (known_of self.old tenant client) limits.now.clients
+        ensures refused { (refusal : Why) → admission_test self.old.seats
+            (clients_of self.old tenant) (known_of self.old tenant client) limits.now.clients
             ≡ Some refusal → result ≡ Err refusal }
-        ensures passed { admission_test self.old tenant
-            (known_of self.old tenant client) limits.now.clients ≡ None
-            → IfErr result (λ e. e ≡ Refusal.OutOfMemory) }
-        ensures refusals { IfErr result (λ e. is_unopened e ≡ true) }
+        ensures passed { admission_test self.old.seats
+            (clients_of self.old tenant) (known_of self.old tenant client) limits.now.clients
+            ≡ None → IfErr result (λ e. e ≡ Refusal.OutOfMemory) }
     {
         let known = self.known(tenant, client);
         if let Some(refusal) = self.refuses(tenant, &known, limits) {
@@ -115,7 +114,7 @@ impl Register {
     }
 
     /// What is kept of a client, if it had a session.
-    fn known(&self, tenant: u32, client: Client) -> Option<KnownClient>
+    pub(crate) fn known(&self, tenant: u32, client: Client) -> Option<KnownClient>
         ensures { result ≡ known_of self.now tenant client }
     {
         let rows = self.tenants.get(tenant as usize)?;
@@ -124,7 +123,8 @@ impl Register {
 
     /// Why a client of which this is kept may have no session, if it may not.
     fn refuses(&self, tenant: u32, known: &Option<KnownClient>, limits: &Limits) -> Option<Refusal>
-        ensures { result ≡ admission_test self.now tenant known.now limits.now.clients }
+        ensures { result ≡ admission_test self.now.seats
+            (clients_of self.now tenant) known.now limits.now.clients }
     {
         match known {
             Some(row) if row.is_open => return Some(Refusal::Busy),

@@ -133,7 +133,7 @@ pub fn join_all<R: Threads>(rt: &R, threads: Vec<Worker>) -> EndedCount
 /// Starts a worker for each partition, with its shard, which keeps journals or none, and its queue. Where it fails, the threads started so far are in the lists.
 pub fn start_all<
     G: Gate + Naming + Send + Sync + Drop + 'static,
-    S: Sink + Send + Sync + Drop + 'static,
+    S: Sink<G> + Send + Sync + Drop + 'static,
     R: Threads + Wait + Clone + Send + Drop + 'static,
 >(
     rt: &R,
@@ -227,7 +227,7 @@ fn book_of<G: Naming>(
 /// Starts the worker of this shard's partition, which takes these tasks.
 fn start_worker<
     G: Gate + Naming + Send + Sync + Drop + 'static,
-    S: Sink + Send + Sync + Drop + 'static,
+    S: Sink<G> + Send + Sync + Drop + 'static,
     R: Threads + Wait + Clone + Send + Drop + 'static,
 >(
     rt: &R,

@@ -8,6 +8,7 @@ use Rattle.std.proofs.lemmas.List.FromFn.{map-range_with_len_more}
 use Rattle.std.proofs.lemmas.List.Concat.{flat_map-append}
 use Rattle.std.specs.declared.thread.PromisedHandle.{PromisedHandle}
 use Rattle.closed_store.specs.declared.transcript.Transcript.{Transcript}
+use Rattle.hub.specs.declared.clients.Departure.{Departure}
 use Rattle.server_sessions.specs.Telling.{SessionLeft}
 use Rattle.load.specs.declared.seats.LoadSeat.{LoadSeat}
 use Rattle.load.specs.declared.seats.Orders.{Orders}
@@ -24,7 +25,7 @@ one_more_seat tenants seats tenant nth =
 
 -- the thread of a seat, which promised what it leaves
 abbrev pub Handle : Type 0
-Handle = PromisedHandle (Option SessionLeft) LoadSeat
+Handle = PromisedHandle (Option (Option SessionLeft × Departure)) LoadSeat
 
 abbrev pub promised : Handle → ℕ × ℕ
 promised handle = (handle.promise.tenant, handle.promise.number)

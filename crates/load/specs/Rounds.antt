@@ -7,6 +7,7 @@ use Rattle.load.specs.declared.mix.RoundKind.TheVariants.{Put, Get, Find}
 use Rattle.load.specs.declared.mix.DrawnRound.{DrawnRound}
 use Rattle.stamps.specs.declared.record.Item.{Item}
 use Rattle.closed_store.specs.declared.transcript.Transcript.{Transcript}
+use Rattle.hub.specs.declared.clients.Departure.{Departure}
 use Rattle.entry_list.specs.declared.kinds.Entry.{Entry}
 use Rattle.entry_list.specs.declared.kinds.Entry.TheVariants.{Began, Took, Answered}
 use Rattle.plain_store.specs.declared.step.Act.{Act}
@@ -89,6 +90,11 @@ pub record IsOfSeat (seed rounds keys tenant client : ℕ) (transcript : Transcr
   pub of_tenant : transcript.tenant ≡ tenant
   pub of_client : transcript.client ≡ client
   pub drawn : filter_map act_in transcript.entries.items ≡ acts_drawn client keys rounds (first_state seed tenant client)
+
+-- the client's session ended in the register of the hub
+pub record IsGivenBack (tenant client : ℕ) (departure : Departure) : Type 0 where
+  pub its_tenant : departure.tenant ≡ tenant
+  pub its_client : departure.client ≡ client
 
 -- the seats of the first clients of a tenant, so many, in their order
 abbrev pub seats_of_tenant : ℕ → ℕ → List (ℕ × ℕ)

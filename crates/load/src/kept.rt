@@ -20,8 +20,8 @@ pub(crate) struct KeptEpochs<H> {
     came: Arc<Mutex<Vec<(u32, u32, Epoch)>>>,
 }
 
-impl<H: Wait> Sink for KeptEpochs<H> {
-    fn epoch<J: Naming>(&self, partition: u32, tenant: u32, epoch: Epoch, _seen: &Front<J>) {
+impl<J: Naming, H: Wait> Sink<J> for KeptEpochs<H> {
+    fn epoch(&self, partition: u32, tenant: u32, epoch: Epoch, _seen: &Front<J>) {
         // One that finds no memory is missing from then on: `epochs` reports so.
         let _ = self.came.lock(&self.rt).push((partition, tenant, epoch));
     }

@@ -11,9 +11,10 @@ use crate::kept::KeptEpochs;
 use crate::seats::{Orders, run_seats};
 use crate::store::{close_store, open_hub};
 use crate::tally::tell_begun;
-use hub::{Closed, Config, Naming, NewStore, Sink};
+use hub::{Closed, Config, Named, Naming, NewStore, Sink};
 use line_protocol::Name;
 use line_runs::ProgramFault;
+use server_sessions::Open;
 use server_verdicts::tell_verdicts;
 use std::alloc::Global;
 use std::io::Write;
@@ -53,79 +54,73 @@ pub fn run_load<H: Threads + Wait + Clone + Send + Sync + Drop + 'static, W: Wri
         (W.contents writer.old) (W.contents writer.new) result }
 {
     let orders = Orders { seed, rounds, keys };
-    if config.epoch == 0 {
-        load_and_settle(rt, alloc, config, names, seats, orders, writer)
+    let is_cut = config.epoch > 0;
+    let store = NewStore::of(config);
+    if is_cut {
+        load_and_join::<Brand, H, W>(rt, alloc, store, names, seats, orders, writer)
     } else {
-        load_and_join(rt, alloc, config, names, seats, orders, writer)
+        load_and_settle::<Brand, H, W>(rt, alloc, store, names, seats, orders, writer)
     }
 }
 
-/// A load of a store whose journals are kept.
-fn load_and_settle<H: Threads + Wait + Clone + Send + Sync + Drop + 'static, W: Write>(
+/// A load of a store whose journals are kept, and whose history J names.
+fn load_and_settle<
+    J: Naming + Send + Sync + Drop + 'static,
+    H: Threads + Wait + Clone + Send + Sync + Drop + 'static,
+    W: Write,
+>(
     rt: &H,
     alloc: Global,
-    config: Config,
+    store: NewStore,
     names: &[Name],
     seats: u16,
     orders: Orders,
     writer: &mut W,
 ) -> Result<(), ProgramFault>
     requires seats { seats ≤ max_seats }
-    requires never { config.epoch ≡ 0 }
-    ensures { HasLoaded (config_view config)
+    requires journals { store.journals ≡ true }
+    requires name { store.history.seen.book ≡ J.book }
+    requires never { store.config.epoch ≡ 0 }
+    ensures { HasLoaded (config_view store.config)
         (record { seats = seats; rounds = orders.rounds; seed = orders.seed; keys = orders.keys })
         names.now (W.contents writer.old) (W.contents writer.new) result }
 {
-    let closed = run_store(rt, alloc, config, (), seats, orders)?;
+    let closed = run_new::<J, (), H>(rt, alloc, store, (), seats, orders)?;
     tell_load(alloc, &closed, names, writer)
 }
 
-/// A load of a store whose journals are cut, all epochs of which are kept.
-fn load_and_join<H: Threads + Wait + Clone + Send + Sync + Drop + 'static, W: Write>(
+/// A load of a store whose journals are cut, all epochs of which are kept, and whose history J names.
+fn load_and_join<
+    J: Naming + Send + Sync + Drop + 'static,
+    H: Threads + Wait + Clone + Send + Sync + Drop + 'static,
+    W: Write,
+>(
     rt: &H,
     alloc: Global,
-    config: Config,
+    store: NewStore,
     names: &[Name],
     seats: u16,
     orders: Orders,
     writer: &mut W,
 ) -> Result<(), ProgramFault>
     requires seats { seats ≤ max_seats }
-    requires cut { 0 < config.epoch }
-    ensures { HasLoaded (config_view config)
+    requires journals { store.journals ≡ true }
+    requires name { store.history.seen.book ≡ J.book }
+    requires cut { 0 < store.config.epoch }
+    ensures { HasLoaded (config_view store.config)
         (record { seats = seats; rounds = orders.rounds; seed = orders.seed; keys = orders.keys })
         names.now (W.contents writer.old) (W.contents writer.new) result }
 {
     let (kept, sink) = KeptEpochs::open_both(alloc, rt.clone()?, rt.clone()?)?;
-    let closed = run_store(rt, alloc, config, sink, seats, orders)?;
+    let closed = run_new::<J, KeptEpochs<H>, H>(rt, alloc, store, sink, seats, orders)?;
     let epochs = kept.epochs(&closed)?;
     tell_kept(alloc, closed, epochs, names, writer)
 }
 
-/// Opens a store the epochs of which go to this sink, has the seats of its tenants run, and closes it.
-fn run_store<
-    S: Sink + Send + Sync + Drop + 'static,
-    H: Threads + Wait + Clone + Send + Sync + Drop + 'static,
->(
-    rt: &H,
-    alloc: Global,
-    config: Config,
-    sink: S,
-    seats: u16,
-    orders: Orders,
-) -> Result<Closed, ProgramFault>
-    requires { seats ≤ max_seats }
-    ensures { DoneOrRefused (λ closed. IsClosed (config_view config) closed
-        × AreOfSeats orders.seed orders.rounds orders.keys
-        (seats_of (length config.limits.items) seats) closed.transcripts.items) result }
-{
-    run_new::<Brand, S, H>(rt, alloc, NewStore::of(config), sink, seats, orders)
-}
-
-/// Does so for a store whose history J names.
+/// Opens a store whose history J names and the epochs of which go to this sink, has the seats of its tenants run, and closes it.
 fn run_new<
     J: Naming + Send + Sync + Drop + 'static,
-    S: Sink + Send + Sync + Drop + 'static,
+    S: Sink<Named<J, Open>> + Send + Sync + Drop + 'static,
     H: Threads + Wait + Clone + Send + Sync + Drop + 'static,
 >(
     rt: &H,

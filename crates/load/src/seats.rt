@@ -9,10 +9,10 @@ ghost use Rattle.hub.specs.Operations.{IsOperation};
 ghost use Rattle.server_sessions.specs.Histories.{IsGivenIn};
 ghost use Rattle.server_sessions.specs.Ports.{transcripts_of};
 ghost use Rattle.load.specs.Stores.{DoneOrRefused};
-ghost use Rattle.load.specs.Rounds.{AreOfSeats, IsOfSeat, act_in, act_of_round, acts_drawn, seats_of};
+ghost use Rattle.load.specs.Rounds.{AreOfSeats, IsGivenBack, IsOfSeat, act_in, act_of_round, acts_drawn, seats_of};
 
 use crate::mix::{DrawnRound, Draws, RoundKind, four_keys, items_of, tag_of};
-use hub::{Named, Naming};
+use hub::{Departure, Named, Naming};
 use line_runs::ProgramFault;
 use plain_store::{Answer, Refusal};
 use server_sessions::{KeptTranscripts, Open, OpenHub, OpenSeat, SessionLeft};
@@ -34,11 +34,12 @@ pub(crate) struct Orders {
     pub ghost some_keys: { 0 < keys },
 }
 
-/// What the seat of a client left, of a store whose history J names.
-type SeatLeft<J> = SessionLeft<Named<J, Open>>;
+/// What the seat of a client left, of a store whose history J names: nothing where it, or a worker that served it, found no memory. And that
+/// its session has ended at the hub.
+type SeatEnd<J> = (Option<SessionLeft<Named<J, Open>>>, Departure);
 
-/// The seat of a client of a load. Its thread promises its transcript, and what the seat has seen of the store's history; or nothing
-/// where it, or a worker that served it, found no memory.
+/// The seat of a client of a load. Its thread promises its transcript, and what the seat has seen of the store's history, if there was memory
+/// for that; and that its client's number was given back, if it was taken.
 #[derive(Clone, Copy)]
 struct LoadSeat {
     tenant: u32,
@@ -46,12 +47,12 @@ struct LoadSeat {
     orders: Orders,
 }
 
-impl<J: Naming> Promise<Option<SeatLeft<J>>> for LoadSeat {
+impl<J: Naming> Promise<Option<SeatEnd<J>>> for LoadSeat {
     ghost use Rattle.std.specs.Prelude.{IfSome};
     ghost use Rattle.server_sessions.specs.Histories.{IsGivenIn};
-    ghost use Rattle.load.specs.Rounds.{IsOfSeat};
+    ghost use Rattle.load.specs.Rounds.{IsGivenBack, IsOfSeat};
 
-    ghost kept_by = { λ p r. IfSome r (λ its. IsOfSeat p.orders.seed p.orders.rounds p.orders.keys p.tenant p.number its.0 × IsGivenIn its.1 its.0) };
+    ghost kept_by = { λ p r. IfSome r (λ its. IsGivenBack p.tenant p.number its.1 × IfSome its.0 (λ left. IsOfSeat p.orders.seed p.orders.rounds p.orders.keys p.tenant p.number left.0 × IsGivenIn left.1 left.0)) };
 }
 
 /// Has the seats of each tenant run, each in a thread of its own, and answers their transcripts, with what these seats have seen. When it returns,
@@ -109,7 +110,7 @@ pub(crate) fn run_seats<J: Naming + Send + Sync, H: Threads + Wait + Sync>(
 fn join_seats<J: Naming, H: Threads>(
     rt: &H,
     alloc: Global,
-    handles: Vec<PromisedHandle<Option<SeatLeft<J>>, LoadSeat>>,
+    handles: Vec<PromisedHandle<Option<SeatEnd<J>>, LoadSeat>>,
     orders: Orders,
 ) -> Result<KeptTranscripts<Named<J, Open>>, ProgramFault>
     requires { All (λ h. h.promise.orders ≡ orders) handles.items }
@@ -135,7 +136,7 @@ fn join_seats<J: Naming, H: Threads>(
 /// Waits until a seat has done its rounds, and answers whether its transcript could be kept.
 fn join_seat<J: Naming, H: Threads>(
     rt: &H,
-    handle: PromisedHandle<Option<SeatLeft<J>>, LoadSeat>,
+    handle: PromisedHandle<Option<SeatEnd<J>>, LoadSeat>,
     kept: &mut KeptTranscripts<Named<J, Open>>,
 ) -> bool
     ensures kept { result ≡ true
@@ -147,45 +148,48 @@ fn join_seat<J: Naming, H: Threads>(
     ensures same { result ≡ false
         → transcripts_of kept.new ≡ transcripts_of kept.old }
 {
-    match handle.join(rt) {
+    let Some((left, _departure)) = handle.join(rt) else {
+        return false;
+    };
+    match left {
         Some(left) => kept.keep(left),
         None => false,
     }
 }
 
-/// Does the rounds of one client. It answers what its seat left, or nothing where the seat found no memory, or the tenant
+/// Does the rounds of one client. It answers what its seat left, or nothing where it got no seat: where there was no memory, or the tenant
 /// may not have so many clients.
-fn run_seat<J: Naming, H: Wait>(rt: &H, hub: &OpenHub<J>, of: LoadSeat) -> Option<SeatLeft<J>>
-    ensures { IfSome result
-        (λ its. IsOfSeat of.orders.seed of.orders.rounds of.orders.keys of.tenant of.number its.0
-        × IsGivenIn its.1 its.0) }
+fn run_seat<J: Naming, H: Wait>(rt: &H, hub: &OpenHub<J>, of: LoadSeat) -> Option<SeatEnd<J>>
+    ensures { IfSome result (λ its. IsGivenBack of.tenant of.number its.1 × IfSome its.0
+        (λ left. IsOfSeat of.orders.seed of.orders.rounds of.orders.keys of.tenant of.number left.0
+        × IsGivenIn left.1 left.0)) }
 {
     let client = Client::new(of.number)?;
     let base = Counter::new(0)?;
     match hub.seat(rt, of.tenant, client, base) {
         Ok(seat) => {
             let draws = Draws::new(of.orders.seed, of.tenant, of.number);
-            let left = run_rounds(rt, seat, draws, of.orders)?;
-            Some(left)
+            Some(run_rounds(rt, seat, draws, of.orders))
         }
         Err(_) => None,
     }
 }
 
-/// Does so many rounds, and ends the seat. Where a round is refused as no transcript has it, since memory was refused to the seat or to a
-/// worker, it answers nothing, and does no more of them.
+/// Does so many rounds, and ends the seat, which gives its client's number back. Where a round is refused as no transcript has it, since memory
+/// was refused to the seat or to a worker, it does no more of them, and leaves no transcript.
 fn run_rounds<J: Naming, H: Wait>(
     rt: &H,
     seat: OpenSeat<'_, J>,
     draws: Draws,
     orders: Orders,
-) -> Option<SeatLeft<J>>
-    ensures name { IfSome result (λ left. IsNamed left.0 seat.entry.name) }
+) -> SeatEnd<J>
+    ensures name { IsGivenBack seat.entry.name.tenant seat.entry.name.client result.1
+        × IfSome result.0 (λ left. IsNamed left.0 seat.entry.name) }
     // Each reply that it was given has its place in what its seat has seen.
-    ensures given { seat.entry.entries ≡ [] → IfSome result (λ left. IsGivenIn left.1 left.0) }
+    ensures given { seat.entry.entries ≡ [] → IfSome result.0 (λ left. IsGivenIn left.1 left.0) }
     // What it began are just the acts that it drew, in their order.
     ensures began { seat.entry.entries ≡ []
-        → IfSome result
+        → IfSome result.0
         (λ left. filter_map act_in left.0.entries.items
         ≡ acts_drawn seat.entry.name.client orders.keys orders.rounds draws.state) }
 {
@@ -195,12 +199,13 @@ fn run_rounds<J: Naming, H: Wait>(
         let round = draws.round(orders.keys);
         let answer = run_round(rt, &mut seat, done + 1, &round, orders.keys);
         if is_left_out(&answer) {
-            let _ = seat.end(rt);
-            return None;
+            let (_transcript, departure) = seat.end_with_departure(rt);
+            return (None, departure);
         }
     }
     let seen = seat.seen();
-    Some((seat.end(rt), seen))
+    let (transcript, departure) = seat.end_with_departure(rt);
+    (Some((transcript, seen)), departure)
 }
 
 /// Whether no transcript has this answer, since memory or rows were refused.

@@ -15,7 +15,7 @@ use std::thread::Threads;
 /// Opens a hub that nobody watches.
 pub fn open_hub<
     J: Naming + Send + Sync + Drop + 'static,
-    S: Sink + Send + Sync + Drop + 'static,
+    S: Sink<Named<J, Open>> + Send + Sync + Drop + 'static,
     H: Threads + Wait + Clone + Send + Drop + 'static,
 >(rt: &H, alloc: Global, store: NewStore, sink: S) -> Result<OpenHub<J>, ProgramFault>
     requires { store.history.seen.book ≡ J.book }

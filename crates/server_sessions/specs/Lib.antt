@@ -4,6 +4,7 @@ pub mod TenantCounting
 pub mod SeatAnswers
 pub mod Histories
 pub mod Telling
+pub mod Departed
 pub mod Answering
 pub mod Answered
 pub mod Listened

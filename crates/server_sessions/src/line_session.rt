@@ -14,6 +14,7 @@ ghost use Rattle.line_runs.specs.declared.fault.RunFault.TheVariants.{Write as I
 ghost use Rattle.server_sessions.specs.Answered.{BreaksOffIn, IsOfSeat, StaysBehind, TakesBytes, TakesInput};
 ghost use Rattle.server_sessions.specs.declared.line_session.SessionEnd.TheVariants.{Unread};
 ghost use Rattle.server_sessions.specs.Answering.{Greets, IsAnsweredBy, IsEndOfInput, IsGreeted, last_line, no_options, refused_as};
+ghost use Rattle.server_sessions.specs.Departed.{GivesBack};
 ghost use Rattle.server_sessions.specs.Counting.{IsCounted, counted_last, counted_said};
 ghost use Rattle.server_sessions.specs.Promised.{AnswersLine, EndsAtLine, HasRun, KeepsTelling, MayAnswer};
 ghost use Rattle.server_sessions.specs.Receipts.{IsRunBy, kept_of};
@@ -26,7 +27,7 @@ use crate::given::{Given, ask_seat, put_answer};
 use crate::open_seat::open_seat;
 use crate::session_options::SessionOptions;
 use bytes::BytesMut;
-use hub::{Front, Gate, Hub, Naming, Seat, Transcript};
+use hub::{Departure, Front, Gate, Hub, Naming, Seat, Transcript};
 use line_protocol::{
     LINE_LIMIT, Lines, Name, Request, read_serve_line, tenant_number, write_bye, write_refusal,
 };
@@ -48,13 +49,14 @@ struct Terms<'s> {
     counts: Option<&'s AnswerCounts>,
 }
 
-/// The receipt of a session that was run, and what it left: by which store its lines were answered, and on which terms. `run_session_as`
-/// alone makes one.
+/// The receipt of a session that was run, and what it left: by which store its lines were answered, and on which terms. If it opened a seat, that
+/// has left the hub: its client's number is free again. `run_session_as` alone makes one.
 #[derive(Drop)]
 pub struct SessionRun<'s, G: Naming> {
     hub: &'s Hub<G>,
     terms: Terms<'s>,
     left: Option<SessionLeft<G>>,
+    departure: Option<Departure>,
 }
 
 impl<G: Naming> SessionRun<'_, G> {
@@ -175,8 +177,13 @@ pub fn run_session_as<'s, G: Gate + Naming, H: Wait, R: Read, W: Write>(
         counts,
     };
     let Ok(mut out) = BytesMut::with_capacity(alloc, GATHERED) else {
-        let left = None;
-        return (SessionRun { hub, terms, left }, Err(RunFault::OutOfMemory));
+        let run = SessionRun {
+            hub,
+            terms,
+            left: None,
+            departure: None,
+        };
+        return (run, Err(RunFault::OutOfMemory));
     };
     let mut connection = Connection {
         alloc,
@@ -188,24 +195,30 @@ pub fn run_session_as<'s, G: Gate + Naming, H: Wait, R: Read, W: Write>(
     let ended = answer_lines(rt, hub, &mut connection, &mut out, reader, writer);
     let tenant = connection.tenant();
     let terms = connection.terms;
-    let left = end_seat(rt, connection.seat, terms.counts);
+    let (left, departure) = end_seat(rt, connection.seat, terms.counts);
+    let run = SessionRun {
+        hub,
+        terms,
+        left,
+        departure,
+    };
     match ended {
         Ok(ending) => {
             let counted = count_last(ending, tenant, terms.counts);
             let ended = finish(ending, tenant, terms.counts, counted, &mut out, writer);
-            (SessionRun { hub, terms, left }, ended)
+            (run, ended)
         }
-        Err(fault) => (SessionRun { hub, terms, left }, Err(fault)),
+        Err(fault) => (run, Err(fault)),
     }
 }
 
-// Ends the seat, if one was opened, and counts that where answers are counted.
+// Ends the seat, if one was opened, which gives its client's number back, and counts that where answers are counted.
 fn end_seat<G: Gate + Naming, H: Wait>(
     rt: &H,
     seat: Option<Seat<'_, G>>,
     counts: Option<&AnswerCounts>,
-) -> Option<SessionLeft<G>>
-    ensures { IsOfSeat 0 seat.entry result }
+) -> (Option<SessionLeft<G>>, Option<Departure>)
+    ensures { IsOfSeat 0 seat.entry result.0 × GivesBack result.0 result.1 }
 {
     match seat {
         Some(seat) => {
@@ -213,9 +226,10 @@ fn end_seat<G: Gate + Naming, H: Wait>(
                 counts.count_end(seat.tenant());
             }
             let seen = seat.seen();
-            Some((seat.end(rt), seen))
+            let (transcript, departure) = seat.end_with_departure(rt);
+            (Some((transcript, seen)), Some(departure))
         }
-        None => None,
+        None => (None, None),
     }
 }
 

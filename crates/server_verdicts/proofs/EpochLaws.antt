@@ -19,7 +19,7 @@ use Rattle.closed_store.specs.Joins.{AreInTurn, AreRightReplies, IsNextOf, event
 use Rattle.server_verdicts.specs.declared.epochs.checked.Standing.{Standing}
 use Rattle.server_verdicts.specs.declared.epochs.checked.Standing.TheVariants.{Right, Wrong}
 use Rattle.server_verdicts.specs.declared.epochs.ending.Ending.{Ending}
-use Rattle.server_verdicts.specs.Judged.{AreWhole, IsRight, IsWrong}
+use Rattle.server_verdicts.specs.Judged.{IsRight, IsWrong}
 use Rattle.server_verdicts.specs.Taken.{AreRight, IsNextEpoch, LeadTo, SomeLead}
 use Rattle.server_verdicts.proofs.EndingLaws.{before_or_last}
 
@@ -108,7 +108,7 @@ module _ (limits : Limits) (number : ℕ) (end : Frozen) (epochs : List Epoch) (
           subst (IsNextOf room (place + 1) (events_of (take place more))) last.1 there
 
   -- the epochs with the one that follows them are right
-  pub right_with : AreRight limits more
+  right_with : AreRight limits more
   right_with = record {
     in_turn = in_turn;
     sound = All-append (λ (e : Epoch). IsSoundFrom e.base e.events.items) epochs (epoch ∷ []) led.right.sound
@@ -145,11 +145,6 @@ pub not_next : (number : ℕ) (end after : Frozen) (epoch : Epoch) (follows : Bo
 not_next number end after epoch follows stays is exact next =
     let yes : follows ≡ true = exact.1 (subst (λ (e : Frozen). IsNextEpoch number e epoch) stays next) in absurd (let clash : false ≡ true = sym is ∙ yes in cc)
 
-pub some_whole : (limits : Limits) (ending : Ending) → SomeLead limits ending.checked.number ending.checked.end → IsNextEpoch ending.checked.number ending.checked.end ending.epoch
-    → ∥ ((epochs : List Epoch) × AreWhole limits ending epochs) ∥₁
-some_whole limits ending some next =
-    ∥∥₁_map some (λ led. (led.0, (led.1, right_with limits ending.checked.number ending.checked.end led.0 ending.epoch led.1 next)))
-
 -- an epoch that was taken did not follow, where the journal is wrong
 that_fell : (number : ℕ) (end : Frozen) (standing : Standing) (wrong : Option Epoch) → ∥ (standing ≡ Wrong → IsSomeAnd wrong (λ epoch. IsNextEpoch number end epoch → ⊥)) ∥₁ → standing ≡ Wrong
     → (epoch : Epoch) × (wrong ≡ Some epoch) × (IsNextEpoch number end epoch → ⊥)
@@ -171,4 +166,4 @@ pub last_told : {X : Type 0} (limits : Limits) (ending : Ending) (end : Option X
 last_told limits ending None same is exact =
     record { under = same; led = led_under limits ending same; epoch = ending.epoch; fallen = inr (is, refl); bad = λ next. absurd (let none : false ≡ true = exact.1 next in cc) }
 last_told limits ending (Some x) same is exact =
-    record { under = same; standing = is; follows = exact.0 refl; whole = some_whole limits ending (led_under limits ending same) (exact.0 refl) }
+    record { under = same; standing = is; follows = exact.0 refl }

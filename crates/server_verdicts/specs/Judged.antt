@@ -1,5 +1,5 @@
 -- Whether the journals that were left of a tenant are right.
-use Rattle.std.specs.Prelude.{◌≡◌, ◌≢◌, ◌⊎◌, ◌++◌, ℕ, Bool, true, false, List, [], ◌∷◌, Option, Result}
+use Rattle.std.specs.Prelude.{◌≡◌, ◌≢◌, ◌⊎◌, ℕ, Bool, true, false, List, [], Option, Result}
 use Rattle.std.specs.Prelude.{Some, None, slice_get}
 use Rattle.std.specs.Prelude.{codes, length}
 use Rattle.std.specs.Global.{Vec}
@@ -12,7 +12,7 @@ use Rattle.server_verdicts.specs.declared.epochs.ending.LastEpochs.{LastEpochs}
 use Rattle.line_runs.specs.declared.fault.ProgramFault.{ProgramFault}
 use Rattle.server_verdicts.specs.declared.epochs.checked.Checked.{Checked}
 use Rattle.server_verdicts.specs.declared.epochs.checked.Standing.TheVariants.{Right, Wrong, Unknown}
-use Rattle.server_verdicts.specs.Taken.{AreRight, IsNextEpoch, LeadTo, SomeLead}
+use Rattle.server_verdicts.specs.Taken.{IsNextEpoch, SomeLead}
 use Rattle.server_verdicts.specs.Verdicts.{TellsEach}
 
 -- for each journal there is an ending, whose epoch is the one that is left in it
@@ -50,19 +50,12 @@ AreEnded HasEnded known rows =
     (partition : ℕ) (row : Vec Ending) → slice_get rows partition ≡ Some row
     → AreEndedIn HasEnded (known_there (slice_get known partition)) row.items
 
--- they are the epochs that were taken, as many as this number says and leading to this end; and the one that was left is
--- right after them, in turn from the first one on
-abbrev pub AreWhole : Limits → Ending → List Epoch → Type 0
-AreWhole limits ending epochs =
-    LeadTo limits ending.checked.number ending.checked.end epochs × AreRight limits (epochs ++ ending.epoch ∷ [])
-
--- The journal is under these limits, and of its epochs each was taken that came, and was right. The one that was left
--- follows the last of them: it has the next number, begins at its end, and is sound.
+-- The journal is under these limits, and of its epochs each was taken that came, and was right: they lead to its number and its end, as
+-- each `Checked` says. The one that was left follows the last of them: it has the next number, begins at its end, and is sound.
 pub record IsRight (limits : Limits) (ending : Ending) : Type 0 where
   pub under : ending.checked.limits ≡ limits
   pub standing : ending.checked.standing ≡ Right
   pub follows : IsNextEpoch ending.checked.number ending.checked.end ending.epoch
-  pub whole : ∥ ((epochs : List Epoch) × AreWhole limits ending epochs) ∥₁
 
 -- the epoch that is wrong: one that was taken, since when the journal is wrong; or the one that was left, where each that
 -- was taken was right

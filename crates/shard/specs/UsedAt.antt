@@ -21,18 +21,6 @@ AreUsagesOf _ _ _ = ⊥
 abbrev pub IsAt : (parts partition its at : ℕ) → List Account → Type 0
 IsAt parts partition its at accounts = (its ≡ parts) × (at ≡ partition) × (length accounts ≤ max_tenants)
 
--- What stood behind a lock was not the state of that partition: it was another one's, or of another number, or with more tenants.
-pub record WasNotAt (parts partition : ℕ) : Type 0 where
-  pub its : ℕ
-  pub at : ℕ
-  pub accounts : List Account
-  pub journals : ∥ AreOf its at accounts ∥₁
-  pub elsewhere : IsAt parts partition its at accounts → ⊥
-
--- there was such a state
-abbrev pub WasElsewhere : ℕ → ℕ → Type 0
-WasElsewhere parts partition = ∥ WasNotAt parts partition ∥₁
-
 -- The partition, one of so many, had these accounts and so many collections of each tenant at one moment, and the numbers are those of
 -- this moment.
 pub record WereUsedAt (parts partition : ℕ) (usages : List TenantUsage) : Type 0 where

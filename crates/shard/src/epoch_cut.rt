@@ -149,7 +149,7 @@ impl Search {
 }
 
 /// Hands an epoch that was cut to the sink.
-pub fn hand_over<J: Naming, S: Sink>(sink: &S, cut: CutEpoch<J>)
+pub fn hand_over<J: Naming, S: Sink<J>>(sink: &S, cut: CutEpoch<J>)
     ensures { S.has_taken sink.now cut.partition cut.tenant cut.epoch }
 {
     let CutEpoch {

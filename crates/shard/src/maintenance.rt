@@ -25,7 +25,7 @@ pub fn collect_at<J: Naming, R: Wait>(rt: &R, shard: &Shard<J>) -> Round
 
 /// Cuts each journal that has so many events, and hands its epoch to the sink once the lock is released. What could not be cut
 /// is tried again after the next task.
-pub fn cut_all<J: Naming, S: Sink, R: Wait>(rt: &R, shard: &Shard<J>, sink: &S) -> Search
+pub fn cut_all<J: Naming, S: Sink<J>, R: Wait>(rt: &R, shard: &Shard<J>, sink: &S) -> Search
     requires { 0 < shard.now.config.epoch }
     ensures over { result.is_over ≡ true }
 {

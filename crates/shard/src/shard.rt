@@ -140,7 +140,6 @@ impl FollowUp {
 
 impl<J: Naming> Shard<J> {
     ghost use Rattle.shard.specs.Held.{HasItsJournals, IsHandedOut};
-    ghost use Rattle.shard.specs.UsedAt.{WasElsewhere};
 
     /// A partition with this book, whose journals are its own. What it begins with behind its lock is that of `ShardState::new`.
     pub fn new(config: ShardConfig, collector: Arc<Collector>, book: TracedBook<J>) -> Shard<J>
@@ -220,8 +219,7 @@ impl<J: Naming> Shard<J> {
         seen: &mut Front<J>,
     ) -> u64
         ensures seen { IsPrefix seen.old seen.new }
-        ensures calls { (result ≡ count (partition + 1) seen.new)
-            ⊎ ((result ≡ 0) × WasElsewhere parts partition) }
+        ensures calls { (result ≡ count (partition + 1) seen.new) ⊎ (result ≡ 0) }
     {
         let guard = self.lock(rt);
         let state = &*guard;

@@ -1,6 +1,6 @@
 //! How much the tenants use of a partition.
-ghost use Rattle.std.specs.Prelude.{◌≡◌, ◌≤◌, ◌↔◌, false, length, IfOk, IsTrue};
-ghost use Rattle.shard.specs.UsedAt.{AreUsagesAt, AreUsagesOf, IsAt, WasElsewhere};
+ghost use Rattle.std.specs.Prelude.{◌≤◌, ◌↔◌, length, IfOk, IsTrue};
+ghost use Rattle.shard.specs.UsedAt.{AreUsagesAt, AreUsagesOf, IsAt};
 ghost use Rattle.stamps.specs.Limits.{max_tenants};
 
 use crate::shard::{Shard, ShardState};
@@ -70,8 +70,6 @@ impl<J: Naming> Shard<J> {
     ) -> Result<bool, AllocError>
         ensures used { IfOk result (λ is_there. IsTrue is_there
             → AreUsagesAt parts partition usages.new.items) }
-        ensures elsewhere { IfOk result (λ is_there. is_there ≡ false
-            → WasElsewhere parts partition) }
     {
         // Memory is asked for before the lock.
         usages.clear();

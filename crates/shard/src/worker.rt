@@ -63,7 +63,7 @@ pub struct WorkEnded {
 }
 
 /// Does what it is sent until no end sends any more. After each task it cuts the journals that have `epoch` events.
-pub fn work<J: Naming, G: Gate, S: Sink, R: Wait>(
+pub fn work<J: Naming, G: Gate, S: Sink<J>, R: Wait>(
     rt: &R,
     mut tasks: JobReceiver<J>,
     shard: &Shard<J>,
@@ -92,7 +92,7 @@ pub fn work<J: Naming, G: Gate, S: Sink, R: Wait>(
 
 /// Serves a call and sends the reply. A journal that is full is cut first, under the same lock, and its epoch goes to the sink
 /// after the reply.
-fn serve_job<J: Naming, G: Gate, S: Sink, T: ReplyTo<SeatReply<J>>, R: Wait>(
+fn serve_job<J: Naming, G: Gate, S: Sink<J>, T: ReplyTo<SeatReply<J>>, R: Wait>(
     rt: &R,
     shard: &Shard<J>,
     gate: &G,

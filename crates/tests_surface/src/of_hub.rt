@@ -28,8 +28,8 @@ impl Gate for Watcher {
 #[derive(Drop)]
 struct Keeper;
 
-impl Sink for Keeper {
-    fn epoch<J: Naming>(&self, _partition: u32, _tenant: u32, _epoch: Epoch, _seen: &Front<J>) {}
+impl<J: Naming> Sink<J> for Keeper {
+    fn epoch(&self, _partition: u32, _tenant: u32, _epoch: Epoch, _seen: &Front<J>) {}
 }
 
 /// A store of two partitions and one tenant.

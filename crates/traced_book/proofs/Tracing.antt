@@ -199,10 +199,10 @@ module _ (front seen now : List HistoryEntry) (partition key entries calls found
       still_traced front seen now partition accounts legal other first second same equal traced
 
   -- it has more than the book
-  pub more_served : IsLegal now → entries ≡ calls → found ≢ calls → WereMoreServed front partition
-  more_served legal entered apart =
+  pub more_served : entries ≡ calls → found ≢ calls → WereMoreServed front now partition
+  more_served entered apart =
       let more : count key front < count key now = omega (arith, count_later key front now first, counted, entered, apart, looked) in
-      record { log = now; legal = legal; later = first; more = subst (λ (k : ℕ). count k front < count k now) word more }
+      (first, subst (λ (k : ℕ). count k front < count k now) word more)
 
 -- ---- an epoch that is cut
 
@@ -363,18 +363,18 @@ opened_traced (Served served ∷ log) partition opens tenant account is = absurd
 
 pub entered_or_not : (b : Bool) (k entries : ℕ) (asked : CallToServe) (mine start evidence now : List HistoryEntry) → entries < 2 ^ 62 → start ≡ mine → count k mine ≡ entries
     → IsPrefix start now → IsPrefix evidence now → MatchBool b (IsAdded k entries (served_by asked) start now) (IsOvertaken k entries now)
-    → (IsTrue b → IsPrefix evidence (but_last now)) → MatchBool b (HasEntered k entries asked mine evidence now) (TakesNoEntry k mine)
+    → (IsTrue b → IsPrefix evidence (but_last now)) → MatchBool b (HasEntered k entries asked mine evidence now) (TakesNoEntry k mine now)
 entered_or_not true k entries asked mine start evidence now few same counted pre shown added behind =
     record { few = few; added = subst (λ (l : List HistoryEntry). IsAdded k entries (served_by asked) l now) same added; shown = shown; behind = behind refl }
 entered_or_not false k entries asked mine start evidence now few same counted pre shown other behind = none_taken k entries mine start now same counted pre other
 
 -- a book that passes a fault on refuses so
-pub refused_so : (r : Result ℕ Refusal) (e : Refusal) (A B : Type 0) → (A → B) → ((e ≡ Late) ⊎ ((e ≡ OutOfMemory) ⊎ ((e ≡ NoTenant) × A))) → IsErrAnd r (λ x. x ≡ e)
-    → IfErr r (λ x. (x ≡ Late) ⊎ ((x ≡ OutOfMemory) ⊎ ((x ≡ NoTenant) × B)))
-refused_so (Ok x) e A B f told is = absurd is
-refused_so (Err x) e A B f (inl late) is = inl (is ∙ late)
-refused_so (Err x) e A B f (inr (inl memory)) is = inr (inl (is ∙ memory))
-refused_so (Err x) e A B f (inr (inr other)) is = inr (inr (is ∙ other.0, f other.1))
+pub refused_so : (r : Result ℕ Refusal) (e : Refusal) (A : Type 0) → ((e ≡ Late) ⊎ ((e ≡ OutOfMemory) ⊎ ((e ≡ NoTenant) × A))) → IsErrAnd r (λ x. x ≡ e)
+    → IfErr r (λ x. (x ≡ Late) ⊎ ((x ≡ OutOfMemory) ⊎ (x ≡ NoTenant)))
+refused_so (Ok x) e A told is = absurd is
+refused_so (Err x) e A (inl late) is = inl (is ∙ late)
+refused_so (Err x) e A (inr (inl memory)) is = inr (inl (is ∙ memory))
+refused_so (Err x) e A (inr (inr other)) is = inr (inr (is ∙ other.0))
 
 -- ---- what serving a call comes to
 

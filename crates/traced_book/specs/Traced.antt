@@ -10,7 +10,6 @@ use Rattle.partition.specs.Journals.{log_after, room_for}
 use Rattle.history.specs.declared.entry.HistoryEntry.{HistoryEntry}
 use Rattle.history.specs.declared.entry.ServedCall.{ServedCall}
 use Rattle.history.specs.Entries.{calls_of, count, room_of, served_at}
-use Rattle.history.specs.Legal.{IsLegal}
 
 -- an event of a tenant's journal at a partition, as a call of the history
 abbrev pub served_of : ℕ → ℕ → Event → ServedCall
@@ -55,9 +54,6 @@ pub record IsLatestEpoch (log : List HistoryEntry) (partition tenant : ℕ) (epo
   pub stretch : IsStretch log partition tenant (record { number = epoch.number; before = before; base = epoch.base }) epoch.events.items
   pub latest : length (served_at tenant partition log) ≡ before + length epoch.events.items
 
--- a longer history has more calls of the partition than were seen
-pub record WereMoreServed (seen : List HistoryEntry) (partition : ℕ) : Type 0 where
-  pub log : List HistoryEntry
-  pub legal : IsLegal log
-  pub later : IsPrefix seen log
-  pub more : count (partition + 1) seen < count (partition + 1) log
+-- what was found of the history has more calls of the partition than were seen
+abbrev pub WereMoreServed : (seen found : List HistoryEntry) (partition : ℕ) → Type 0
+WereMoreServed seen found partition = IsPrefix seen found × (count (partition + 1) seen < count (partition + 1) found)

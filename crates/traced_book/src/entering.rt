@@ -34,7 +34,7 @@ impl<'t, 'm, 'e, 'c, J: Naming> CallAdmission for Entering<'t, 'm, 'e, 'c, J> {
 
     ghost admits = { λ before after. HasEntered before.tally.now.key before.entries before.asked before.mine.now before.evidence.now after.now };
 
-    ghost refuses = { λ before after. TakesNoEntry before.tally.now.key before.mine.now };
+    ghost refuses = { λ before after. TakesNoEntry before.tally.now.key before.mine.now after.now };
 
     fn admit(&mut self) -> bool {
         if self.entries >= MOST {

@@ -1,5 +1,5 @@
 //! A partition's cells, with journals or without, beside what was seen of the history.
-ghost use Rattle.std.specs.Prelude.{◌≡◌, ◌≢◌, ◌⊎◌, ◌+◌, ◌<◌, ◌≤◌, ◌↔◌, map, length, slice_get, false, true, None, Some, IfOk, IfErr, IfSome, OnErr, IsErrOf, IsSomeAnd};
+ghost use Rattle.std.specs.Prelude.{◌≡◌, ◌≢◌, ◌⊎◌, ◌+◌, ◌<◌, ◌≤◌, ◌↔◌, map, length, slice_get, false, true, Some, IfOk, IfErr, OnErr, IsErrOf, IsSomeAnd};
 ghost use mathlib.Core.List.{IsPrefix};
 ghost use Rattle.stamps.specs.Limits.{max_parts};
 ghost use Rattle.partition.specs.Accounts.{Account, events_at, new_account, IsCut, IsPastAt};
@@ -7,7 +7,7 @@ ghost use Rattle.partition.specs.Journals.{IsLate};
 ghost use Rattle.partition.specs.Used.{IsUsageOf};
 ghost use Rattle.history.specs.Entries.{count, limits_of, StandsBehind};
 ghost use Rattle.history.specs.Legal.{MayServe};
-ghost use Rattle.history.specs.Rules.{TakesNoEntry, is_opening};
+ghost use Rattle.history.specs.Rules.{is_opening};
 ghost use Rattle.traced_book.specs.Forgetting.{AreBegunAnew, TakesCall};
 ghost use Rattle.traced_book.specs.Traced.{AreTraced, IsLatestEpoch, WereMoreServed};
 
@@ -140,14 +140,15 @@ impl<J: Naming> TracedBook<J> {
         seen.look(&self.tally)
     }
 
-    /// The book, where journals are kept, it entered just so many calls and the history, as it is now, has no more of its partition; else
-    /// None. What was seen has as many of it, so all that it has of the partition are in the book, or in epochs that were cut off it.
-    pub fn into_book(self, seen: &Front<J>, calls: u64) -> Option<Book>
+    /// The book, where journals are kept, it entered just so many calls and the history, as it is now, has no more of its partition. What
+    /// was seen has as many of it, so all that it has of the partition are in the book, or in epochs that were cut off it. Else it
+    /// returns what was found of the history: it has more of the partition, where the book entered just so many and journals are kept.
+    pub fn into_book(self, seen: &Front<J>, calls: u64) -> Result<Book, Front<J>>
         requires calls { calls ≤ count (self.partition + 1) seen.now }
-        ensures whole { IfSome result
+        ensures whole { IfOk result
             (λ book. (book ≡ self.accounts) × AreTraced seen.now self.partition book) }
-        ensures others { result ≡ None → (calls ≢ count (self.partition + 1) self.seen)
-            ⊎ (WereMoreServed self.seen self.partition ⊎ (self.journals ≡ false)) }
+        ensures others { IfErr result (λ found. (calls ≢ count (self.partition + 1) self.seen)
+            ⊎ (WereMoreServed self.seen found self.partition ⊎ (self.journals ≡ false))) }
     {
         let TracedBook {
             partition: _,
@@ -156,16 +157,19 @@ impl<J: Naming> TracedBook<J> {
             entries,
             front,
         } = self;
-        if entries != calls {
-            return None;
-        }
         let mut now = front.again();
+        if entries != calls {
+            return Err(now);
+        }
         now.learn(&seen.again());
         let found = now.look(&tally);
         if found != calls {
-            return None;
+            return Err(now);
         }
-        kept.into_book()
+        match kept.into_book() {
+            Some(book) => Ok(book),
+            None => Err(now),
+        }
     }
 
     /// Has a tenant's cell serve a call, enters its event, if journals are kept, and enters the call into the history. Writes the reply
@@ -203,8 +207,7 @@ impl<J: Naming> TracedBook<J> {
         ensures late { IsErrOf result Refusal.Late
             ↔ IsLate (events_at self.old.accounts tenant) caller.seat caller.number }
         ensures refusals { IfErr result (λ e. (e ≡ Refusal.Late)
-            ⊎ ((e ≡ Refusal.OutOfMemory)
-            ⊎ ((e ≡ Refusal.NoTenant) × TakesNoEntry (self.old.partition + 1) self.old.seen))) }
+            ⊎ ((e ≡ Refusal.OutOfMemory) ⊎ (e ≡ Refusal.NoTenant))) }
         ensures unchanged { OnErr result ((self.new ≡ self.old) × (reply.new ≡ reply.old)
             × (evidence.new ≡ evidence.old)) }
     {

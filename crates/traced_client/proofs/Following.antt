@@ -1,5 +1,5 @@
 -- What a client has of the history, from one step to the next.
-use Rattle.std.proofs.Common.{◌≡◌, ◌∙◌, ℕ, ◌+◌, ◌<◌, ◌≤◌, ◌⊎◌, ◌↔◌, Bool, true, false, List, [], ◌∷◌, ◌++◌, length, length-append, ⊎_elim, inl, inr, refl, ap, sym, subst, arith, append_assoc}
+use Rattle.std.proofs.Common.{◌≡◌, ◌∙◌, ℕ, ◌+◌, ◌^◌, ◌<◌, ◌≤◌, ◌⊎◌, ◌↔◌, Bool, true, false, List, [], ◌∷◌, ◌++◌, length, length-append, ⊎_elim, inl, inr, refl, ap, sym, subst, arith, append_assoc}
 use Rattle.std.specs.Prelude.{IsTrue}
 use Rattle.std.proofs.lemmas.Bool.{both_ways}
 use Rattle.std.proofs.lemmas.Bool.Decides.{eqb_tells}
@@ -19,7 +19,7 @@ use Rattle.history.specs.Rules.{IsAdded}
 use Rattle.history.proofs.Counts.{count_later, equal_test, own_append, own_one, own_same}
 use Rattle.history.proofs.Lists.{last_in, prefix_has, prefix_join, prefix_of_itself, prefix_of_more, prefixes_compare}
 use Rattle.history.proofs.Steps.{before_added}
-use Rattle.traced_client.specs.Clients.{CannotEnd, ClientTrace, HasReadEntry, HasWith, IsTracedClient}
+use Rattle.traced_client.specs.Clients.{CannotBegin, CannotEnd, ClientTrace, HasReadEntry, HasWith, IsTracedClient}
 
 -- the entry is behind those of the word that were seen
 pub own_added : (k entries : ℕ) (e : HistoryEntry) (seen now : List HistoryEntry) → is_of k e ≡ true → count k seen ≡ entries → IsAdded k entries e seen now
@@ -190,10 +190,17 @@ traced_ended d client last was entries e seen now which at its one counted a =
     low o (inr same) (inr is) = let both : GivenUp o ≡ GivenUp d = same ∙ is in let eq : o ≡ d = cc in omega (arith, ap (λ (x : Decision). x.stamp) eq, at)
 
 -- a put that is not the client's last one or may not end
-pub cannot_end : (stamp : ℕ) (its : ClientTrace) (b : Bool) → b ≡ false → IsTrue b ↔ ((stamp ≡ its.last) × MayEnd (own its.word its.seen) (record { word = its.word; tenant = its.tenant; stamp = stamp }))
-    → CannotEnd stamp its
-cannot_end stamp its b not exact =
+pub cannot_end : (stamp : ℕ) (its : ClientTrace) (found : List HistoryEntry) (b : Bool) → b ≡ false
+    → IsTrue b ↔ ((stamp ≡ its.last) × MayEnd (own its.word its.seen) (record { word = its.word; tenant = its.tenant; stamp = stamp })) → CannotEnd stamp its found
+cannot_end stamp its found b not exact =
     ⊎_elim (λ same. inr (inl (λ may. both_ways b not (exact.1 (same.1, may))))) (λ apart. inl apart.1) (eqb_tells stamp its.last)
+
+-- under a word that has as many entries as it can have, no put begins or ends
+pub full_begin : (stamp : ℕ) (its : ClientTrace) (found : List HistoryEntry) → 2 ^ 62 ≤ count its.word its.seen → CannotBegin stamp its found
+full_begin stamp its found full = inr (inr (inl full))
+
+pub full_end : (stamp : ℕ) (its : ClientTrace) (found : List HistoryEntry) → 2 ^ 62 ≤ count its.word its.seen → CannotEnd stamp its found
+full_end stamp its found full = inr (inr (inl full))
 
 -- a client that has just arrived wrote nothing
 pub traced_new : (word tenant client : ℕ) (seen : List HistoryEntry) → max_parts < word → Joined (record { word = word; tenant = tenant; client = client }) ∈ seen

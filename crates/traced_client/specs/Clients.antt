@@ -46,15 +46,16 @@ pub record IsSameClient (old new : ClientTrace) : Type 0 where
 abbrev pub HasJoined : ℕ → ClientTrace → Type 0
 HasJoined word its = Joined (record { word = word; tenant = its.tenant; client = its.client }) ∈ its.seen
 
--- no write of the client begins under the stamp: it is another client's, or not above that of the last write, or no entry is taken
-abbrev pub CannotBegin : ℕ → ClientTrace → Type 0
-CannotBegin stamp its = (client_of stamp ≢ its.client) ⊎ ((stamp ≤ its.last) ⊎ TakesNoEntry its.word its.seen)
+-- no write of the client begins under the stamp: it is another client's, or not above that of the last write, or no entry is taken, by what
+-- was found of the history
+abbrev pub CannotBegin : ℕ → ClientTrace → List HistoryEntry → Type 0
+CannotBegin stamp its found = (client_of stamp ≢ its.client) ⊎ ((stamp ≤ its.last) ⊎ TakesNoEntry its.word its.seen found)
 
--- the write of the stamp does not end: it is not the client's last one, or has ended, or no entry is taken
-abbrev pub CannotEnd : ℕ → ClientTrace → Type 0
-CannotEnd stamp its =
+-- the write of the stamp does not end: it is not the client's last one, or has ended, or no entry is taken, by what was found of the history
+abbrev pub CannotEnd : ℕ → ClientTrace → List HistoryEntry → Type 0
+CannotEnd stamp its found =
     (stamp ≢ its.last)
-    ⊎ ((MayEnd (own its.word its.seen) (record { word = its.word; tenant = its.tenant; stamp = stamp }) → ⊥) ⊎ TakesNoEntry its.word its.seen)
+    ⊎ ((MayEnd (own its.word its.seen) (record { word = its.word; tenant = its.tenant; stamp = stamp }) → ⊥) ⊎ TakesNoEntry its.word its.seen found)
 
 -- what has the mark has all of this, if it and what was seen are beginnings of one history
 abbrev pub HasWith : Mark → (seen evidence : List HistoryEntry) → Type 0

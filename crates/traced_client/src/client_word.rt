@@ -1,5 +1,5 @@
 //! A client's word beside what the client has seen of the history.
-ghost use Rattle.std.specs.Prelude.{◌≡◌, ◌<◌, ◌↔◌, [], ◌∷◌, cond, IfNone, IfSome, IsTrue, false};
+ghost use Rattle.std.specs.Prelude.{◌≡◌, ◌<◌, ◌↔◌, [], ◌∷◌, IfErr, IfOk, IsTrue, OnErr, OnOk};
 ghost use mathlib.Core.List.{IsPrefix};
 ghost use Rattle.stamps.specs.Limits.{max_parts};
 ghost use Rattle.plain_store.specs.Words.{◌∈◌};
@@ -77,27 +77,27 @@ impl<J: Naming> TracedClient<J> {
         self.tenant == tenant && self.client == client
     }
 
-    /// Enters that a write of the client began under this stamp, and says whether it did. It did not where the stamp is another
-    /// client's, or not above that of the client's last write, and where the client has other entries than were seen here, or 2^62.
-    /// Then nothing has changed.
-    pub fn begin(&mut self, stamp: Stamp, items: &[Item]) -> bool
-        ensures began { IsTrue result
-            → Began
-            (record { word = self.old.word; tenant = self.old.tenant; stamp = stamp; items = items.now }) ∈ self.new.seen }
-        ensures entered { IsTrue result
-            → IsEntered
+    /// Enters that a write of the client began under this stamp. It does not where the stamp is another client's, or not above that of
+    /// the client's last write, and where the client has other entries than were seen here, or 2^62. Then nothing has changed, and what
+    /// was found of the history is returned: it has those other entries.
+    pub fn begin(&mut self, stamp: Stamp, items: &[Item]) -> Result<(), Front<J>>
+        ensures began { OnOk result
+            (Began
+            (record { word = self.old.word; tenant = self.old.tenant; stamp = stamp; items = items.now }) ∈ self.new.seen) }
+        ensures entered { OnOk result
+            (IsEntered
             (Began (record { word = self.old.word; tenant = self.old.tenant; stamp = stamp; items = items.now }))
-            self.old self.new }
-        ensures last { self.new.last ≡ cond result stamp self.old.last }
+            self.old self.new) }
+        ensures last { OnOk result (self.new.last ≡ stamp) }
         ensures whose { IsSameClient self.old self.new }
-        ensures refused { result ≡ false → CannotBegin stamp self.old }
-        ensures unchanged { result ≡ false → self.new ≡ self.old }
+        ensures refused { IfErr result (CannotBegin stamp self.old) }
+        ensures unchanged { OnErr result (self.new ≡ self.old) }
     {
         if stamp.client() != self.client.get() || stamp.number() <= self.last.number() {
-            return false;
+            return Err(self.front.again());
         }
         if self.entries >= MOST {
-            return false;
+            return Err(self.front.again());
         }
         let begun = WriteToBegin {
             word: self.tally.key,
@@ -107,39 +107,39 @@ impl<J: Naming> TracedClient<J> {
         };
         let mut front = self.front.again();
         if !front.begin(&self.tally, self.entries, &begun) {
-            return false;
+            return Err(front);
         }
         self.front = front;
         self.entries += 1;
         self.last = stamp;
         self.is_open = true;
-        true
+        Ok(())
     }
 
     /// Enters that a read or a search of the client begins, behind all that the evidence has seen, and answers its mark: what has it
-    /// has all that stands before this entry. None where the client has other entries than were seen here, or 2^62. Then nothing has changed.
-    pub fn begin_read(&mut self, evidence: &Front<J>) -> Option<Mark>
-        ensures since { IfSome result (λ mark. HasReadEntry mark self.new.seen evidence.now) }
-        ensures marked { IfSome result (λ mark. HasMark self.new.seen mark) }
-        ensures joined { IfSome result (λ mark. HasJoined mark.word self.old) }
-        ensures entered { IfSome result
-            (λ _. IsEntered (ReadBegan self.old.word) self.old self.new) }
+    /// has all that stands before this entry. It does not where the client has other entries than were seen here, or 2^62. Then nothing
+    /// has changed, and what was found of the history is returned: it has those other entries.
+    pub fn begin_read(&mut self, evidence: &Front<J>) -> Result<Mark, Front<J>>
+        ensures since { IfOk result (λ mark. HasReadEntry mark self.new.seen evidence.now) }
+        ensures marked { IfOk result (λ mark. HasMark self.new.seen mark) }
+        ensures joined { IfOk result (λ mark. HasJoined mark.word self.old) }
+        ensures entered { OnOk result (IsEntered (ReadBegan self.old.word) self.old self.new) }
         ensures last { self.new.last ≡ self.old.last }
         ensures whose { IsSameClient self.old self.new }
-        ensures refused { IfNone result (TakesNoEntry self.old.word self.old.seen) }
-        ensures unchanged { IfNone result (self.new ≡ self.old) }
+        ensures refused { IfErr result (TakesNoEntry self.old.word self.old.seen) }
+        ensures unchanged { OnErr result (self.new ≡ self.old) }
     {
         if self.entries >= MOST {
-            return None;
+            return Err(self.front.again());
         }
         let word = self.tally.key;
         let mut front = self.front.again();
         if !front.begin_read(&self.tally, self.entries, evidence, &word) {
-            return None;
+            return Err(front);
         }
         self.front = front;
         self.entries += 1;
-        Some(Mark {
+        Ok(Mark {
             word,
             entries: self.entries,
         })
@@ -155,27 +155,27 @@ impl<J: Naming> TracedClient<J> {
         self.is_open && stamp == self.last
     }
 
-    /// Enters that the write of this stamp is decided, and says whether it did. It did not where this is not the client's last
-    /// write or has ended, and where the client has other entries than were seen here, or 2^62. Then nothing has changed. The
-    /// evidence shows that all items of the write are prepared.
-    pub fn decide(&mut self, stamp: Stamp, evidence: &Front<J>) -> bool
+    /// Enters that the write of this stamp is decided. It does not where this is not the client's last write or has ended, and where the
+    /// client has other entries than were seen here, or 2^62. Then nothing has changed, and what was found of the history is returned: it
+    /// has those other entries. The evidence shows that all items of the write are prepared.
+    pub fn decide(&mut self, stamp: Stamp, evidence: &Front<J>) -> Result<(), Front<J>>
         requires { ∥ MayDecide evidence.now
             (record { word = self.old.word; tenant = self.old.tenant; stamp = stamp }) ∥₁ }
-        ensures decided { IsTrue result
-            → Decided
-            (record { word = self.old.word; tenant = self.old.tenant; stamp = stamp }) ∈ self.new.seen }
-        ensures entered { IsTrue result
-            → IsEntered
+        ensures decided { OnOk result
+            (Decided
+            (record { word = self.old.word; tenant = self.old.tenant; stamp = stamp }) ∈ self.new.seen) }
+        ensures entered { OnOk result
+            (IsEntered
             (Decided (record { word = self.old.word; tenant = self.old.tenant; stamp = stamp }))
-            self.old self.new }
-        ensures evidence { IsTrue result → IsPrefix evidence.now self.new.seen }
+            self.old self.new) }
+        ensures evidence { OnOk result (IsPrefix evidence.now self.new.seen) }
         ensures last { self.new.last ≡ self.old.last }
         ensures whose { IsSameClient self.old self.new }
-        ensures refused { result ≡ false → CannotEnd stamp self.old }
-        ensures unchanged { result ≡ false → self.new ≡ self.old }
+        ensures refused { IfErr result (CannotEnd stamp self.old) }
+        ensures unchanged { OnErr result (self.new ≡ self.old) }
     {
         if self.entries >= MOST || !self.may_end(stamp) {
-            return false;
+            return Err(self.front.again());
         }
         let decision = Decision {
             word: self.tally.key,
@@ -184,31 +184,32 @@ impl<J: Naming> TracedClient<J> {
         };
         let mut front = self.front.again();
         if !front.decide(&self.tally, self.entries, evidence, &decision) {
-            return false;
+            return Err(front);
         }
         self.front = front;
         self.entries += 1;
         self.is_open = false;
-        true
+        Ok(())
     }
 
-    /// Enters that the write of this stamp was refused, and says whether it did. It did not where this is not the client's last
-    /// write or has ended, and where the client has other entries than were seen here, or 2^62. Then nothing has changed.
-    pub fn give_up(&mut self, stamp: Stamp) -> bool
-        ensures entered { IsTrue result
-            → IsEntered
+    /// Enters that the write of this stamp was refused. It does not where this is not the client's last write or has ended, and where the
+    /// client has other entries than were seen here, or 2^62. Then nothing has changed, and what was found of the history is returned: it
+    /// has those other entries.
+    pub fn give_up(&mut self, stamp: Stamp) -> Result<(), Front<J>>
+        ensures entered { OnOk result
+            (IsEntered
             (GivenUp (record { word = self.old.word; tenant = self.old.tenant; stamp = stamp }))
-            self.old self.new }
-        ensures given_up { IsTrue result
-            → GivenUp
-            (record { word = self.old.word; tenant = self.old.tenant; stamp = stamp }) ∈ self.new.seen }
+            self.old self.new) }
+        ensures given_up { OnOk result
+            (GivenUp
+            (record { word = self.old.word; tenant = self.old.tenant; stamp = stamp }) ∈ self.new.seen) }
         ensures last { self.new.last ≡ self.old.last }
         ensures whose { IsSameClient self.old self.new }
-        ensures refused { result ≡ false → CannotEnd stamp self.old }
-        ensures unchanged { result ≡ false → self.new ≡ self.old }
+        ensures refused { IfErr result (CannotEnd stamp self.old) }
+        ensures unchanged { OnErr result (self.new ≡ self.old) }
     {
         if self.entries >= MOST || !self.may_end(stamp) {
-            return false;
+            return Err(self.front.again());
         }
         let decision = Decision {
             word: self.tally.key,
@@ -217,11 +218,11 @@ impl<J: Naming> TracedClient<J> {
         };
         let mut front = self.front.again();
         if !front.give_up(&self.tally, self.entries, &decision) {
-            return false;
+            return Err(front);
         }
         self.front = front;
         self.entries += 1;
         self.is_open = false;
-        true
+        Ok(())
     }
 }

@@ -117,13 +117,13 @@ pub struct Checker<H, Q = Sender<QueuedEpoch>, C = Mutex<Checked>> {
     queues: Vec<Q>,
 }
 
-impl<H: Wait, Q: EpochQueue, C: JournalChecks> Sink for Checker<H, Q, C> {
+impl<J: Naming, H: Wait, Q: EpochQueue, C: JournalChecks> Sink<J> for Checker<H, Q, C> {
     ghost use Rattle.std.specs.Arc.{arc_value};
     ghost use Rattle.server_verdicts.specs.Checks.{IsHandedOn};
 
     ghost has_taken = { λ checker partition tenant epoch. IsHandedOn Q.has_come C.has_lost checker.queues.items (arc_value checker.known).items partition tenant epoch };
 
-    fn epoch<J: Naming>(&self, partition: u32, tenant: u32, epoch: Epoch, _seen: &Front<J>) {
+    fn epoch(&self, partition: u32, tenant: u32, epoch: Epoch, _seen: &Front<J>) {
         let Some(queue) = self.queue_of(partition) else {
             return;
         };

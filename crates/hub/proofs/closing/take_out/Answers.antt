@@ -22,15 +22,15 @@ returns-then-are_under-clause-book g c =
     let journals = c.into_journals-journals.result.0.items in
     let e = c.into_journals-journals.ensures in
     let its = (arc_value c.args.shard).config in
-    let whole = c.in-Some-into_book.whole in
-    let accounts_are = c.in-Some-into_book.ensures.whole.0 in
+    let whole = c.in-Ok.whole in
+    let accounts_are = c.in-Ok.ensures.whole.0 in
     let P : ℕ → Type 0 = λ n. ∥ AreOf n its.partition whole ∥₁ in
     let Q : ℕ → Type 0 = λ n. ∥ AreOf config.parts n whole ∥₁ in
     let R : List Account → Type 0 = λ accounts. ∥ AreOf config.parts c.args.partition accounts ∥₁ in
     let S : List Account → Type 0 = λ accounts. ∥ AreOf its.parts its.partition accounts ∥₁ in
     let limits_of : List Journal → List Limits = λ js. map (λ (j : Journal). j.limits) js in
     let under : limits_of journals ≡ config.limits.items =
-    ap limits_of (sym c.as_slice.ensures.value) ∙ c.are_under.ensures c.if-are_under.true ∙ c.as_slice-in-Some-into_book.ensures.value in
+    ap limits_of (sym c.as_slice.ensures.value) ∙ c.are_under.ensures c.if-are_under.true ∙ c.as_slice-in-Ok.ensures.value in
     record {
       whole = inr (record {
         limits = map-map (λ (a : Account). a.limits) account_of journals ∙ under;
@@ -44,5 +44,5 @@ returns-then-are_under-clause-book g c =
 -- they have all calls that were seen
 pub returns-then-are_under-clause-traced : goal.returns-then-are_under-clause-traced
 returns-then-are_under-clause-traced g c =
-    let P : ℕ → Type 0 = λ n. AreTraced c.args.seen.now n c.in-Some-into_book.whole in
-    rw c.into_journals-journals.ensures.journals (subst P (c.in-Some.ensures.partition ∙ c.requires.shard.partition) c.in-Some-into_book.ensures.whole.1)
+    let P : ℕ → Type 0 = λ n. AreTraced c.args.seen.now n c.in-Ok.whole in
+    rw c.into_journals-journals.ensures.journals (subst P (c.in-Some.ensures.partition ∙ c.requires.shard.partition) c.in-Ok.ensures.whole.1)

@@ -31,6 +31,6 @@ returns-clause-decided g c did stamp is =
     let P : List HistoryEntry → Type 0 = λ l. Decided (record { word = its.word; tenant = its.tenant; stamp = c.in-Decided.stamp }) ∈ l in
     record {
       decision = record { word = its.word; tenant = its.tenant; stamp = c.in-Decided.stamp };
-      stands = prefix_has c.seen.result seen _ c.learn-2.ensures.that (subst P (sym c.seen.ensures) (c.decide.ensures.decided c.if-not-decide.false));
+      stands = prefix_has c.seen.result seen _ c.learn-2.ensures.that (subst P (sym c.seen.ensures) c.in-Ok.ensures.decided);
       its = (of_tenant, same);
     }

@@ -18,6 +18,6 @@ returns-clause-given_up g c did =
     let P : List HistoryEntry → Type 0 = λ l. GivenUp (record { word = its.word; tenant = its.tenant; stamp = c.args.stamp }) ∈ l in
     record {
       decision = record { word = its.word; tenant = its.tenant; stamp = c.args.stamp };
-      stands = prefix_has c.seen.result seen _ c.learn-2.ensures.that (subst P (sym c.seen.ensures) (c.give_up.ensures.given_up c.if-not-give_up.false));
+      stands = prefix_has c.seen.result seen _ c.learn-2.ensures.that (subst P (sym c.seen.ensures) c.in-Ok.ensures.given_up);
       its = (of_tenant, refl);
     }

@@ -11,4 +11,4 @@ returns g c =
 pub returns-in_err-closed : goal.returns-in_err-closed
 returns-in_err-closed g c =
     let p = err_from_is_err_and c.from_residual.result c.from_residual.ensures.1 in
-    rw (p.1, p.2) (nothing_loaded (config_view c.args.config) _ c.args.names.now (g.W.Write.contents c.args.writer.now) c.in_err-closed.field-0.0 c.in_err-closed.ensures.refused)
+    rw (p.1, p.2) (nothing_loaded (config_view c.args.store.config) _ c.args.names.now (g.W.Write.contents c.args.writer.now) c.in_err-closed.field-0.0 c.in_err-closed.ensures.refused)

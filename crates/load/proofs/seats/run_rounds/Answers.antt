@@ -22,13 +22,18 @@ loop-done-preserved g c = record {
 }
 
 pub returns-clause-name : goal.returns-clause-name
-returns-clause-name g c = subst (IsNamed c.end-2.result) c.loop-done.invariant.name c.end-2.ensures.name
+returns-clause-name g c =
+    let gone = c.end_with_departure-transcript-2.ensures.left in
+    let named = c.loop-done.invariant.name in (
+      record { its_tenant = gone.tenant ∙ ap (λ (n : SeatName). n.tenant) named; its_client = gone.client ∙ ap (λ (n : SeatName). n.client) named },
+      subst (IsNamed c.end_with_departure-transcript-2.result.0) named c.end_with_departure-transcript-2.ensures.name,
+    )
 
 pub returns-clause-began : goal.returns-clause-began
 returns-clause-began g c = λ fresh.
     let all : c.loop-done.done ≡ c.args.orders.rounds = omega arith in
-    rw c.end-2.ensures.entries
+    rw c.end_with_departure-transcript-2.ensures.entries
     (subst (λ (rounds : ℕ). filter_map act_in c.loop-done.seat.entries ≡ acts_drawn c.args.seat.name.client c.args.orders.keys rounds c.args.draws.state) all (c.loop-done.invariant.began fresh))
 
 pub returns-clause-given : goal.returns-clause-given
-returns-clause-given g c = λ fresh. given_at_end c.loop-done.seat c.end-2.result c.seen-seen.result c.end-2.ensures.name c.end-2.ensures.entries c.seen-seen.ensures.same (c.loop-done.invariant.given fresh)
+returns-clause-given g c = λ fresh. given_at_end c.loop-done.seat c.end_with_departure-transcript-2.result.0 c.seen-seen.result c.end_with_departure-transcript-2.ensures.name c.end_with_departure-transcript-2.ensures.entries c.seen-seen.ensures.same (c.loop-done.invariant.given fresh)

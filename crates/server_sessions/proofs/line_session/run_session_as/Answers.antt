@@ -9,23 +9,23 @@ returns-in-Ok-ended-clause-run g c = record {
   written =
       session_written c.args.options.newest c.args.hub.now.epoch c.finish-ended.result c.answer_lines-ended.new.connection.seat _ (g.W.Write.contents c.args.writer.now) (g.W.Write.contents c.answer_lines-ended.new.writer) (g.W.Write.contents c.finish-ended.new.writer)
       c.answer_lines-ended.new.out.items (rw c.in-Ok.ensures.items at c.in-Ok-ended.ensures.keeps.told) c.finish-ended.ensures.written
-      c.end_seat-left.ensures;
+      c.end_seat-left.ensures.0;
   begun =
       session_broken c.args.options.newest c.args.hub.now.epoch c.finish-ended.result c.answer_lines-ended.new.connection.seat _ (g.W.Write.contents c.args.writer.now) (g.W.Write.contents c.answer_lines-ended.new.writer) (g.W.Write.contents c.finish-ended.new.writer)
       c.answer_lines-ended.new.out.items (rw c.in-Ok.ensures.items at c.in-Ok-ended.ensures.keeps.told) c.finish-ended.ensures.begun
-      c.end_seat-left.ensures;
-  tenant = named _ c.answer_lines-ended.new.connection.seat c.args.names.now c.end_seat-left.ensures (rw c.in-Ok-ended.ensures.terms at c.in-Ok-ended.ensures.keeps.tenant);
+      c.end_seat-left.ensures.0;
+  tenant = named _ c.answer_lines-ended.new.connection.seat c.args.names.now c.end_seat-left.ensures.0 (rw c.in-Ok-ended.ensures.terms at c.in-Ok-ended.ensures.keeps.tenant);
   given =
       given_gathered c.args.options.newest c.args.hub.now.epoch c.answer_lines-ended.new.connection.seat _ (g.W.Write.contents c.args.writer.now) (g.W.Write.contents c.answer_lines-ended.new.writer) c.answer_lines-ended.new.out.items
-      (rw c.in-Ok.ensures.items at c.in-Ok-ended.ensures.keeps.told) c.end_seat-left.ensures;
+      (rw c.in-Ok.ensures.items at c.in-Ok-ended.ensures.keeps.told) c.end_seat-left.ensures.0;
   answered =
       session_answered c.args.options c.args.hub.now c.args.names.now c.finish-ended.result c.in-Ok-ended.ending c.answer_lines-ended.new.connection.seat _ (g.R.Read.remaining c.args.reader.now)
       (g.W.Write.contents c.args.writer.now) (g.W.Write.contents c.answer_lines-ended.new.writer) (g.W.Write.contents c.finish-ended.new.writer) c.answer_lines-ended.new.out.items
-      (rw c.in-Ok.ensures.items at c.in-Ok-ended.ensures.answered) c.finish-ended.ensures.last c.end_seat-left.ensures;
+      (rw c.in-Ok.ensures.items at c.in-Ok-ended.ensures.answered) c.finish-ended.ensures.last c.end_seat-left.ensures.0;
   broke =
       session_breaks_last c.args.options c.args.hub.now c.args.names.now c.finish-ended.result c.in-Ok-ended.ending c.answer_lines-ended.new.connection.seat _ (g.R.Read.remaining c.args.reader.now)
       (g.W.Write.contents c.args.writer.now) (g.W.Write.contents c.answer_lines-ended.new.writer) (g.W.Write.contents c.finish-ended.new.writer) c.answer_lines-ended.new.out.items
-      (rw c.in-Ok.ensures.items at c.in-Ok-ended.ensures.answered) c.finish-ended.ensures.begun c.end_seat-left.ensures;
+      (rw c.in-Ok.ensures.items at c.in-Ok-ended.ensures.answered) c.finish-ended.ensures.begun c.end_seat-left.ensures.0;
 }
 
 pub returns-in_default-clause-run : goal.returns-in_default-clause-run
@@ -50,13 +50,13 @@ returns-clause-run g c = record {
   written = search rules;
   begun =
       session_begun c.args.options.newest c.args.hub.now.epoch c.answer_lines-ended.new.connection.seat _ (g.W.Write.contents c.args.writer.now) (g.W.Write.contents c.answer_lines-ended.new.writer)
-      (rw c.in-Ok.ensures.items at c.in-Err.ensures.keeps.begun) c.end_seat-left.ensures;
-  tenant = named _ c.answer_lines-ended.new.connection.seat c.args.names.now c.end_seat-left.ensures (rw c.in-Err.ensures.terms at c.in-Err.ensures.keeps.tenant);
+      (rw c.in-Ok.ensures.items at c.in-Err.ensures.keeps.begun) c.end_seat-left.ensures.0;
+  tenant = named _ c.answer_lines-ended.new.connection.seat c.args.names.now c.end_seat-left.ensures.0 (rw c.in-Err.ensures.terms at c.in-Err.ensures.keeps.tenant);
   given =
       given_broken c.args.options.newest c.args.hub.now.epoch c.answer_lines-ended.new.connection.seat _ (g.W.Write.contents c.args.writer.now) (g.W.Write.contents c.answer_lines-ended.new.writer)
-      (rw c.in-Ok.ensures.items at c.in-Err.ensures.keeps.begun) c.end_seat-left.ensures;
+      (rw c.in-Ok.ensures.items at c.in-Err.ensures.keeps.begun) c.end_seat-left.ensures.0;
   answered = search rules;
   broke =
       session_breaks c.args.options c.args.hub.now c.args.names.now c.answer_lines-ended.new.connection.seat _ (g.R.Read.remaining c.args.reader.now) (g.W.Write.contents c.args.writer.now) (g.W.Write.contents c.answer_lines-ended.new.writer)
-      (rw c.in-Ok.ensures.items at c.in-Err.ensures.broke) c.end_seat-left.ensures;
+      (rw c.in-Ok.ensures.items at c.in-Err.ensures.broke) c.end_seat-left.ensures.0;
 }

@@ -72,11 +72,8 @@ returns-clause-later g c =
     let P : List HistoryEntry → Type 0 = λ seen. IsPrefix seen now in
     subst P (ap (λ (t : Tracing). t.seen) c.self.view_is) (added_later b.front now b.tally.key b.entries (Served s) c.in_ok-place.ensures.admitted.added)
 
--- the book refuses what its admission refuses: the history takes no entry of the partition behind what was seen
+-- the book refuses what its admission refuses
 pub returns-in_err-place-clause-refusals : goal.returns-in_err-place-clause-refusals
 returns-in_err-place-clause-refusals g c =
     let b = c.self.inside in
-    let T : ℕ → Type 0 = λ n. TakesNoEntry n b.front in
-    let P : Tracing → Type 0 = λ t. TakesNoEntry (t.partition + 1) t.seen in
-    refused_so c.from_residual.result c.in_err-place.field-0.0 (TakesNoEntry b.tally.key b.front) (TakesNoEntry (c.args.self.now.partition + 1) c.args.self.now.seen)
-    (λ none. subst P c.self.view_is (subst T c.self.invariant.2 none)) c.in_err-place.ensures.refusals c.from_residual.ensures.1
+    refused_so c.from_residual.result c.in_err-place.field-0.0 (TakesNoEntry b.tally.key b.front c.serve_admitted.new.admission.now) c.in_err-place.ensures.refusals c.from_residual.ensures.1

@@ -6,11 +6,11 @@ use Rattle.history.specs.declared.entry.HistoryEntry.TheVariants.{Began}
 use Rattle.history.specs.declared.entry.Write.{Write}
 use Rattle.history.specs.Entries.{count, own}
 use Rattle.history.specs.Legal.{MayBegin}
-use Rattle.history.specs.Rules.{IsAdded}
+use Rattle.history.specs.Rules.{IsAdded, TakesNoEntry}
 use Rattle.history.proofs.Counts.{equal_test}
-use Rattle.history.proofs.Servings.{added_count}
+use Rattle.history.proofs.Servings.{added_count, none_taken}
 use Rattle.traced_client.specs.Clients.{CannotBegin, ClientTrace}
-use Rattle.traced_client.proofs.Following.{added_in, may_begin, own_added, traced_began}
+use Rattle.traced_client.proofs.Following.{added_in, full_begin, may_begin, own_added, traced_began}
 use Rattle.traced_client.proofs.client_word.TracedClient.begin.Goals as goal
 
 -- the stamp is above those of the client's writes so far
@@ -35,14 +35,14 @@ invariant_of-self g c =
     )
 
 pub returns-clause-began : goal.returns-clause-began
-returns-clause-began g c did =
+returns-clause-began g c =
     let b = c.self.inside in
     let write : Write = record { word = b.tally.key; tenant = b.tenant; stamp = c.args.stamp; items = c.args.items.now } in
     let P : ClientTrace → Type 0 = λ t. Began (record { word = t.word; tenant = t.tenant; stamp = c.args.stamp; items = c.args.items.now }) ∈ c.begin.new.self in
     subst P c.self.view_is (added_in b.tally.key b.entries (Began write) c.again-front.result c.begin.new.self c.if-not-begin.ensures.added)
 
 pub returns-clause-entered : goal.returns-clause-entered
-returns-clause-entered g c did =
+returns-clause-entered g c =
     let b = c.self.inside in
     let write : Write = record { word = b.tally.key; tenant = b.tenant; stamp = c.args.stamp; items = c.args.items.now } in
     let Q : List HistoryEntry → Type 0 = λ seen. IsAdded b.tally.key b.entries (Began write) seen c.begin.new.self in
@@ -54,8 +54,18 @@ returns-clause-entered g c did =
 
 -- the word has as many entries as it can have
 pub returns-then-self-ge-MOST-clause-refused : goal.returns-then-self-ge-MOST-clause-refused
-returns-then-self-ge-MOST-clause-refused g c = λ _.
+returns-then-self-ge-MOST-clause-refused g c =
     let b = c.self.inside in
     let full : 2 ^ 62 ≤ count b.tally.key b.front = omega (arith, c.self.invariant.1, c.if-self-ge-MOST.true) in
-    let P : ClientTrace → Type 0 = λ t. CannotBegin c.args.stamp t in
-    subst P c.self.view_is (inr (inr (inl full)))
+    let P : ClientTrace → Type 0 = λ t. 2 ^ 62 ≤ count t.word t.seen in
+    full_begin _ c.args.self.now _ (subst P c.self.view_is full)
+
+-- what was found of the history has other entries of the word
+pub returns-then-not-begin-clause-refused : goal.returns-then-not-begin-clause-refused
+returns-then-not-begin-clause-refused g c =
+    let b = c.self.inside in
+    let found = c.begin.new.self in
+    let none : TakesNoEntry b.tally.key b.front found =
+    none_taken b.tally.key b.entries b.front c.again-front.result found c.again-front.ensures.same c.self.invariant.1 c.begin.ensures.later c.if-not-begin.ensures.added in
+    let P : ClientTrace → Type 0 = λ t. CannotBegin c.args.stamp t found in
+    subst P c.self.view_is (inr (inr none))

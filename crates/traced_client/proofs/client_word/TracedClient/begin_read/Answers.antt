@@ -4,7 +4,7 @@ use Rattle.history.specs.declared.entry.HistoryEntry.TheVariants.{ReadBegan}
 use Rattle.history.specs.Entries.{count, own}
 use Rattle.history.specs.Rules.{IsAdded, TakesNoEntry}
 use Rattle.history.proofs.Counts.{equal_test}
-use Rattle.history.proofs.Servings.{added_count}
+use Rattle.history.proofs.Servings.{added_count, none_taken}
 use Rattle.traced_client.specs.Clients.{ClientTrace, HasJoined}
 use Rattle.traced_client.proofs.Following.{own_added, read_entry, traced_asked}
 use Rattle.traced_client.proofs.client_word.TracedClient.begin_read.Goals as goal
@@ -46,8 +46,18 @@ pub returns-then-self-ge-MOST-clause-refused : goal.returns-then-self-ge-MOST-cl
 returns-then-self-ge-MOST-clause-refused g c =
     let b = c.self.inside in
     let full : 2 ^ 62 ≤ count b.tally.key b.front = omega (arith, c.self.invariant.1, c.if-self-ge-MOST.true) in
-    let P : ClientTrace → Type 0 = λ t. TakesNoEntry t.word t.seen in
-    subst P c.self.view_is (inl full)
+    let P : ClientTrace → Type 0 = λ t. 2 ^ 62 ≤ count t.word t.seen in
+    inl (subst P c.self.view_is full)
+
+-- what was found of the history has other entries of the word
+pub returns-then-not-begin_read-clause-refused : goal.returns-then-not-begin_read-clause-refused
+returns-then-not-begin_read-clause-refused g c =
+    let b = c.self.inside in
+    let found = c.begin_read.new.self in
+    let none : TakesNoEntry b.tally.key b.front found =
+    none_taken b.tally.key b.entries b.front c.again-front.result found c.again-front.ensures.same c.self.invariant.1 c.begin_read.ensures.later c.if-not-begin_read.ensures.added in
+    let P : ClientTrace → Type 0 = λ t. TakesNoEntry t.word t.seen found in
+    subst P c.self.view_is none
 
 -- the word is the client's own
 pub returns-clause-joined : goal.returns-clause-joined

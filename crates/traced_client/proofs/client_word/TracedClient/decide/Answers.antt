@@ -9,7 +9,7 @@ use Rattle.history.specs.Rules.{IsAdded, TakesNoEntry}
 use Rattle.history.proofs.Counts.{equal_test}
 use Rattle.history.proofs.Servings.{added_count, none_taken}
 use Rattle.traced_client.specs.Clients.{CannotEnd, ClientTrace}
-use Rattle.traced_client.proofs.Following.{added_in, cannot_end, own_added, traced_ended}
+use Rattle.traced_client.proofs.Following.{added_in, cannot_end, full_end, own_added, traced_ended}
 use Rattle.traced_client.proofs.client_word.TracedClient.decide.Goals as goal
 use Rattle.traced_client.proofs.client_word.TracedClient.decide.Goals.{then-self-ge-MOST-via-then-self-ge-MOST, then-self-ge-MOST-via-else-self-ge-MOST+then-not-may_end}
 
@@ -34,14 +34,14 @@ invariant_of-self g c =
     )
 
 pub returns-clause-decided : goal.returns-clause-decided
-returns-clause-decided g c did =
+returns-clause-decided g c =
     let b = c.self.inside in
     let decision : Decision = record { word = b.tally.key; tenant = b.tenant; stamp = c.args.stamp } in
     let P : ClientTrace → Type 0 = λ t. Decided (record { word = t.word; tenant = t.tenant; stamp = c.args.stamp }) ∈ c.decide.new.self in
     subst P c.self.view_is (added_in b.tally.key b.entries (Decided decision) c.again-front.result c.decide.new.self c.if-not-decide.ensures.added)
 
 pub returns-clause-entered : goal.returns-clause-entered
-returns-clause-entered g c did =
+returns-clause-entered g c =
     let b = c.self.inside in
     let decision : Decision = record { word = b.tally.key; tenant = b.tenant; stamp = c.args.stamp } in
     let Q : List HistoryEntry → Type 0 = λ seen. IsAdded b.tally.key b.entries (Decided decision) seen c.decide.new.self in
@@ -53,21 +53,22 @@ returns-clause-entered g c did =
 
 -- the word has as many entries as it can have, or the put may not end
 pub returns-then-self-ge-MOST-clause-refused : goal.returns-then-self-ge-MOST-clause-refused
-returns-then-self-ge-MOST-clause-refused g c = λ _.
+returns-then-self-ge-MOST-clause-refused g c =
     let b = c.self.inside in
-    let P : ClientTrace → Type 0 = λ t. CannotEnd c.args.stamp t in
+    let P : ClientTrace → Type 0 = λ t. 2 ^ 62 ≤ count t.word t.seen in
     elim c.then-self-ge-MOST.branch [
       | then-self-ge-MOST-via-then-self-ge-MOST w ↦
           let full : 2 ^ 62 ≤ count b.tally.key b.front = omega (arith, c.self.invariant.1, w.if-self-ge-MOST.true) in
-          subst P c.self.view_is (inr (inr (inl full)))
-      | then-self-ge-MOST-via-else-self-ge-MOST+then-not-may_end w ↦ cannot_end c.args.stamp c.args.self.now w.may_end.result w.if-not-may_end.true w.may_end.ensures
+          full_end _ c.args.self.now _ (subst P c.self.view_is full)
+      | then-self-ge-MOST-via-else-self-ge-MOST+then-not-may_end w ↦ cannot_end c.args.stamp c.args.self.now _ w.may_end.result w.if-not-may_end.true w.may_end.ensures
     ]
 
--- the history has other entries of the word
+-- what was found of the history has other entries of the word
 pub returns-then-not-decide-clause-refused : goal.returns-then-not-decide-clause-refused
-returns-then-not-decide-clause-refused g c = λ _.
+returns-then-not-decide-clause-refused g c =
     let b = c.self.inside in
-    let none : TakesNoEntry b.tally.key b.front =
-    none_taken b.tally.key b.entries b.front c.again-front.result c.decide.new.self c.again-front.ensures.same c.self.invariant.1 c.decide.ensures.later c.if-not-decide.ensures.added in
-    let P : ClientTrace → Type 0 = λ t. CannotEnd c.args.stamp t in
+    let found = c.decide.new.self in
+    let none : TakesNoEntry b.tally.key b.front found =
+    none_taken b.tally.key b.entries b.front c.again-front.result found c.again-front.ensures.same c.self.invariant.1 c.decide.ensures.later c.if-not-decide.ensures.added in
+    let P : ClientTrace → Type 0 = λ t. CannotEnd c.args.stamp t found in
     subst P c.self.view_is (inr (inr none))
