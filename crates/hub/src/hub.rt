@@ -1,6 +1,7 @@
 //! A hub: what seats share, and the threads that serve them.
 ghost use mathlib.Core.List.{IsPrefix};
 ghost use Rattle.stamps.specs.Bounds.{IsParts};
+ghost use Rattle.history.specs.Legal.{HasParts};
 ghost use Rattle.hub.specs.Hubs.{view_with, AllTraced, IsLeftBy};
 ghost use Rattle.hub.specs.Registered.{IsDecidedBy, IsDeparture, is_unopened};
 ghost use Rattle.hub.specs.Seats.{IsOpened};
@@ -231,21 +232,31 @@ impl<G: Naming> Hub<G> {
 }
 
 impl<G: Gate + Naming> Hub<G> {
-    /// Puts how much each tenant uses of a partition, in their order and at one moment, in place of what the list has. It takes
-    /// the partition's lock, and time for each tenant, and visits none of what they hold. Answers false where there is no such
-    /// partition, or where the state behind its lock is another's. The one error is that an allocation failed.
+    /// What it had seen of its history when it was opened: no call yet. Who looks at the store with `status` begins with it.
+    pub fn opening(&self) -> Front<G>
+        ensures { ∥ HasParts result self.now.parts ∥₁ }
+    {
+        self.seen.again()
+    }
+
+    /// Puts how much each tenant uses of a partition, in their order and at one moment, in place of what the list has, and sees the history as it
+    /// is then: what each tenant uses is what all calls left that it has of the partition. It takes the partition's lock, and time for
+    /// each tenant, and visits none of what they hold. Answers false where there is no such partition, or where the state behind its lock is
+    /// another's, or served fewer calls. The one error is that an allocation failed.
     pub fn status<R: Wait>(
         &self,
         rt: &R,
         partition: u32,
         usages: &mut Vec<TenantUsage>,
+        seen: &mut Front<G>,
     ) -> Result<bool, AllocError>
         ensures used { IfOk result (λ is_there. IsTrue is_there
-            → AreUsagesAt self.now.parts partition usages.new.items) }
+            → AreUsagesAt seen.new self.now.parts partition usages.new.items) }
+        ensures later { IsPrefix seen.old seen.new }
         ensures past { self.now.parts ≤ partition → result ≡ Ok false }
     {
         match self.shards.get(partition as usize) {
-            Some(shard) => shard.put_usages(rt, self.config.parts, partition, usages),
+            Some(shard) => shard.put_usages(rt, self.config.parts, partition, usages, seen),
             None => Ok(false),
         }
     }

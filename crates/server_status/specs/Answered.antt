@@ -8,6 +8,7 @@ use Rattle.server_metrics.specs.declared.request.PageRequest.{PageRequest}
 use Rattle.server_metrics.specs.declared.request.PageRequest.TheVariants.{Overview, Metrics, Health, Refused}
 use Rattle.server_status.specs.Reported.{IsReadOf}
 use Rattle.server_verdicts.specs.declared.epochs.checked.CheckProgress.{CheckProgress}
+use Rattle.history.specs.declared.entry.HistoryEntry.{HistoryEntry}
 use Rattle.history.specs.declared.rule.Naming.{Ghosts}
 use Rattle.server_status.specs.declared.reading.Watched.{Watched}
 use Rattle.server_status.specs.declared.serving.StatusPort.{StatusPort}
@@ -16,14 +17,16 @@ use Rattle.server_status.specs.declared.serving.StatusPort.{StatusPort}
 abbrev pub port_listener : {L : Type 0} → StatusPort L → L
 port_listener port = port.listener
 
--- the page that answers what was asked of a server: the one that shows it, how it stands as it was read, or the words of a refusal
-abbrev pub IsAnswerTo : {J C : Type 0} {naming : Ghosts J} → (C → CheckProgress → Type 0) → Watched J C naming → PageRequest → List ℕ → Type 0
-IsAnswerTo HasTold watched Overview page = page ≡ overview_text_page
-IsAnswerTo HasTold watched Metrics page =
-    (readings : ServerReadings) × IsReadOf HasTold watched readings × (page ≡ metrics_text_page readings)
-IsAnswerTo HasTold watched Health page =
-    (readings : ServerReadings) × IsReadOf HasTold watched readings × (page ≡ health_text_page readings)
-IsAnswerTo HasTold watched (Refused status) page = page ≡ text_page status
+-- the page that answers what was asked of a server: the one that shows it, how it stands as it was read behind what was seen of its history, or the
+-- words of a refusal
+abbrev pub IsAnswerTo : {J C : Type 0} {naming : Ghosts J} → (C → CheckProgress → Type 0) → Watched J C naming → (first last : List HistoryEntry) → PageRequest
+    → List ℕ → Type 0
+IsAnswerTo HasTold watched first last Overview page = page ≡ overview_text_page
+IsAnswerTo HasTold watched first last Metrics page =
+    (readings : ServerReadings) × IsReadOf HasTold watched first last readings × (page ≡ metrics_text_page readings)
+IsAnswerTo HasTold watched first last Health page =
+    (readings : ServerReadings) × IsReadOf HasTold watched first last readings × (page ≡ health_text_page readings)
+IsAnswerTo HasTold watched first last (Refused status) page = page ≡ text_page status
 
 -- a prefix of the page was written, or where that is said the whole of it
 abbrev pub IsWritten : List ℕ → Option (List ℕ) → Option (List ℕ) → Bool → Type 0
@@ -31,15 +34,15 @@ IsWritten page old new whole = ((n : ℕ) × Appends old new (take n page)) × (
 
 -- a request was read from an input, and a page that answers it was written, whole or not
 pub record Answers {J C : Type 0} {naming : Ghosts J} (HasTold : C → CheckProgress → Type 0) (watched : Watched J C naming)
-    (input left old new : Option (List ℕ)) (whole : Bool) : Type 0 where
+    (first last : List HistoryEntry) (input left old new : Option (List ℕ)) (whole : Bool) : Type 0 where
   pub asked : PageRequest
   pub page : List ℕ
   pub heard : IsHeardOf input left asked
-  pub answer : IsAnswerTo HasTold watched asked page
+  pub answer : IsAnswerTo HasTold watched first last asked page
   pub written : IsWritten page old new whole
 
 -- so, or nothing was written
-abbrev pub HasAnswered : {J C : Type 0} {naming : Ghosts J} → (C → CheckProgress → Type 0) → Watched J C naming
+abbrev pub HasAnswered : {J C : Type 0} {naming : Ghosts J} → (C → CheckProgress → Type 0) → Watched J C naming → (first last : List HistoryEntry)
     → Option (List ℕ) → Option (List ℕ) → Option (List ℕ) → Option (List ℕ) → Bool → Type 0
-HasAnswered HasTold watched input left old new whole =
-    Answers HasTold watched input left old new whole ⊎ ((whole ≡ false) × Keeps old new)
+HasAnswered HasTold watched first last input left old new whole =
+    Answers HasTold watched first last input left old new whole ⊎ ((whole ≡ false) × Keeps old new)

@@ -2,6 +2,7 @@
 use Rattle.std.specs.Prelude.{◌≡◌, ◌≢◌, ◌+◌, ◌-◌, ◌^◌, ◌++◌, ◌↔◌, ◌<◌, ◌≤◌, ℕ, zero, suc, min}
 use Rattle.std.specs.Prelude.{List, [], ◌∷◌, length, Option, Some, None, IsSomeAnd, IsTrue}
 use Rattle.std.specs.Borrow.{Bor}
+use mathlib.Core.List.{IsPrefix}
 use Rattle.std.specs.Global.{Vec}
 use Rattle.std.specs.Option.{option_map}
 use Rattle.stamps.specs.declared.bounds.Limits.{Limits}
@@ -16,6 +17,7 @@ use Rattle.server_sessions.specs.Ports.{most_of}
 use Rattle.server_verdicts.specs.Rows.{at_place}
 use Rattle.server_verdicts.specs.declared.epochs.checked.CheckProgress.{CheckProgress}
 use Rattle.server_verdicts.specs.declared.epochs.checked.Standing.TheVariants.{Right}
+use Rattle.history.specs.declared.entry.HistoryEntry.{HistoryEntry}
 use Rattle.history.specs.declared.rule.Naming.{Ghosts}
 use Rattle.server_status.specs.declared.reading.Watched.{Watched}
 
@@ -76,19 +78,21 @@ AreChecksAt HasTold watched partition checks =
     (length checks ≡ min (length watched.names.now) (2 ^ 32 - 1)) × AreChecksFrom HasTold watched partition 0 checks
 
 -- Rows were put behind those that were there, one of each tenant of the store. Their numbers are those that the cells of the partition had at
--- one moment, and their checks those that its journals told.
-abbrev pub AreRowsAt : {J C : Type 0} {naming : Ghosts J} → (C → CheckProgress → Type 0) → Watched J C naming → ℕ → List Row → List Row → Type 0
-AreRowsAt HasTold watched partition old new =
-    (usages : List TenantUsage) × (checks : List (Option CheckProgress)) × AreUsagesAt watched.hub.now.parts partition usages
+-- one moment, when all calls were served there that the history has of it, as it was seen then; and their checks those that its journals told.
+abbrev pub AreRowsAt : {J C : Type 0} {naming : Ghosts J} → (C → CheckProgress → Type 0) → Watched J C naming → List HistoryEntry → ℕ → List Row → List Row → Type 0
+AreRowsAt HasTold watched log partition old new =
+    (usages : List TenantUsage) × (checks : List (Option CheckProgress)) × AreUsagesAt log watched.hub.now.parts partition usages
     × (length usages ≡ length watched.hub.now.limits)
     × AreChecksAt HasTold watched partition checks
     × AreRowsBehind partition watched.names.now watched.hub.now.limits checks usages old new
 
--- so for each partition before this one, one after another
-abbrev pub AreRowsBefore : {J C : Type 0} {naming : Ghosts J} → (C → CheckProgress → Type 0) → Watched J C naming → ℕ → List Row → Type 0
-AreRowsBefore HasTold watched zero rows = rows ≡ []
-AreRowsBefore HasTold watched (suc partition) rows =
-    (before : List Row) × AreRowsBefore HasTold watched partition before × AreRowsAt HasTold watched partition before rows
+-- so for each partition before this one, one after another: the history that was seen at first goes on at each, up to what was seen at the last
+abbrev pub AreRowsBefore : {J C : Type 0} {naming : Ghosts J} → (C → CheckProgress → Type 0) → Watched J C naming → (first last : List HistoryEntry)
+    → ℕ → List Row → Type 0
+AreRowsBefore HasTold watched first last zero rows = (rows ≡ []) × (last ≡ first)
+AreRowsBefore HasTold watched first last (suc partition) rows =
+    (before : List Row) × (earlier : List HistoryEntry) × AreRowsBefore HasTold watched first earlier partition before
+    × IsPrefix earlier last × AreRowsAt HasTold watched last partition before rows
 
 -- ---- the tenants' clients and the refusals
 
@@ -112,10 +116,11 @@ AreClientRows _ _ _ = ⊥
 
 -- ---- all that is read
 
--- What was read of this server: where it is whole, a row of each tenant at each partition; and rows of the clients, of the refusals, and of the
--- times that lines took. What a journal has told is said by its trait.
-pub record IsReadOf {J C : Type 0} {naming : Ghosts J} (HasTold : C → CheckProgress → Type 0) (watched : Watched J C naming) (readings : ServerReadings) : Type 0 where
-  pub rows : IsTrue readings.is_whole → AreRowsBefore HasTold watched watched.hub.now.parts readings.rows.items
+-- What was read of this server, behind what was seen of its history at first: where it is whole, a row of each tenant at each partition; and rows
+-- of the clients, of the refusals, and of the times that lines took. What a journal has told is said by its trait.
+pub record IsReadOf {J C : Type 0} {naming : Ghosts J} (HasTold : C → CheckProgress → Type 0) (watched : Watched J C naming) (first last : List HistoryEntry)
+    (readings : ServerReadings) : Type 0 where
+  pub rows : IsTrue readings.is_whole → AreRowsBefore HasTold watched first last watched.hub.now.parts readings.rows.items
   pub clients : AreClientRows watched.names.now watched.hub.now.limits readings.clients.items
   pub all_clients : length readings.clients.items ≡ min (min (length watched.names.now) (2 ^ 32 - 1)) (length watched.hub.now.limits)
   pub refusals : AreRefusalRows 0 43 readings.refusals.items

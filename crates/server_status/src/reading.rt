@@ -1,9 +1,10 @@
 //! What a scrape reads of a running server.
 ghost use Rattle.std.specs.Prelude.{◌≡◌, ◌≢◌, ◌<◌, ◌-◌, ◌^◌, [], min, IfOk, IsTrue, vec_len, length};
+ghost use mathlib.Core.List.{IsPrefix};
 ghost use Rattle.server_metrics.specs.TimesText.{AreRising};
 ghost use Rattle.server_status.specs.Reported.{AreChecksAt, AreClientRows, AreRefusalRows, AreRowsAt, AreRowsBefore, AreRowsBehind, IsCheckOf, IsReadOf, IsRowAt, IsRowOf, known_in};
 
-use hub::{Gate, Hub, Naming, TenantUsage};
+use hub::{Front, Gate, Hub, Naming, TenantUsage};
 use line_protocol::Name;
 use server_metrics::{ClientRow, LineSeconds, RefusalRow, Row, ServerReadings, TimeRow};
 use server_sessions::{AnswerCounts, LineTimes, Listener, Server, TenantCount};
@@ -36,12 +37,19 @@ pub struct Watched<'s, G: Naming, C = Mutex<Checked>> {
 impl<'s, G: Gate + Naming, C: JournalChecks> Watched<'s, G, C> {
     /// Reads all that is reported, one partition after another, each under its own lock. It takes time for each tenant at each
     /// partition, and visits none of what they hold. It waits for no session, but where an epoch is being checked for that
-    /// check. The one error is that an allocation failed.
-    pub fn read<H: Wait>(&self, rt: &H, alloc: Global) -> Result<ServerReadings<'s>, AllocError>
-        ensures { IfOk result (IsReadOf C.has_told self.now) }
+    /// check. It sees the store's history as it is at each partition: what a tenant uses there is what all calls left that the history has of
+    /// the partition then. Who reads with what it saw before reads nothing older. The one error is that an allocation failed.
+    pub fn read<H: Wait>(
+        &self,
+        rt: &H,
+        alloc: Global,
+        seen: &mut Front<G>,
+    ) -> Result<ServerReadings<'s>, AllocError>
+        ensures read { IfOk result (IsReadOf C.has_told self.now seen.old seen.new) }
+        ensures later { IsPrefix seen.old seen.new }
     {
         let mut rows = Vec::new(alloc);
-        let is_whole = self.read_partitions(rt, alloc, &mut rows)?;
+        let is_whole = self.read_partitions(rt, alloc, &mut rows, seen)?;
         let connections = self.server.connections(rt);
         Ok(ServerReadings {
             rows,
@@ -66,14 +74,17 @@ impl<'s, G: Gate + Naming, C: JournalChecks> Watched<'s, G, C> {
         rt: &H,
         alloc: Global,
         rows: &mut Vec<Row<'s>>,
+        seen: &mut Front<G>,
     ) -> Result<bool, AllocError>
         requires { rows.old.items ≡ [] }
-        ensures { IfOk result (λ is_whole. IsTrue is_whole
-            → AreRowsBefore C.has_told self.now self.now.hub.now.parts rows.new.items) }
+        ensures rows { IfOk result (λ is_whole. IsTrue is_whole
+            → AreRowsBefore C.has_told self.now seen.old seen.new
+            self.now.hub.now.parts rows.new.items) }
+        ensures later { IsPrefix seen.old seen.new }
     {
         let mut is_whole = true;
         for partition in 0..self.hub.parts() {
-            if !self.read_partition(rt, alloc, partition, rows)? {
+            if !self.read_partition(rt, alloc, partition, rows, seen)? {
                 is_whole = false;
             }
         }
@@ -88,12 +99,14 @@ impl<'s, G: Gate + Naming, C: JournalChecks> Watched<'s, G, C> {
         alloc: Global,
         partition: u32,
         rows: &mut Vec<Row<'s>>,
+        seen: &mut Front<G>,
     ) -> Result<bool, AllocError>
-        ensures { IfOk result (λ is_there. IsTrue is_there
-            → AreRowsAt C.has_told self.now partition rows.old.items rows.new.items) }
+        ensures rows { IfOk result (λ is_there. IsTrue is_there
+            → AreRowsAt C.has_told self.now seen.new partition rows.old.items rows.new.items) }
+        ensures later { IsPrefix seen.old seen.new }
     {
         let mut usages = Vec::new(alloc);
-        if !self.hub.status(rt, partition, &mut usages)?
+        if !self.hub.status(rt, partition, &mut usages, seen)?
             || usages.len() != self.hub.limits().len()
         {
             return Ok(false);

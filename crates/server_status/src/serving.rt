@@ -1,11 +1,12 @@
 //! Requests of HTTP, each on a connection of its own.
 ghost use Rattle.std.specs.Prelude.{◌≡◌, IfOk, string_bytes};
 ghost use Rattle.std.specs.Io.KnownBytes.{Keeps};
+ghost use mathlib.Core.List.{IsPrefix};
 ghost use Rattle.server_status.specs.Answered.{HasAnswered, IsAnswerTo, port_listener};
 
 use crate::reading::Watched;
 use crate::visitor::Visitor;
-use hub::{Gate, Named, Naming};
+use hub::{Front, Gate, Named, Naming};
 use server_metrics::{
     PageRequest, health_page, hear, metrics_page, overview_page, pass_over, status_page, write_page,
 };
@@ -95,16 +96,18 @@ impl<L> StatusPort<L> {
 }
 
 impl<L: Accept> StatusPort<L> {
-    /// Answers requests, one at a time, until it is closed. Threads may do so side by side.
+    /// Answers requests, one at a time, until it is closed. Threads may do so side by side. What a thread answers is never of an older store than
+    /// what it answered before.
     fn serve<G: Gate + Naming, C: JournalChecks, H: Wait + Clock>(
         &self,
         rt: &H,
         alloc: Global,
         watched: &Watched<'_, G, C>,
     ) {
+        let mut seen = watched.hub.opening();
         for _ in rt.forever() {
             match self.listener.accept() {
-                Ok(stream) => self.answer(rt, alloc, watched, &stream),
+                Ok(stream) => self.answer(rt, alloc, watched, &stream, &mut seen),
                 Err(_) => {
                     if self.is_closed.load(Ordering::SeqCst) {
                         break;
@@ -131,14 +134,17 @@ impl<L: Accept> StatusPort<L> {
         alloc: Global,
         watched: &Watched<'_, G, C>,
         stream: &TcpStream,
-    ) {
+        seen: &mut Front<G>,
+    )
+        ensures { IsPrefix seen.old seen.new }
+    {
         let Ok(begun) = Instant::now(rt) else {
             return;
         };
         let is_over = &self.is_closed;
         let mut asking = Visitor::new(rt, stream, begun, TO_ASK);
         let mut taking = Visitor::new(rt, stream, begun, TO_TAKE);
-        if answer_one(rt, alloc, watched, &mut asking, &mut taking, is_over) {
+        if answer_one(rt, alloc, watched, &mut asking, &mut taking, is_over, seen) {
             let _ = stream.shutdown(Shutdown::Write);
             let mut closing = Visitor::new(rt, stream, begun, TO_CLOSE);
             pass_over(&mut closing, is_over);
@@ -154,14 +160,17 @@ fn answer_one<G: Gate + Naming, C: JournalChecks, H: Wait, R: Read, W: Write>(
     reader: &mut R,
     writer: &mut W,
     is_over: &AtomicBool,
+    seen: &mut Front<G>,
 ) -> bool
-    ensures { HasAnswered C.has_told watched.now (R.remaining reader.old) (R.remaining reader.new)
+    ensures answered { HasAnswered C.has_told watched.now seen.old seen.new
+        (R.remaining reader.old) (R.remaining reader.new)
         (W.contents writer.old) (W.contents writer.new) result }
+    ensures later { IsPrefix seen.old seen.new }
 {
     let Some(asked) = hear(reader, is_over) else {
         return false;
     };
-    match answer_to(rt, alloc, watched, asked) {
+    match answer_to(rt, alloc, watched, asked, seen) {
         Ok(page) => write_page(writer, page.as_bytes(), is_over),
         Err(_) => false,
     }
@@ -173,13 +182,17 @@ fn answer_to<G: Gate + Naming, C: JournalChecks, H: Wait>(
     alloc: Global,
     watched: &Watched<'_, G, C>,
     asked: PageRequest,
+    seen: &mut Front<G>,
 ) -> Result<String, AllocError>
-    ensures { IfOk result (λ page. IsAnswerTo C.has_told watched.now asked (string_bytes page)) }
+    ensures answer { IfOk result
+        (λ page.
+        IsAnswerTo C.has_told watched.now seen.old seen.new asked (string_bytes page)) }
+    ensures later { IsPrefix seen.old seen.new }
 {
     match asked {
         PageRequest::Overview => overview_page(alloc),
-        PageRequest::Metrics => metrics_page(alloc, &watched.read(rt, alloc)?),
-        PageRequest::Health => health_page(alloc, &watched.read(rt, alloc)?),
+        PageRequest::Metrics => metrics_page(alloc, &watched.read(rt, alloc, seen)?),
+        PageRequest::Health => health_page(alloc, &watched.read(rt, alloc, seen)?),
         PageRequest::Refused(status) => status_page(alloc, status),
     }
 }

@@ -3,6 +3,8 @@ use Rattle.std.specs.Prelude.{◌≡◌, ◌≤◌, ℕ, List, [], ◌∷◌, le
 use Rattle.stamps.specs.Limits.{max_tenants}
 use Rattle.partition.specs.Accounts.{Account}
 use Rattle.partition.specs.Used.{IsUsageOf}
+use Rattle.history.specs.declared.entry.HistoryEntry.{HistoryEntry}
+use Rattle.traced_book.specs.Traced.{AreTraced}
 use Rattle.shard.specs.Journals.{AreOf}
 use Rattle.shard.specs.declared.usages.TenantUsage.{TenantUsage}
 
@@ -21,14 +23,15 @@ AreUsagesOf _ _ _ = ⊥
 abbrev pub IsAt : (parts partition its at : ℕ) → List Account → Type 0
 IsAt parts partition its at accounts = (its ≡ parts) × (at ≡ partition) × (length accounts ≤ max_tenants)
 
--- The partition, one of so many, had these accounts and so many collections of each tenant at one moment, and the numbers are those of
--- this moment.
-pub record WereUsedAt (parts partition : ℕ) (usages : List TenantUsage) : Type 0 where
+-- At one moment the partition, one of so many, had these accounts, which each call left that the history has of it, and so many collections of each
+-- tenant. The numbers are those of this moment.
+pub record WereUsedAt (log : List HistoryEntry) (parts partition : ℕ) (usages : List TenantUsage) : Type 0 where
   pub accounts : List Account
   pub collections : List ℕ
   pub journals : AreOf parts partition accounts
+  pub traced : AreTraced log partition accounts
   pub of_each : AreUsagesOf accounts collections usages
 
 -- there was such a moment
-abbrev pub AreUsagesAt : ℕ → ℕ → List TenantUsage → Type 0
-AreUsagesAt parts partition usages = ∥ WereUsedAt parts partition usages ∥₁
+abbrev pub AreUsagesAt : List HistoryEntry → ℕ → ℕ → List TenantUsage → Type 0
+AreUsagesAt log parts partition usages = ∥ WereUsedAt log parts partition usages ∥₁

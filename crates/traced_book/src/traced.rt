@@ -1,5 +1,5 @@
 //! A partition's cells, with journals or without, beside what was seen of the history.
-ghost use Rattle.std.specs.Prelude.{◌≡◌, ◌≢◌, ◌⊎◌, ◌+◌, ◌<◌, ◌≤◌, ◌↔◌, map, length, slice_get, false, true, Some, IfOk, IfErr, OnErr, IsErrOf, IsSomeAnd};
+ghost use Rattle.std.specs.Prelude.{◌≡◌, ◌≢◌, ◌⊎◌, ◌+◌, ◌<◌, ◌≤◌, ◌↔◌, map, length, slice_get, false, true, Some, IfOk, IfErr, OnErr, IsErrOf, IsSomeAnd, IsTrue, IsFalse};
 ghost use mathlib.Core.List.{IsPrefix};
 ghost use Rattle.stamps.specs.Limits.{max_parts};
 ghost use Rattle.partition.specs.Accounts.{Account, events_at, new_account, IsCut, IsPastAt};
@@ -138,6 +138,20 @@ impl<J: Naming> TracedBook<J> {
         ensures calls { result ≡ count (self.now.partition + 1) seen.new }
     {
         seen.look(&self.tally)
+    }
+
+    /// Sees the history as it is now, and answers whether each call that it has of this partition was served here: what stands here is then what
+    /// all these calls left. Else it has more of them than were served here.
+    pub fn has_all(&self, seen: &mut Front<J>) -> bool
+        ensures later { IsPrefix seen.old seen.new }
+        ensures all { IsTrue result → AreTraced seen.new self.now.partition self.now.accounts }
+        ensures others { IsFalse result
+            → WereMoreServed self.now.seen seen.new self.now.partition }
+    {
+        let mine = self.front.again();
+        seen.learn(&mine);
+        let found = seen.look(&self.tally);
+        found == self.entries
     }
 
     /// The book, where journals are kept, it entered just so many calls and the history, as it is now, has no more of its partition. What

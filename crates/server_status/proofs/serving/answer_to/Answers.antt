@@ -9,14 +9,14 @@ made_with : {A E : Type 0} {P Q : A → Type 0} (result : Result A E) → ((made
 made_with (Ok made) more is = more made is
 made_with (Err e) more is = tt
 
-pub returns-in_ok-read-in-Metrics : goal.returns-in_ok-read-in-Metrics
-returns-in_ok-read-in-Metrics g c =
+pub returns-in_ok-read-in-Metrics-clause-answer : goal.returns-in_ok-read-in-Metrics-clause-answer
+returns-in_ok-read-in-Metrics-clause-answer g c =
     let read = c.in_ok-read-in-Metrics in
-    subst (λ (asked : PageRequest). IfOk c.metrics_page.result (λ page. IsAnswerTo g.C.JournalChecks.has_told c.args.watched.now asked (string_bytes page))) (sym c.in-Metrics.is)
-    (made_with c.metrics_page.result (λ page is. (read.field-0, read.ensures, is)) c.metrics_page.ensures)
+    subst (λ (asked : PageRequest). IfOk c.metrics_page.result (λ page. IsAnswerTo g.C.JournalChecks.has_told c.args.watched.now c.args.seen.now c.read.new.seen asked (string_bytes page))) (sym c.in-Metrics.is)
+    (made_with c.metrics_page.result (λ page is. (read.field-0, read.ensures.read, is)) c.metrics_page.ensures)
 
-pub returns-in_ok-read-in-Health : goal.returns-in_ok-read-in-Health
-returns-in_ok-read-in-Health g c =
+pub returns-in_ok-read-in-Health-clause-answer : goal.returns-in_ok-read-in-Health-clause-answer
+returns-in_ok-read-in-Health-clause-answer g c =
     let read = c.in_ok-read-in-Health in
-    subst (λ (asked : PageRequest). IfOk c.health_page.result (λ page. IsAnswerTo g.C.JournalChecks.has_told c.args.watched.now asked (string_bytes page))) (sym c.in-Health.is)
-    (made_with c.health_page.result (λ page is. (read.field-0, read.ensures, is)) c.health_page.ensures)
+    subst (λ (asked : PageRequest). IfOk c.health_page.result (λ page. IsAnswerTo g.C.JournalChecks.has_told c.args.watched.now c.args.seen.now c.read-in-Health.new.seen asked (string_bytes page))) (sym c.in-Health.is)
+    (made_with c.health_page.result (λ page is. (read.field-0, read.ensures.read, is)) c.health_page.ensures)
