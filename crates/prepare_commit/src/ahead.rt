@@ -7,11 +7,10 @@ ghost use Rattle.prepare_commit.specs.Spots.{begun_by};
 
 use crate::changed::ChangedChains;
 use crate::copies::put_chain;
-use crate::items::{self, ChainedItem, KnownItem};
+use crate::items::{self, ChainedItem, ItemList, KnownItem};
 use crate::last_base::LastBase;
 use crate::parts::{BasePart, EntryPosition};
 use crate::versions::Versions;
-use lists::RowList;
 use std::alloc::{AllocError, Global};
 use version_chain::{Block, ChainList, VersionList};
 
@@ -32,7 +31,7 @@ pub(crate) struct NewPart {
 pub(crate) fn pack_noted(
     alloc: Global,
     block: &Block,
-    items: &RowList<ChainedItem>,
+    items: &ItemList,
     versions: &Versions,
     last: &mut LastBase,
     free: usize,
@@ -67,7 +66,7 @@ pub(crate) fn pack_noted(
 // Packs the item of one chain that is noted, if one is found, and notes it no more. The one error is that an allocation failed.
 fn pack_one(
     block: &Block,
-    items: &RowList<ChainedItem>,
+    items: &ItemList,
     versions: &Versions,
     last: &mut LastBase,
     free: usize,
@@ -95,7 +94,7 @@ fn pack_one(
 // still is.
 fn take_known(
     block: &Block,
-    items: &RowList<ChainedItem>,
+    items: &ItemList,
     versions: &Versions,
     since: &mut ChangedChains,
 ) -> Option<ChainedItem>
@@ -114,12 +113,7 @@ fn take_known(
 }
 
 // The item that has a chain, found by the key of the chain's first version.
-fn item_of(
-    block: &Block,
-    items: &RowList<ChainedItem>,
-    versions: &Versions,
-    chain: u32,
-) -> Option<ChainedItem>
+fn item_of(block: &Block, items: &ItemList, versions: &Versions, chain: u32) -> Option<ChainedItem>
     requires held { HoldItems block.now versions.now items.now.items }
     requires known { chain < length (lists_of block.now versions.now) }
     ensures item { IfSome result (StandsIn items.now.items) }

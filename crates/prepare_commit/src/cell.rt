@@ -29,7 +29,7 @@ use crate::copies::{has_items, held_items, set_spots};
 use crate::fill::StampedPlace;
 use crate::held::Held;
 use crate::holdings::Holdings;
-use crate::items::{self, ChainedItem, KnownItem};
+use crate::items::{self, ChainedItem, ItemList, KnownItem};
 use crate::last_base::LastBase;
 use crate::parts::PartList;
 use crate::reply::{
@@ -38,7 +38,6 @@ use crate::reply::{
 use crate::retire::{MOST_MOVED, MOST_PARTS, is_scattered, is_small, make_room};
 use crate::versions::Versions;
 use crate::{Base, fill, marks};
-use lists::RowList;
 use plain_store::{Call, DiscardReply, Found, PrepareReply, Reply};
 use secondary_index::TagIndex;
 use stamps::{Keep, Key, Record, Stamp, Tag, Visits};
@@ -54,15 +53,16 @@ use version_chain::{Block, Insert, VersionList};
 ///
 /// The caller's condition is the block: it has the versions of this cell, and no other version of its tenant. A call changes no cell of
 /// another tenant, and leaves the others' shares as they are. A client's call takes no memory: `open`, `at`, `base`, `cut`, `holds` and
-/// `begins_at` do, and so does `collect` once a base was cut. `found` looks its tag up in the index. `prepare` and `get` look their item up by a binary search, and then walk its chain, or, far down, beside it the list of the versions by stamp.
-/// `commit` and `discard` look the versions of their stamp up. `collect` goes over the items of which a version was committed since an
-/// earlier one, or over all.
+/// `begins_at` do, and so does `collect` once a base was cut. `found` looks its tag up in the index. `prepare` and `get` find their
+/// item where it was last found, or by a binary search, and then walk its chain, or, far down, beside it the list of the versions by
+/// stamp. `commit` and `discard` look the versions of their stamp up. `collect` goes over the items of which a version was committed
+/// since an earlier one, or over all.
 pub struct Cell {
     slots: u32,
     items: u32,
     clients: u32,
     versions: Versions,
-    entries: RowList<ChainedItem>,
+    entries: ItemList,
     index: TagIndex,
     marks: Vec<Stamp>,
     // The chains of which a version was committed since the last collection, and how many versions that one kept.
@@ -181,7 +181,7 @@ impl Cell {
             left: ChangedChains::open(alloc, items)?,
             least: None,
             last_base: LastBase::none(alloc, items)?,
-            entries: RowList::open(alloc, items)?,
+            entries: ItemList::open(alloc, items)?,
             index: TagIndex::open(alloc, items)?,
             versions: Versions::open(alloc, slots, items, tenant)?,
         })
@@ -263,8 +263,8 @@ impl Cell {
     ///
     /// The condition is that the tenant's share is there: as many cells of the block are free as it may still use.
     ///
-    /// It looks the item up by a binary search, and searches for the version's stamp in its chain. For an item with no entry
-    /// it shifts the places of the entries behind the new one, here and in the index, and no entry.
+    /// It finds the item where it was last found, or by a binary search, and searches for the version's stamp in its chain. For an item with
+    /// no entry it shifts the places of the entries behind the new one, here and in the index, and no entry.
     pub fn prepare(&mut self, block: &mut Block, version: &Record) -> PrepareReply
         requires { LiesWithShare block.old self.old }
         ensures served { IsServed block.old self.old block.new self.new
@@ -429,7 +429,7 @@ impl Cell {
     /// - With a stamp: `Collected` where the stamp is below the item's floor. Else the version of the stamp, committed
     ///   or not, or `Unknown` where it is not kept, as for `0.0`.
     ///
-    /// It looks the item up by a binary search, and searches for the stamp in its chain, or knows the latest.
+    /// It finds the item where it was last found, or by a binary search, and searches for the stamp in its chain, or knows the latest.
     pub fn get<'b>(&self, block: &'b Block, key: &Key, stamp: Option<Stamp>) -> GetReply<'b>
         requires { LiesIn block.now self.now }
         ensures { IsAnswered block.now self.now (Call.Get key.now stamp)
@@ -476,7 +476,7 @@ impl Cell {
     /// floor is lower. Gives up the versions below their items' floors, committed or not, and answers how many they
     /// were. Entries stay, and each item stands under the same tag as before. This rule is the store's own.
     ///
-    /// It visits the items of which a version was committed since the last collection, each by a binary search, and walks down the chain of
+    /// It visits the items of which a version was committed since the last collection, each where it was last found, and walks down the chain of
     /// each. Where the last one kept more versions, it visits those of which one was committed since the last that kept the least; and all
     /// items in their order where even that one kept more.
     ///

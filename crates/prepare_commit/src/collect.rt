@@ -1,15 +1,14 @@
 //! What a collection does to the items.
-ghost use Rattle.std.specs.Prelude.{◌≡◌, ◌<◌, ◌≤◌, ◌^◌, ◌↔◌, ℕ, false, All, Some, IsSomeAnd, IsTrue, length, slice_set, slice_index_or};
+ghost use Rattle.std.specs.Prelude.{◌≡◌, ◌<◌, ◌≤◌, ◌^◌, ◌↔◌, ℕ, false, All, [], None, Some, IfSome, IsSomeAnd, IsTrue, length, slice_set, slice_index_or};
 ghost use Rattle.version_chain.specs.Changes.{HasChain};
 ghost use Rattle.prepare_commit.specs.declared.items.ChainedItem.{ChainedItem};
-ghost use Rattle.prepare_commit.specs.Calls.{lists_of, GivesUpOf, HoldItems, IsCollected, IsCollectedAt};
-ghost use Rattle.prepare_commit.specs.Layout.{raised_item, kept_chain};
+ghost use Rattle.prepare_commit.specs.Calls.{lists_of, versions_at, GivesUpOf, HoldItems, IsCollected, IsCollectedAt};
+ghost use Rattle.prepare_commit.specs.Layout.{IsPlaceOf, raised_item, kept_chain};
 ghost use Rattle.prepare_commit.specs.Remembered.{AreSettledBeside, IsPassedOver, IsRemembered, Remembers, StayNoted, in_either};
 
 use crate::changed::ChangedChains;
-use crate::items::{self, ChainedItem, KnownItem};
+use crate::items::{self, ChainedItem, ItemList, KnownItem};
 use crate::versions::Versions;
-use lists::RowList;
 use stamps::Keep;
 use version_chain::Block;
 
@@ -19,7 +18,7 @@ use version_chain::Block;
 /// the list of the kept versions once where it gave up any.
 pub(crate) fn collect(
     block: &mut Block,
-    items: &mut RowList<ChainedItem>,
+    items: &mut ItemList,
     versions: &mut Versions,
     changed: &mut ChangedChains,
     left: &mut ChangedChains,
@@ -54,7 +53,7 @@ pub(crate) fn collect(
 /// chains that changed.
 fn cut(
     block: &mut Block,
-    items: &mut RowList<ChainedItem>,
+    items: &mut ItemList,
     versions: &mut Versions,
     changed: &ChangedChains,
     left: &mut ChangedChains,
@@ -134,12 +133,7 @@ fn kept_no_more(last: Option<Keep>, keep: Keep) -> bool
 }
 
 /// What such a collection does to all items, in their order.
-fn cut_items(
-    block: &mut Block,
-    items: &mut RowList<ChainedItem>,
-    versions: &mut Versions,
-    keep: Keep,
-) -> u32
+fn cut_items(block: &mut Block, items: &mut ItemList, versions: &mut Versions, keep: Keep) -> u32
     requires held { HoldItems block.old versions.old items.old.items }
     requires few { versions.old.chains.used < 2 ^ 32 }
     ensures { IsCollected keep result
@@ -155,7 +149,7 @@ fn cut_items(
 /// What such a collection does to the items of some chains, where it changes no other.
 fn cut_each(
     block: &mut Block,
-    items: &mut RowList<ChainedItem>,
+    items: &mut ItemList,
     versions: &mut Versions,
     chains: &[u32],
     keep: Keep,
@@ -176,10 +170,10 @@ fn cut_each(
 }
 
 /// Raises the floor of the item that has a chain, if one has a version there, gives up its versions below the floor, and
-/// answers how many they were. It finds the item by the key of the chain's first version.
+/// answers how many they were.
 fn cut_chain(
     block: &mut Block,
-    items: &mut RowList<ChainedItem>,
+    items: &mut ItemList,
     versions: &mut Versions,
     chain: u32,
     keep: Keep,
@@ -189,20 +183,38 @@ fn cut_chain(
     ensures { IsCollectedAt chain keep result
         block.old versions.old items.old block.new versions.new items.new }
 {
-    let Some(first) = versions.first(block, chain) else {
+    let Some(place) = find_place(block, items, versions, chain) else {
         return 0;
     };
+    cut_item(block, items, versions, place, keep)
+}
+
+/// The place of the item that has a chain: where it last stood, or else where the key of the chain's first version is found. None where no
+/// version is there.
+fn find_place(block: &Block, items: &mut ItemList, versions: &Versions, chain: u32) -> Option<usize>
+    requires held { HoldItems block.now versions.now items.old.items }
+    requires known { chain < length (lists_of block.now versions.now) }
+    ensures same { items.new ≡ items.old }
+    ensures found { IfSome result (IsPlaceOf items.old.items chain) }
+    ensures none { result ≡ None → versions_at block.now versions.now chain ≡ [] }
+{
+    let last = items.place_of(chain);
+    if last.is_some() {
+        return last;
+    }
+    let first = versions.first(block, chain)?;
     let key = first.key();
     let Ok(place) = items::search(items, &key) else {
         unreachable!()
     };
-    cut_item(block, items, versions, place, keep)
+    items.note(chain, place);
+    Some(place)
 }
 
 /// Raises the floor of the item at a place, gives up its versions below the floor, and answers how many they were.
 fn cut_item(
     block: &mut Block,
-    items: &mut RowList<ChainedItem>,
+    items: &mut ItemList,
     versions: &mut Versions,
     place: usize,
     keep: Keep,

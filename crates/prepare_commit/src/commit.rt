@@ -93,7 +93,7 @@ fn commit_version(
     let chain = chains.mark_slot(block, kept);
     changed.note(chain);
     if let Some(latest) = chains.latest(block, chain) {
-        let key = latest.key();
-        index.set_numbered(chain, &key, latest.tag());
+        let (key, tag) = latest.key_and_tag();
+        index.set_numbered(chain, &key, tag);
     }
 }

@@ -9,11 +9,10 @@ ghost use Rattle.prepare_commit.specs.Layout.{HaveOwnChains};
 ghost use Rattle.prepare_commit.specs.Remembered.{is_changed};
 
 use crate::held::Held;
-use crate::items::ChainedItem;
+use crate::items::{ChainedItem, ItemList};
 use crate::last_base::LastBase;
 use crate::parts::{BasePart, EntryPosition, PartList, is_entry};
 use crate::versions::Versions;
-use lists::RowList;
 use std::alloc::{AllocError, Global};
 use version_chain::{Block, ChainList, VersionList};
 
@@ -22,7 +21,7 @@ use version_chain::{Block, ChainList, VersionList};
 pub(crate) fn held_items(
     alloc: Global,
     block: &Block,
-    items: &RowList<ChainedItem>,
+    items: &ItemList,
     versions: &Versions,
     last: &LastBase,
     free: usize,
@@ -81,11 +80,7 @@ pub(crate) fn put_chain(
 }
 
 /// Makes the places of the items the spots of their chains.
-pub(crate) fn set_spots(
-    items: &RowList<ChainedItem>,
-    places: &[EntryPosition],
-    spots: &mut Vec<EntryPosition>,
-)
+pub(crate) fn set_spots(items: &ItemList, places: &[EntryPosition], spots: &mut Vec<EntryPosition>)
     requires many { length places.now ≡ length items.now.items }
     requires known { All (λ (i : ChainedItem). i.chain < length spots.old.items) items.now.items }
     requires apart { HaveOwnChains items.now.items }
@@ -105,7 +100,7 @@ pub(crate) fn set_spots(
 pub(crate) fn has_items(
     alloc: Global,
     block: &Block,
-    items: &RowList<ChainedItem>,
+    items: &ItemList,
     versions: &Versions,
     last: &LastBase,
     held: &Held,

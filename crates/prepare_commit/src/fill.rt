@@ -11,9 +11,8 @@ ghost use Rattle.prepare_commit.specs.Layout.{together, item_chains, entries_of,
 ghost use Rattle.prepare_commit.specs.Lists.{SameMembers};
 
 use crate::held::Held;
-use crate::items::{self, ChainedItem};
+use crate::items::{self, ChainedItem, ItemList};
 use crate::versions::Versions;
-use lists::RowList;
 use secondary_index::TagIndex;
 use stamps::{Stamp, Tag};
 use std::alloc::{AllocError, Global};
@@ -27,7 +26,7 @@ pub(crate) struct StampedPlace {
 }
 
 /// Adds an item for each entry, with the chain that has the number of its place.
-pub(crate) fn add_items(items: &mut RowList<ChainedItem>, held: &Held)
+pub(crate) fn add_items(items: &mut ItemList, held: &Held)
     requires empty { items.old.items ≡ [] }
     requires room { length held.now ≤ items.old.room }
     requires few { length held.now < 2 ^ 32 }
@@ -70,7 +69,7 @@ pub(crate) fn by_stamps(
 /// so that none is walked over or shifted.
 pub(crate) fn add_versions(
     block: &mut Block,
-    items: &RowList<ChainedItem>,
+    items: &ItemList,
     held: &mut Versions,
     versions: &VersionList,
     places: &[StampedPlace],
@@ -98,12 +97,7 @@ pub(crate) fn add_versions(
 }
 
 /// Puts a version with its mark into the chain of its item, which has none of its stamp.
-fn add_version(
-    block: &mut Block,
-    items: &RowList<ChainedItem>,
-    held: &mut Versions,
-    version: &Version,
-)
+fn add_version(block: &mut Block, items: &ItemList, held: &mut Versions, version: &Version)
     requires share { HaveShare block.old held.old }
     requires laid { IsLaid items.now.items (lists_of block.old held.old) }
     requires within { length items.now.items ≤ length (lists_of block.old held.old) }
@@ -125,12 +119,7 @@ fn add_version(
 }
 
 /// Makes each item known to an empty index, under the tag of its latest committed version.
-pub(crate) fn index_latest(
-    block: &Block,
-    items: &RowList<ChainedItem>,
-    held: &Versions,
-    index: &mut TagIndex,
-)
+pub(crate) fn index_latest(block: &Block, items: &ItemList, held: &Versions, index: &mut TagIndex)
     requires stands { HoldsChains block.now held.now.chains }
     requires laid { IsLaid items.now.items (lists_of block.now held.now) }
     requires within { length items.now.items ≤ length (lists_of block.now held.now) }

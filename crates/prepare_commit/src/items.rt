@@ -1,11 +1,14 @@
 //! The items of a cell, in the order of their keys.
-ghost use Rattle.std.specs.Prelude.{◌≡◌, ◌<◌, ◌≤◌, ◌+◌, [], vec_len, vec_capacity, insert as list_insert, MatchResult};
+ghost use Rattle.std.specs.Prelude.{◌≡◌, ◌<◌, ◌≤◌, ◌+◌, [], IfOk, IfSome, MatchResult, insert as list_insert, length, slice_index_or, slice_set, vec_capacity, vec_len};
 ghost use Rattle.stamps.specs.Key.{key_cmp};
 ghost use Rattle.secondary_index.specs.Ordered.{IsInOrder, StandsAt, BelongsAt};
-ghost use Rattle.prepare_commit.specs.Layout.{item_row};
+ghost use Rattle.prepare_commit.specs.Layout.{IsPlaceOf, item_row};
 
+use crate::place_hints::PlaceHints;
 use lists::RowList;
 use stamps::{Key, Stamp, Tag};
+use std::alloc::{AllocError, Global};
+use std::marker::Model;
 
 /// An item of which a version was prepared once. Versions below its floor are dropped.
 #[derive(Clone, Copy, PartialEq, Eq)]
@@ -21,6 +24,91 @@ pub(crate) struct ChainedItem {
     pub(crate) chain: u32,
 }
 
+/// The items of a cell, in the order of their keys, with room for so many. Contracts see the room and the list.
+#[derive(Drop)]
+pub(crate) struct ItemList {
+    list: RowList<ChainedItem>,
+    hints: PlaceHints,
+}
+
+impl Model for ItemList {
+    ghost use Rattle.lists.specs.Listing.{Listing};
+    ghost use Rattle.prepare_commit.specs.declared.items.ChainedItem.{ChainedItem};
+
+    ghost Value = { Listing ChainedItem };
+
+    ghost view = { λ i. i.list };
+}
+
+impl ItemList {
+    /// No items, with room for so many. The one error is that the allocation failed.
+    pub(crate) fn open(alloc: Global, room: u32) -> Result<ItemList, AllocError>
+        ensures { IfOk result (λ items. items ≡ record { room = room; items = [] }) }
+    {
+        Ok(ItemList {
+            list: RowList::open(alloc, room)?,
+            hints: PlaceHints::open(alloc, room)?,
+        })
+    }
+
+    /// How many items there are.
+    pub(crate) fn len(&self) -> usize
+        ensures { result ≡ length self.now.items }
+    {
+        self.list.len()
+    }
+
+    /// The item at a place.
+    pub(crate) fn get(&self, place: usize) -> &ChainedItem
+        requires { place < length self.now.items }
+        ensures { result.now ≡ slice_index_or self.now.items place result.now }
+    {
+        self.list.get(place)
+    }
+
+    /// Writes over the item at a place.
+    pub(crate) fn set(&mut self, place: usize, item: ChainedItem)
+        requires { place < length self.old.items }
+        ensures items { self.new.items ≡ slice_set self.old.items place item }
+        ensures len { length self.new.items ≡ length self.old.items }
+        ensures room { self.new.room ≡ self.old.room }
+    {
+        self.list.set(place, item);
+    }
+
+    /// Puts in an item, for which there is room, before the one at a place, or at the end.
+    pub(crate) fn insert(&mut self, place: usize, item: ChainedItem)
+        requires within { place ≤ length self.old.items }
+        requires room { length self.old.items < self.old.room }
+        ensures items { self.new.items ≡ list_insert self.old.items place item }
+        ensures len { length self.new.items ≡ length self.old.items + 1 }
+        ensures room { self.new.room ≡ self.old.room }
+    {
+        self.list.insert(place, item);
+        self.hints.widen(self.list.len());
+        self.hints.note(&item.entry.key, place);
+        self.hints.note_chain(item.chain, place);
+    }
+
+    /// Where the item that has a chain stands, if it stands where it last did.
+    pub(crate) fn place_of(&self, chain: u32) -> Option<usize>
+        ensures { IfSome result (IsPlaceOf self.now.items chain) }
+    {
+        let place = self.hints.of_chain(chain);
+        if place < self.list.len() && self.list.get(place).chain == chain {
+            return Some(place);
+        }
+        None
+    }
+
+    /// Notes where the item that has a chain stands.
+    pub(crate) fn note(&mut self, chain: u32, place: usize)
+        ensures { self.new ≡ self.old }
+    {
+        self.hints.note_chain(chain, place);
+    }
+}
+
 /// Inserts a value where there is room for it, which takes no memory.
 pub(crate) fn insert_within<T: Drop>(list: &mut Vec<T>, index: usize, value: T)
     requires within { index ≤ vec_len list.old }
@@ -32,13 +120,30 @@ pub(crate) fn insert_within<T: Drop>(list: &mut Vec<T>, index: usize, value: T)
     let _ = list.insert(index, value);
 }
 
-/// Where the item of a key stands, or else where it would go in.
-pub(crate) fn search(items: &RowList<ChainedItem>, key: &Key) -> Result<usize, usize>
+/// Where the item of a key stands, or else where it would go in. It looks first where the item was last found.
+pub(crate) fn search(items: &ItemList, key: &Key) -> Result<usize, usize>
     requires { IsInOrder key_cmp item_row items.now.items }
     ensures { MatchResult result (StandsAt key_cmp item_row key.now items.now.items)
         (BelongsAt key_cmp item_row key.now items.now.items) }
 {
-    items.binary_search_by(|item| item.entry.key.cmp(key))
+    let place = items.hints.of(key);
+    if place < items.list.len() && items.list.get(place).entry.key == *key {
+        return Ok(place);
+    }
+    let found = search_list(&items.list, key);
+    if let Ok(place) = found {
+        items.hints.note(key, place);
+    }
+    found
+}
+
+// The same, by a binary search.
+fn search_list(list: &RowList<ChainedItem>, key: &Key) -> Result<usize, usize>
+    requires { IsInOrder key_cmp item_row list.now.items }
+    ensures { MatchResult result (StandsAt key_cmp item_row key.now list.now.items)
+        (BelongsAt key_cmp item_row key.now list.now.items) }
+{
+    list.binary_search_by(|item| item.entry.key.cmp(key))
 }
 
 /// The tag that marks nothing.

@@ -23,6 +23,7 @@ mod last_base;
 mod lone_cell;
 mod marks;
 mod parts;
+mod place_hints;
 mod replica;
 mod reply;
 mod retire;

@@ -154,6 +154,16 @@ impl<'b> StoredNode<'b> {
         front_tag(&front[..len])
     }
 
+    /// The name of the item, and the tag under which it is found. They are read at once.
+    fn key_and_tag(&self) -> (Key, Tag)
+        ensures { (result.0 ≡ self.now.version.prepared.key)
+            × (result.1 ≡ self.now.version.prepared.tag) }
+    {
+        let mut front = [0; FRONT_ROOM];
+        let len = self.read_front(&mut front);
+        (front_key(&front[..len]), front_tag(&front[..len]))
+    }
+
     /// Whether the version is of this record.
     fn is_of(&self, other: &Record) -> bool
         ensures { IsTrue result ↔ (self.now.version.prepared ≡ other.now) }
@@ -257,6 +267,13 @@ impl<'b> StoredRecord<'b> {
         ensures { result ≡ self.now.tag }
     {
         self.node.tag()
+    }
+
+    /// The name of the item, and the tag under which it is found, or the empty one. They are read at once.
+    pub fn key_and_tag(&self) -> (Key, Tag)
+        ensures { (result.0 ≡ self.now.key) × (result.1 ≡ self.now.tag) }
+    {
+        self.node.key_and_tag()
     }
 
     /// Whether it is this record.

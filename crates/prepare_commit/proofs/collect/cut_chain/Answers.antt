@@ -1,114 +1,42 @@
-use Rattle.std.proofs.Common.{◌≡◌, ◌<◌, ℕ, is_some, inl, inr, List, [], ◌∷◌, Some, None, map, length, get_or, All, refl, ap, sym, subst, ◌∙◌, arith}
-use Rattle.std.proofs.lemmas.Bool.{both_ways}
-use Rattle.std.proofs.lemmas.List.Elements.{All-head}
-use Rattle.stamps.specs.Record.{Record}
-use Rattle.version_chain.specs.declared.version.Version.{Version}
-use Rattle.version_chain.specs.Heads.{Heads}
-use Rattle.version_chain.specs.Chain.{Cells, HoldsChains, first_record}
-use Rattle.stamps.specs.Key.{key_cmp}
-use Rattle.secondary_index.specs.Ordered.{StandsAt, BelongsAt}
-use Rattle.prepare_commit.specs.declared.items.ChainedItem.{ChainedItem}
-use Rattle.prepare_commit.specs.Layout.{entries_of, item_row, held_in, chain_lists, chain_at, item_chains, IsVersionOf, HaveAll}
-use Rattle.prepare_commit.specs.Remembered.{raised_where, kept_where}
-use Rattle.prepare_commit.proofs.AllChains.{ItsItem, item_of}
-use Rattle.prepare_commit.proofs.Chaining.{has_chain}
-use Rattle.prepare_commit.proofs.CollectedChains.{paired, collected_where, parted_where, none_there, cut_where}
-use Rattle.prepare_commit.proofs.EachPlace.{used_is}
-use Rattle.prepare_commit.proofs.OwnChains.{keys_apart, own_chain, no_entry, entry_is}
-use Rattle.prepare_commit.specs.Content.{entry_at}
-use Rattle.version_chain.proofs.Replacing.{same_or_not}
+use Rattle.std.proofs.Common.{◌≡◌, List, map, get_or, set, refl, ap, sym, subst, ◌∙◌, arith}
+use Rattle.lists.specs.Listing.{Listing}
 use Rattle.version_chain.proofs.Changing.{own_none}
+use Rattle.prepare_commit.specs.declared.items.ChainedItem.{ChainedItem}
+use Rattle.prepare_commit.specs.Calls.{GivesUpOf, IsCutTo}
+use Rattle.prepare_commit.specs.Layout.{chain_lists, raised_item}
+use Rattle.prepare_commit.specs.Remembered.{raised_where, kept_where}
+use Rattle.prepare_commit.proofs.CollectedChains.{paired, collected_where, parted_where, none_there, cut_where}
 use Rattle.prepare_commit.proofs.collect.cut_chain.Goals as goal
-use Rattle.prepare_commit.proofs.collect.cut_chain.Goals.{After-cut_item, In_default}
-
-no_first : (vs : List Version) → None ≡ first_record vs → vs ≡ []
-no_first [] e = refl
-no_first (v ∷ vs) e = cc
-
-first_is : (vs : List Version) (r : Record) → Some r ≡ first_record vs → (0 < length vs) × ((key : List ℕ) → All (IsVersionOf key) vs → r.key ≡ key)
-first_is [] r e = cc
-first_is (v ∷ vs) r e =
-    let same : r ≡ v.prepared = cc in
-    (omega arith, λ key all. ap (λ (x : Record). x.key) same ∙ (All-head (IsVersionOf key) v vs all).key_is)
-
-module _ (block : Cells) (heads : Heads) (items : List ChainedItem) (chain : ℕ) (r : Record) (stands : HoldsChains block heads) (have : HaveAll items (held_in block heads)) (first : Some r ≡ first_record (chain_at (chain_lists block heads) chain)) where
-  -- the item that has the chain
-  owner : ItsItem items chain
-  owner = item_of items (held_in block heads) have (used_is block heads stands) chain (first_is (chain_at (chain_lists block heads) chain) r first).0
-
-  key_is : r.key ≡ owner.i.entry.key
-  key_is =
-      let own = own_chain items (chain_lists block heads) have.laid owner.k owner.i owner.within owner.is in
-      (first_is (chain_at (chain_lists block heads) chain) r first).1 owner.i.entry.key (subst (λ n. All (IsVersionOf owner.i.entry.key) (chain_at (chain_lists block heads) n)) owner.chain_is own)
-
-  -- which stands somewhere
-  is_there : (key : List ℕ) (place : ℕ) → key ≡ r.key → BelongsAt key_cmp item_row key items place → ⊥
-  is_there key place same belongs =
-      both_ways (is_some (entry_at key (entries_of items)))
-      (ap is_some (no_entry items (chain_lists block heads) have.laid place key belongs))
-      (ap (λ k. is_some (entry_at k (entries_of items))) (same ∙ key_is) ∙ ap is_some (entry_is items (chain_lists block heads) have.laid owner.k owner.i owner.within owner.is))
-
-  -- at the place that was found
-  is_place : (key : List ℕ) (place : ℕ) → key ≡ r.key → StandsAt key_cmp item_row key items place → owner.i ≡ get_or items place owner.i
-  is_place key place same found =
-      let there : (get_or items place owner.i).entry.key ≡ owner.i.entry.key = found.is owner.i ∙ same ∙ key_is in
-      let at_k : owner.i ≡ get_or items owner.k owner.i = owner.is in
-      elim (same_or_not place owner.k) [
-        | inl e ↦ at_k ∙ ap (λ n. get_or items n owner.i) (sym e)
-        | inr other ↦ absurd (keys_apart items have.laid.in_order place owner.k owner.i found.within owner.within other (there ∙ ap (λ (x : ChainedItem). x.entry.key) at_k))
-      ]
-
-  in_range : owner.i.chain < length (chain_lists block heads)
-  in_range = let given = have.laid.given owner.k owner.i owner.within in omega (arith, given, ap (λ (x : ChainedItem). x.chain) owner.is, have.within)
-
-pub first-requires : goal.first-requires
-first-requires c = has_chain c.args.block.now c.args.versions.now.chains c.args.chain c.requires.held.lies.stands c.requires.known
-
-pub search-requires : goal.search-requires
-search-requires c = c.requires.held.have.laid.in_order
-
-pub unreachable-requires : goal.unreachable-requires
-unreachable-requires c =
-    is_there c.args.block.now c.args.versions.now.chains c.args.items.now.items c.args.chain c.in-Some.first c.requires.held.lies.stands c.requires.held.have c.in-Some.ensures c.key-key.result c.in_default-search.field-0 c.key-key.ensures c.in_default-search.ensures
-
--- the item, and where it stands
-abbrev its : (c : After-cut_item) → ItsItem c.args.items.now.items c.args.chain
-its c = owner c.args.block.now c.args.versions.now.chains c.args.items.now.items c.args.chain c.in-Some.first c.requires.held.lies.stands c.requires.held.have c.in-Some.ensures
-
-place_is : (c : After-cut_item) → (its c).i ≡ get_or c.args.items.now.items c.in-Ok.place (its c).i
-place_is c = is_place c.args.block.now c.args.versions.now.chains c.args.items.now.items c.args.chain c.in-Some.first c.requires.held.lies.stands c.requires.held.have c.in-Some.ensures c.key-key.result c.in-Ok.place c.key-key.ensures c.in-Ok.ensures
-
-there : (c : After-cut_item) → (its c).i.chain < length (chain_lists c.args.block.now c.args.versions.now.chains)
-there c = in_range c.args.block.now c.args.versions.now.chains c.args.items.now.items c.args.chain c.in-Some.first c.requires.held.lies.stands c.requires.held.have c.in-Some.ensures
-
-both : (c : After-cut_item) → (c.cut_item.new.items.items ≡ map (raised_where c.args.chain c.args.keep (chain_lists c.args.block.now c.args.versions.now.chains)) c.args.items.now.items)
-    × (item_chains c.cut_item.new.items.items (chain_lists c.cut_item.new.block c.cut_item.new.versions.chains) ≡ map (kept_where c.args.chain c.args.keep (chain_lists c.args.block.now c.args.versions.now.chains)) c.args.items.now.items)
-both c =
-    let items = c.args.items.now.items in
-    let chains = chain_lists c.args.block.now c.args.versions.now.chains in
-    let its = its c in
-    let cut = c.cut_item.ensures in
-    parted_where c.args.chain c.args.keep _ _ _ _ ((λ j. paired (cut.raised its.i (place_is c) j) (cut.kept its.i (place_is c) j))
-    ∙ cut_where c.args.keep items chains c.in-Ok.place its.i c.in-Ok.ensures.within (place_is c) c.requires.held.have.laid (there c)
-    ∙ ap (λ n. map (collected_where n c.args.keep) (paired items chains)) its.chain_is)
 
 pub returns : goal.returns
 returns c =
-    let at = (goal.at.returns c).After-cut_item in
-    record { left = c.cut_item.ensures.left; raised = (both at).0; kept = (both at).1 }
+    let chains = chain_lists c.args.block.now c.args.versions.now.chains in
+    let items = c.args.items.now.items in
+    let at = c.in-Some.ensures.found in
+    let same : c.find_place.new.items.items ≡ items = ap (λ (l : Listing ChainedItem). l.items) c.in-Some.ensures.same in
+    let here : at.i ≡ get_or c.find_place.new.items.items c.in-Some.place at.i = at.is ∙ ap (λ (xs : List ChainedItem). get_or xs c.in-Some.place at.i) (sym same) in
+    let cut = c.cut_item.ensures in
+    let raised : c.cut_item.new.items.items ≡ set items c.in-Some.place (raised_item c.args.keep chains at.i) =
+    cut.raised at.i here ∙ ap (λ (xs : List ChainedItem). set xs c.in-Some.place (raised_item c.args.keep chains at.i)) same in
+    let kept = cut.kept at.i here in
+    let both = parted_where c.args.chain c.args.keep _ _ _ _ ((λ j. paired (raised j) (kept j))
+    ∙ cut_where c.args.keep items chains c.in-Some.place at.i at.within at.is c.requires.held.have.laid (omega (arith, c.requires.known, at.chain_is))
+    ∙ ap (λ n. map (collected_where n c.args.keep) (paired items chains)) at.chain_is) in
+    record {
+      left = subst (λ (l : Listing ChainedItem). GivesUpOf c.cut_item.result c.args.block.now c.args.versions.now l c.cut_item.new.block c.cut_item.new.versions c.cut_item.new.items) c.in-Some.ensures.same cut.left;
+      raised = both.0;
+      kept = both.1;
+    }
 
 -- a chain without versions
-stays : (c : In_default) → (c.args.items.now.items ≡ map (raised_where c.args.chain c.args.keep (chain_lists c.args.block.now c.args.versions.now.chains)) c.args.items.now.items)
-    × (item_chains c.args.items.now.items (chain_lists c.args.block.now c.args.versions.now.chains) ≡ map (kept_where c.args.chain c.args.keep (chain_lists c.args.block.now c.args.versions.now.chains)) c.args.items.now.items)
-stays c =
-    let chains = chain_lists c.args.block.now c.args.versions.now.chains in
-    parted_where c.args.chain c.args.keep _ _ _ _ (none_there c.args.keep c.args.items.now.items chains c.args.chain (no_first (chain_at chains c.args.chain) c.in_default.ensures))
-
 pub returns-in_default : goal.returns-in_default
 returns-in_default c =
-    let at = (goal.at.returns-in_default c).In_default in
+    let chains = chain_lists c.args.block.now c.args.versions.now.chains in
+    let stays = parted_where c.args.chain c.args.keep _ _ _ _ (none_there c.args.keep c.args.items.now.items chains c.args.chain (c.in_default.ensures.none refl)) in
+    subst (λ (l : Listing ChainedItem). IsCutTo (raised_where c.args.chain c.args.keep chains) (kept_where c.args.chain c.args.keep chains) 0 c.args.block.now c.args.versions.now c.args.items.now c.args.block.now c.args.versions.now l) (sym c.in_default.ensures.same) (
     record {
       left = record { held = c.requires.held; own = own_none c.args.block.now c.args.versions.now.chains; room = refl; fewer = omega arith };
-      raised = (stays at).0;
-      kept = (stays at).1;
+      raised = stays.0;
+      kept = stays.1;
     }
+    )

@@ -37,13 +37,13 @@ pub note-requires : goal.note-requires
 note-requires c = omega (arith, c.mark_slot-chain.ensures.known, c.requires.long)
 
 pub set_numbered-requires : goal.set_numbered-requires
-set_numbered-requires c = inl (ap (contains_key c.args.index.now.tags) c.key-key.ensures ∙ in_index (goal.at.set_numbered-requires c).After-mark_slot-chain c.in-Some.latest c.in-Some.ensures)
+set_numbered-requires c = inl (ap (contains_key c.args.index.now.tags) c.key_and_tag-key.ensures.0 ∙ in_index (goal.at.set_numbered-requires c).After-mark_slot-chain c.in-Some.latest c.in-Some.ensures)
 
 pub returns-in-Some-clause-keys : goal.returns-in-Some-clause-keys
 returns-in-Some-clause-keys c =
     subst (HasSameKeys c.args.index.now.tags) (sym (ap (λ (x : Index). x.tags) c.set_numbered.ensures.value))
-    (same_keys_set c.args.index.now.tags c.key-key.result c.tag.result
-    (ap (contains_key c.args.index.now.tags) c.key-key.ensures ∙ in_index (goal.at.returns-in-Some-clause-keys c).After-mark_slot-chain c.in-Some.latest c.in-Some.ensures))
+    (same_keys_set c.args.index.now.tags c.key_and_tag-key.result.0 c.key_and_tag-key.result.1
+    (ap (contains_key c.args.index.now.tags) c.key_and_tag-key.ensures.0 ∙ in_index (goal.at.returns-in-Some-clause-keys c).After-mark_slot-chain c.in-Some.latest c.in-Some.ensures))
 
 pub returns-in-Some-clause-moved : goal.returns-in-Some-clause-moved
 returns-in-Some-clause-moved c = rw (← c.mark_slot-chain.ensures.place) (λ key all.
@@ -53,8 +53,8 @@ returns-in-Some-clause-moved c = rw (← c.mark_slot-chain.ensures.place) (λ ke
       last,
       is,
       ap (λ (x : Index). x.tags) c.set_numbered.ensures.value
-          ∙ ap (λ k. insert c.args.index.now.tags k c.tag.result) c.key-key.ensures
-          ∙ ap (insert c.args.index.now.tags u.key) c.tag.ensures
+          ∙ ap (λ k. insert c.args.index.now.tags k c.key_and_tag-key.result.1) c.key_and_tag-key.ensures.0
+          ∙ ap (insert c.args.index.now.tags u.key) c.key_and_tag-key.ensures.1
           ∙ ap (λ k. insert c.args.index.now.tags k u.tag) (latest_key c.args.kept.stamp key _ _ c.mark_slot-chain.ensures.marked all last is),
     ))
 

@@ -1,0 +1,105 @@
+//! Where the items of a cell were last found.
+
+use stamps::Key;
+use std::alloc::{AllocError, Global};
+use std::sync::atomic::{AtomicU16, Ordering};
+
+/// How many marks there are for each item, so that few items have the same.
+const MARKS: usize = 2;
+
+/// At which places the items of a cell were last found: by their chains, and by marks that are computed of their keys. A place is a guess:
+/// items move, two may have one mark, and no place from 65,536 on is noted. Who takes it looks whether the item stands there.
+///
+/// Only `open` takes memory. What it takes is touched as items come.
+#[derive(Drop)]
+pub(crate) struct PlaceHints {
+    // By mark. There are a power of two of them.
+    places: Vec<AtomicU16>,
+    // By chain.
+    chains: Vec<u16>,
+}
+
+impl PlaceHints {
+    /// For as many items as these. The one error is that the allocation failed.
+    pub(crate) fn open(alloc: Global, items: u32) -> Result<PlaceHints, AllocError> {
+        let room = (items as usize).saturating_mul(2 * MARKS);
+        let mut places = Vec::with_capacity(alloc, room)?;
+        if room > 0 {
+            places.push_reserved(AtomicU16::new(0));
+        }
+        Ok(PlaceHints {
+            places,
+            chains: Vec::with_capacity(alloc, items as usize)?,
+        })
+    }
+
+    /// Where the item that has a chain may stand.
+    pub(crate) fn of_chain(&self, chain: u32) -> usize {
+        match self.chains.get(chain as usize) {
+            Some(place) => *place as usize,
+            None => 0,
+        }
+    }
+
+    /// Notes where the item that has a chain stands. Chains are given from 0, as items come.
+    pub(crate) fn note_chain(&mut self, chain: u32, place: usize) {
+        let Ok(place) = u16::try_from(place) else {
+            return;
+        };
+        let chain = chain as usize;
+        if chain < self.chains.len() {
+            self.chains[chain] = place;
+        } else if chain == self.chains.len() && chain < self.chains.capacity() {
+            self.chains.push_reserved(place);
+        }
+    }
+
+    /// Where the item of this key may stand.
+    pub(crate) fn of(&self, key: &Key) -> usize {
+        match self.places.get(self.slot(key)) {
+            Some(place) => place.load(Ordering::Relaxed) as usize,
+            None => 0,
+        }
+    }
+
+    /// Notes where the item of this key stands.
+    pub(crate) fn note(&self, key: &Key, place: usize) {
+        let Ok(place) = u16::try_from(place) else {
+            return;
+        };
+        if let Some(hint) = self.places.get(self.slot(key)) {
+            hint.store(place, Ordering::Relaxed);
+        }
+    }
+
+    /// Makes marks for one more item than these.
+    pub(crate) fn widen(&mut self, items: usize) {
+        let len = self.places.len();
+        if items <= len / MARKS {
+            return;
+        }
+        for _place in 0..len {
+            if self.places.len() == self.places.capacity() {
+                return;
+            }
+            self.places.push_reserved(AtomicU16::new(0));
+        }
+    }
+
+    // Which mark is this key's.
+    fn slot(&self, key: &Key) -> usize {
+        mark_of(key) as usize & self.places.len().wrapping_sub(1)
+    }
+}
+
+// A number that is mixed of all bytes of a key.
+fn mark_of(key: &Key) -> u64 {
+    let mut mark = 0u64;
+    let mut left = key.padded().as_slice();
+    while let Some((word, rest)) = left.split_first_chunk::<8>() {
+        mark = (mark ^ u64::from_le_bytes(*word)).wrapping_mul(0x9E37_79B9_7F4A_7C15);
+        mark ^= mark >> 32;
+        left = rest;
+    }
+    mark
+}
