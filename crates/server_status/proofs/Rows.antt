@@ -1,5 +1,5 @@
 -- One row more, behind those that were there.
-use Rattle.std.proofs.Common.{◌≡◌, ◌≢◌, ◌∙◌, ℕ, suc, ◌+◌, ◌<◌, ◌≤◌, List, [], ◌∷◌, ◌++◌, Option, Some, take, length, length-take-le, get_or, sym, ap, subst, append_assoc, add-one, arith}
+use Rattle.std.proofs.Common.{◌≡◌, ◌≢◌, ◌∙◌, ℕ, ◌+◌, ◌<◌, ◌≤◌, List, [], ◌∷◌, ◌++◌, Option, Some, take, length, length-take-le, get_or, sym, ap, subst, append_assoc, add-one, arith}
 use Rattle.std.specs.Prelude.{IfNone, IfSome, IsSomeAnd, None, slice_get, unwrap_or}
 use Rattle.std.proofs.Math.Seq.{take-suc}
 use Rattle.stamps.specs.declared.bounds.Limits.{Limits}

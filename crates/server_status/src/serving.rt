@@ -1,18 +1,15 @@
 //! Requests of HTTP, each on a connection of its own.
-ghost use Rattle.std.specs.Prelude.{◌≡◌, IfOk, string_bytes};
-ghost use Rattle.std.specs.Io.KnownBytes.{Keeps};
-ghost use mathlib.Core.List.{IsPrefix};
-ghost use Rattle.server_status.specs.Answered.{HasAnswered, IsAnswerTo, port_listener};
+ghost use Rattle.std.specs.Prelude.{◌≡◌};
+ghost use Rattle.server_status.specs.Answered.{HasAnswered, port_listener};
 
+use crate::pages::{Answering, Pages};
 use crate::reading::Watched;
 use crate::visitor::Visitor;
-use hub::{Front, Gate, Named, Naming};
-use server_metrics::{
-    PageRequest, health_page, hear, metrics_page, overview_page, pass_over, status_page, write_page,
-};
+use hub::{Named, Naming};
+use server_metrics::{hear, pass_over, write_page};
 use server_sessions::{Accept, Listener, Open, serve_connections};
 use server_verdicts::JournalChecks;
-use std::alloc::{AllocError, Global};
+use std::alloc::Global;
 use std::io::{Read, Write};
 use std::net::{Shutdown, TcpStream};
 use std::sync::Wait;
@@ -70,7 +67,11 @@ pub fn serve_and_report<
         {
             let mut answers = false;
             for _thread in 0..MOST_AT_ONCE {
-                if scope.spawn(move || port.serve(rt, alloc, watched)).is_ok() {
+                let mut pages = Pages::new(watched);
+                if scope
+                    .spawn(move || port.serve(rt, alloc, &mut pages))
+                    .is_ok()
+                {
                     answers = true;
                 }
             }
@@ -96,18 +97,11 @@ impl<L> StatusPort<L> {
 }
 
 impl<L: Accept> StatusPort<L> {
-    /// Answers requests, one at a time, until it is closed. Threads may do so side by side. What a thread answers is never of an older store than
-    /// what it answered before.
-    fn serve<G: Gate + Naming, C: JournalChecks, H: Wait + Clock>(
-        &self,
-        rt: &H,
-        alloc: Global,
-        watched: &Watched<'_, G, C>,
-    ) {
-        let mut seen = watched.hub.opening();
+    /// Answers requests by these pages, one at a time, until it is closed. Threads may do so side by side, each by pages of its own.
+    fn serve<P: Answering, H: Wait + Clock>(&self, rt: &H, alloc: Global, pages: &mut P) {
         for _ in rt.forever() {
             match self.listener.accept() {
-                Ok(stream) => self.answer(rt, alloc, watched, &stream, &mut seen),
+                Ok(stream) => self.answer(rt, alloc, pages, &stream),
                 Err(_) => {
                     if self.is_closed.load(Ordering::SeqCst) {
                         break;
@@ -128,23 +122,20 @@ impl<L: Accept> StatusPort<L> {
 
     // Answers the request of a connection, and waits for its client to close it: a close behind unread bytes might lose the answer.
     // One that sends nothing, or takes too long, gets no answer, and so does one for whose answer an allocation failed.
-    fn answer<G: Gate + Naming, C: JournalChecks, H: Wait + Clock>(
+    fn answer<P: Answering, H: Wait + Clock>(
         &self,
         rt: &H,
         alloc: Global,
-        watched: &Watched<'_, G, C>,
+        pages: &mut P,
         stream: &TcpStream,
-        seen: &mut Front<G>,
-    )
-        ensures { IsPrefix seen.old seen.new }
-    {
+    ) {
         let Ok(begun) = Instant::now(rt) else {
             return;
         };
         let is_over = &self.is_closed;
         let mut asking = Visitor::new(rt, stream, begun, TO_ASK);
         let mut taking = Visitor::new(rt, stream, begun, TO_TAKE);
-        if answer_one(rt, alloc, watched, &mut asking, &mut taking, is_over, seen) {
+        if answer_one(rt, alloc, pages, &mut asking, &mut taking, is_over) {
             let _ = stream.shutdown(Shutdown::Write);
             let mut closing = Visitor::new(rt, stream, begun, TO_CLOSE);
             pass_over(&mut closing, is_over);
@@ -153,46 +144,23 @@ impl<L: Accept> StatusPort<L> {
 }
 
 // Reads a request and writes its answer. Says whether all of that was written.
-fn answer_one<G: Gate + Naming, C: JournalChecks, H: Wait, R: Read, W: Write>(
+fn answer_one<P: Answering, H: Wait, R: Read, W: Write>(
     rt: &H,
     alloc: Global,
-    watched: &Watched<'_, G, C>,
+    pages: &mut P,
     reader: &mut R,
     writer: &mut W,
     is_over: &AtomicBool,
-    seen: &mut Front<G>,
 ) -> bool
-    ensures answered { HasAnswered C.has_told watched.now seen.old seen.new
+    ensures { HasAnswered (P.has_answered pages.old pages.new)
         (R.remaining reader.old) (R.remaining reader.new)
         (W.contents writer.old) (W.contents writer.new) result }
-    ensures later { IsPrefix seen.old seen.new }
 {
     let Some(asked) = hear(reader, is_over) else {
         return false;
     };
-    match answer_to(rt, alloc, watched, asked, seen) {
+    match pages.page(rt, alloc, asked) {
         Ok(page) => write_page(writer, page.as_bytes(), is_over),
         Err(_) => false,
-    }
-}
-
-// The page that answers a request. The one error is that an allocation failed.
-fn answer_to<G: Gate + Naming, C: JournalChecks, H: Wait>(
-    rt: &H,
-    alloc: Global,
-    watched: &Watched<'_, G, C>,
-    asked: PageRequest,
-    seen: &mut Front<G>,
-) -> Result<String, AllocError>
-    ensures answer { IfOk result
-        (λ page.
-        IsAnswerTo C.has_told watched.now seen.old seen.new asked (string_bytes page)) }
-    ensures later { IsPrefix seen.old seen.new }
-{
-    match asked {
-        PageRequest::Overview => overview_page(alloc),
-        PageRequest::Metrics => metrics_page(alloc, &watched.read(rt, alloc, seen)?),
-        PageRequest::Health => health_page(alloc, &watched.read(rt, alloc, seen)?),
-        PageRequest::Refused(status) => status_page(alloc, status),
     }
 }

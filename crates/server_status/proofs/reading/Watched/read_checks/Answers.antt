@@ -1,4 +1,4 @@
-use Rattle.std.proofs.Common.{◌≡◌, ◌∙◌, ◌+◌, ℕ, [], ◌∷◌, ap, arith, length, length-append}
+use Rattle.std.proofs.Common.{◌∙◌, ◌+◌, ℕ, [], ◌∷◌, ap, arith, length-append}
 use Rattle.server_status.proofs.Rows.{checks_more}
 use Rattle.server_status.proofs.reading.Watched.read_checks.Goals as goal
 

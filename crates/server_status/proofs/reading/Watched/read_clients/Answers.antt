@@ -2,7 +2,6 @@ use Rattle.std.proofs.Common.{◌≡◌, ◌∙◌, ◌≤◌, ◌<◌, ◌+◌,
 use Rattle.std.specs.Prelude.{slice_get}
 use Rattle.std.proofs.lemmas.Option.{slice_get_read, slice_get_within}
 use Rattle.stamps.specs.declared.bounds.Limits.{Limits}
-use Rattle.server_metrics.specs.declared.metrics.ClientRow.{ClientRow}
 use Rattle.server_status.specs.Reported.{IsClientRow}
 use Rattle.server_status.proofs.Rows.{clients_more}
 use Rattle.server_status.proofs.reading.Watched.read_clients.Goals as goal

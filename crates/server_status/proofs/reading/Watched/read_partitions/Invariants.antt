@@ -1,4 +1,3 @@
-use Rattle.std.proofs.Common.{◌≡◌, true}
 use Rattle.std.specs.Prelude.{IsTrue}
 use mathlib.Core.List.{IsPrefix}
 use Rattle.server_status.specs.Reported.{AreRowsBefore}
