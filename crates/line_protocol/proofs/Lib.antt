@@ -8,6 +8,7 @@ pub mod LineFeeds
 pub mod Appending
 pub mod TransferLaws
 pub mod EachWord
+pub mod WordLaws
 pub mod StepLaws
 pub mod ActLaws
 pub mod StepLineLaws

@@ -106,13 +106,6 @@ tagged_again front [] lacks h = rw (append-nil front, split_first-lacks 35 front
 tagged_again front (b ∷ tag) lacks h =
     rw (split_first-joined 35 front (b ∷ tag) lacks, (text_reader is_name_byte 1 max_tag_len).again (b ∷ tag) (record { at_least = omega arith; at_most = h.at_most; all_allowed = h.all_allowed })) refl
 
--- what is a key has no tag
-pub untagged : (text key : List ℕ) → Some key ≡ key_at text → Some (text, []) ≡ tagged_at text
-unfolding tagged_at
-untagged text key e =
-    let found = key_is.found text key (sym e) in
-    rw (split_first-lacks 35 text (Lacks-allowed is_name_byte 35 refl text (rw found.1 found.0.all_allowed))) refl
-
 joined : (text head value' key' version stamp' tag key value stamp : List ℕ) → text ≡ head ++ 61 ∷ value' → head ≡ key' ++ 64 ∷ version → version ≡ stamp' ++ tag → key' ≡ key → value' ≡ value → stamp' ≡ stamp
     → text ≡ (key ++ 64 ∷ (stamp ++ tag)) ++ 61 ∷ value
 joined text head value' key' version stamp' tag key value stamp a b c d e f = cc

@@ -1,6 +1,6 @@
 -- What is read is spelled so, and what is spelled so is read: for the lines of a session.
 use Rattle.std.proofs.Common.{◌≡◌, ℕ, List, [], ◌∷◌, ◌++◌, Option, Some, None, Result, Ok, Err, refl, sym, ap, subst, ◌∙◌, arith, inl, inr, ◌⊎◌}
-use Rattle.std.specs.Prelude.{bytes_eq, decimal, codes, map, IfOk, IfErr, IfSome}
+use Rattle.std.specs.Prelude.{decimal, codes, map, IfOk, IfErr, IfSome}
 use Rattle.std.proofs.lemmas.Option.{same_Some, none-some}
 use Rattle.stamps.specs.Bounds.{IsClient}
 use Rattle.stamps.specs.Limits.{max_tag_len, max_name_len, max_counter}

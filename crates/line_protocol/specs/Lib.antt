@@ -4,6 +4,7 @@ pub mod Reading
 pub mod Held
 pub mod Transfers
 pub mod Room
+pub mod Words
 pub mod StepSpelling
 pub mod StepReading
 pub mod ServeSpelling

@@ -9,6 +9,7 @@ mod request;
 mod serve_line;
 mod step_line;
 mod token;
+mod word;
 mod write;
 
 pub use answer::write_answer;

@@ -1,5 +1,5 @@
 //! The lines that ask for steps.
-ghost use Rattle.std.specs.Prelude.{◌≡◌, ◌⊎◌, ℕ, [], ◌∷◌, ◌++◌, Some, IfSome, IfNone, IfOk, IfErr, OnOk, IsOk, Ok, Err};
+ghost use Rattle.std.specs.Prelude.{◌≡◌, ◌⊎◌, ℕ, ◌<◌, Some, IfSome, IfNone, IfOk, IfErr, OnOk, IsOk, Ok, Err, vec_len, vec_capacity};
 ghost use Rattle.std.specs.Option.{option_map};
 ghost use Rattle.stamps.specs.Limits.{max_counter};
 ghost use Rattle.plain_store.specs.declared.step.Act.{Act};
@@ -10,12 +10,10 @@ ghost use Rattle.line_protocol.specs.StepSpelling.{IsNumberOf, IsNobody, IsStepL
 ghost use Rattle.line_protocol.specs.StepReading.{client_at, item_at, hello_at, put_at, get_at, find_at, deliver_at, lose_at, retry_at, stop_at, collect_at, keep_at, plain_by, act_at, name_at, FindsList, FindsAct};
 
 use crate::Name;
-use crate::token::{
-    next_part, next_short_part, read_key, read_number, read_tag, read_tagged, read_value,
-    split_first,
-};
+use crate::token::{next_part, read_number, read_tag, split_first};
+use crate::word::{split_end, split_key, split_tag, split_value};
 use plain_store::{Act, Items, Keys, Refusal, Step};
-use stamps::{Client, Counter, Item, Keep, Key, Stamp, Tag};
+use stamps::{Client, Counter, Item, Keep, Key, Stamp, Value};
 use std::alloc::{AllocError, Global};
 
 /// The step that a line asks for, of one of the tenants of these names. The line is handed in without its LF. The
@@ -109,31 +107,52 @@ fn read_get(alloc: Global, words: &[u8]) -> Option<Result<Act, AllocError>>
 }
 
 /// What a word of a list is read as.
-pub(crate) trait Word: Sized {
-    ghost use Rattle.std.specs.Prelude.{◌≡◌, ℕ, List, Option};
+pub(crate) trait Word: Sized + Drop {
+    ghost use Rattle.std.specs.Prelude.{◌≡◌, ◌++◌, ◌∷◌, [], ℕ, List, Option, Some, None, MatchOption, IsOk, OnOk};
     ghost use Rattle.std.specs.Option.{option_map};
     ghost use Rattle.line_protocol.specs.Spelling.{space};
     ghost use Rattle.line_protocol.specs.Reading.{part_at};
 
     ghost at: { List ℕ → Option Self };
 
-    fn read(word: &[u8]) -> Option<Self>
-        ensures { result ≡ at word.now };
-
-    /// The first word of a text, and what follows the space behind it, if there is one.
-    fn split(text: &[u8]) -> (&[u8], Option<&[u8]>)
-        ensures { (result.0.now, option_map (λ t. t.now) result.1) ≡ part_at space text.now };
+    /// Reads the first word of a text, and keeps it behind the others, unless there was no memory for one of them. It
+    /// returns whether there was, and what follows the space behind the word, if there is one.
+    fn take<'a>(
+        text: &'a [u8],
+        list: &mut Vec<Self>,
+        kept: Result<(), AllocError>,
+    ) -> Option<(Result<(), AllocError>, Option<&'a [u8]>)>
+        ensures { MatchOption result
+            (at (part_at space text.now).0 ≡ None)
+            (λ p. (word : Self)
+            × (at (part_at space text.now).0 ≡ Some word)
+            × (option_map (λ t. t.now) p.1 ≡ (part_at space text.now).1)
+            × OnOk p.0 (IsOk kept × (list.new.items ≡ list.old.items ++ word ∷ []))) };
 }
 
 impl Word for Item {
     ghost at = { item_at };
 
-    fn read(word: &[u8]) -> Option<Item> {
-        read_item(word)
-    }
-
-    fn split(text: &[u8]) -> (&[u8], Option<&[u8]>) {
-        next_part(text, b' ')
+    // An item is made where it is kept.
+    fn take<'a>(
+        text: &'a [u8],
+        list: &mut Vec<Item>,
+        kept: Result<(), AllocError>,
+    ) -> Option<(Result<(), AllocError>, Option<&'a [u8]>)> {
+        let (key, after) = split_key(text)?;
+        let Some(tagged) = split_tag(after) else {
+            return None;
+        };
+        let (value, rest) = split_value(tagged.1)?;
+        if let Err(error) = make_room(list, kept) {
+            return Some((Err(error), rest));
+        }
+        list.push_reserved(Item {
+            key: Key::of_stored(key),
+            tag: tagged.0,
+            value: Value::of_stored(value),
+        });
+        Some((Ok(()), rest))
     }
 }
 
@@ -142,18 +161,24 @@ impl Word for Key {
 
     ghost at = { key_at };
 
-    fn read(word: &[u8]) -> Option<Key> {
-        read_key(word)
-    }
-
-    fn split(text: &[u8]) -> (&[u8], Option<&[u8]>) {
-        next_short_part(text, b' ')
+    fn take<'a>(
+        text: &'a [u8],
+        list: &mut Vec<Key>,
+        kept: Result<(), AllocError>,
+    ) -> Option<(Result<(), AllocError>, Option<&'a [u8]>)> {
+        let (key, after) = split_key(text)?;
+        let rest = split_end(after)?;
+        if let Err(error) = make_room(list, kept) {
+            return Some((Err(error), rest));
+        }
+        list.push_reserved(Key::of_stored(key));
+        Some((Ok(()), rest))
     }
 }
 
 /// Each word of the text, if there is one. Words that found no memory are read too, so that a bad one is never
 /// missed.
-pub(crate) fn read_each<T: Word + Drop>(
+pub(crate) fn read_each<T: Word>(
     alloc: Global,
     text: Option<&[u8]>,
 ) -> Option<Result<Vec<T>, AllocError>>
@@ -163,45 +188,21 @@ pub(crate) fn read_each<T: Word + Drop>(
     let mut kept = Ok(());
     let mut rest = text;
     while let Some(more) = rest {
-        let (word, after) = T::split(more);
-        let word = T::read(word)?;
-        kept = keep_word(&mut list, kept, word);
+        let (still, after) = T::take(more, &mut list, kept)?;
+        kept = still;
         rest = after;
     }
     Some(kept.map(|()| list))
 }
 
-// Keeps a word behind the others, unless there was no memory for one of them.
-fn keep_word<T: Drop>(
-    list: &mut Vec<T>,
-    kept: Result<(), AllocError>,
-    word: T,
-) -> Result<(), AllocError>
-    ensures { OnOk result (IsOk kept × (list.new.items ≡ list.old.items ++ word ∷ [])) }
+// Room for one word more, unless there was no memory for one before.
+fn make_room<T: Drop>(list: &mut Vec<T>, kept: Result<(), AllocError>) -> Result<(), AllocError>
+    ensures { OnOk result (IsOk kept
+        × (vec_len list.new < vec_capacity list.new)
+        × (list.new.items ≡ list.old.items)) }
 {
     kept?;
-    list.reserve(1)?;
-    list.push_reserved(word);
-    Ok(())
-}
-
-// KEY=VALUE, or KEY#TAG=VALUE. What is a key as a whole has no tag.
-#[tactic(auto, unfolding(crate::specs::StepReading::item_at))]
-fn read_item(text: &[u8]) -> Option<Item>
-    ensures { result ≡ item_at text.now }
-{
-    let (front, value) = split_first(text, b'=')?;
-    let value = read_value(value)?;
-    let (key, tag) = match read_key(front) {
-        Some(key) => (key, Tag::read(b"")?),
-        None => {
-            let Some(tagged) = read_tagged(front) else {
-                return None;
-            };
-            (read_key(tagged.0)?, tagged.1)
-        }
-    };
-    Some(Item { key, tag, value })
+    list.reserve(1)
 }
 
 /// 1 to 65535.
