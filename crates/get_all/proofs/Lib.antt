@@ -10,3 +10,4 @@ pub mod SearchTurns
 pub mod SearchReads
 pub mod NewSearch
 pub mod NeededStamps
+pub mod OneSlot

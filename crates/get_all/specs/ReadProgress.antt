@@ -1,5 +1,5 @@
 -- The keys of a read, what was shown of them, and what follows from it.
-use Rattle.std.specs.Prelude.{List, Bool, false, ◌&&◌, ◌||◌, ◌==◌, nat_lt, cond, not, map, filter, Option, Some, None}
+use Rattle.std.specs.Prelude.{◌≢◌, List, AllPairs, Bool, false, ◌&&◌, ◌||◌, ◌==◌, nat_lt, cond, not, map, filter, Option, Some, None}
 use Rattle.std.specs.Prelude.{is_some, bytes_eq}
 use Rattle.std.specs.List.{list_all}
 use Rattle.stamps.specs.Record.{Record}
@@ -14,6 +14,10 @@ use Rattle.get_all.specs.declared.read_progress.KeyProgress.{KeyProgress}
 -- a key of which nothing was shown
 abbrev pub slot_for : Key → KeyProgress
 slot_for key = record { key = key; first = None; second = None }
+
+-- no two slots have one key
+abbrev pub AreApart : List KeyProgress → Type 0
+AreApart = AllPairs (λ (j k : KeyProgress). j.key ≢ k.key)
 
 -- once round one showed this of a key; the first counts
 abbrev pub with_first : Key → Option Record → KeyProgress → KeyProgress

@@ -1,6 +1,7 @@
 //! The keys of a read, and the replies that counted.
-ghost use Rattle.std.specs.Prelude.{◌≡◌, true, ◌<◌, ◌≤◌, ◌+◌, ◌++◌, ◌∷◌, length, map, max, cond, nat_lt, option_copied, slice_index_or, take, drop};
+ghost use Rattle.std.specs.Prelude.{◌≡◌, true, ◌<◌, ◌≤◌, ◌+◌, ◌++◌, ◌∷◌, length, map, max, cond, nat_lt, option_copied, slice_index_or, slice_set, position, take, drop, Some};
 ghost use Rattle.std.specs.List.{list_any, list_all};
+ghost use Rattle.stamps.specs.Key.{IsTransactionKeys};
 ghost use Rattle.stamps.specs.Limits.{max_keys};
 ghost use Rattle.plain_store.specs.Rounds.{stamp_for, stamp_seen, reading_of, flat};
 ghost use Rattle.get_all.specs.declared.read_progress.KeyProgress.{KeyProgress};
@@ -53,13 +54,11 @@ impl KeyProgress {
         self.first.is_none() && self.key == *key
     }
 
-    /// Takes what round one showed of a key: the first counts.
-    fn take_first(&mut self, key: &Key, shown: Option<&Record>)
-        ensures { self.new ≡ with_first key.now (option_copied shown.entry) self.old }
+    /// Takes what round one showed of this key.
+    fn put_first(&mut self, shown: Option<&Record>)
+        ensures { self.new ≡ record self.old { first = Some (option_copied shown.entry) } }
     {
-        if self.awaits_first(key) {
-            self.first.put(shown);
-        }
+        self.first.put(shown);
     }
 
     /// Takes what round two showed of a key: the first counts.
@@ -200,12 +199,21 @@ impl KeyProgressList {
         self.len = keys.len();
     }
 
-    /// Has each slot take what round one showed of the key, and says whether round one is complete then.
-    fn take_first(&mut self, key: &Key, shown: Option<&Record>) -> bool
-        ensures slots { self.new ≡ map (with_first key.now (option_copied shown.entry)) self.old }
-        ensures shown { result ≡ list_all has_first self.new }
+    /// Has the slot at this place take what round one showed of its key.
+    fn put_first(&mut self, at: usize, shown: Option<&Record>)
+        requires { at < length self.old }
+        ensures { (slot : KeyProgress) → slot ≡ slice_index_or self.old at slot
+            → self.new
+            ≡ slice_set self.old at (record slot { first = Some (option_copied shown.entry) }) }
     {
-        take_first(&mut self.slots[..self.len], key, shown)
+        self.slots[..self.len][at].put_first(shown);
+    }
+
+    /// Whether round one showed something of each key.
+    fn are_shown(&self) -> bool
+        ensures { result ≡ list_all has_first self.now }
+    {
+        self.as_slice().iter().all(|slot| slot.first.is_some())
     }
 
     /// Has each slot take what round two showed of the key.
@@ -231,11 +239,11 @@ impl Model for ReadProgress {
 
     ghost Value = { List KeyProgress };
 
-    ghost use Rattle.get_all.specs.ReadProgress.{needed_stamps};
+    ghost use Rattle.get_all.specs.ReadProgress.{needed_stamps, AreApart};
 
     ghost view = { λ s. s.slots };
 
-    ghost invariant = { λ s. (0 < length s.slots) × (length s.slots ≤ max_keys) × (s.needed ≡ needed_stamps s.slots) };
+    ghost invariant = { λ s. (0 < length s.slots) × (length s.slots ≤ max_keys) × (s.needed ≡ needed_stamps s.slots) × AreApart s.slots };
 }
 
 impl ReadProgress {
@@ -243,8 +251,7 @@ impl ReadProgress {
 
     /// The slots of these keys, of which nothing was shown.
     pub(crate) fn of(keys: &[Key]) -> ReadProgress
-        requires some { 0 < length keys.now }
-        requires room { length keys.now ≤ max_keys }
+        requires { IsTransactionKeys keys.now }
         ensures { result ≡ map slot_for keys.now }
     {
         let mut slots = KeyProgressList::empty(keys[0]);
@@ -255,8 +262,7 @@ impl ReadProgress {
 
     /// Puts in its place those of these keys, of which nothing was shown.
     pub(crate) fn reset(&mut self, keys: &[Key])
-        requires some { 0 < length keys.now }
-        requires room { length keys.now ≤ max_keys }
+        requires { IsTransactionKeys keys.now }
         ensures { self.new ≡ map slot_for keys.now }
     {
         reset_each(&mut self.slots, &mut self.needed, keys);
@@ -279,18 +285,20 @@ impl ReadProgress {
         self.needed.as_slice()[i]
     }
 
-    /// Whether a first-round reply of this key is the first.
-    pub(crate) fn await_first(&self, key: &Key) -> bool
-        ensures { result ≡ list_any (awaits_first key.now) self.now }
+    /// The place, from 0, of the slot of which a first-round reply of this key is the first.
+    pub(crate) fn first_place(&self, key: &Key) -> Option<usize>
+        ensures { result ≡ position (awaits_first key.now) self.now }
     {
-        await_first(self.as_slice(), key)
+        self.as_slice()
+            .iter()
+            .position(|slot| slot.awaits_first(key))
     }
 
     /// Whether round one is complete.
     pub(crate) fn are_shown(&self) -> bool
         ensures { result ≡ list_all has_first self.now }
     {
-        self.as_slice().iter().all(|slot| slot.first.is_some())
+        self.slots.are_shown()
     }
 
     /// The greatest stamp that round one showed of a transaction that wrote the key.
@@ -336,15 +344,17 @@ impl ReadProgress {
         self.as_slice().iter().any(|slot| slot.shows(stamp, writes))
     }
 
-    /// Takes what round one showed of the key, which is the first of it, and says whether round one is complete then.
+    /// Takes what round one showed of the key, whose slot, at this place, waits for it. Says whether round one is complete
+    /// then.
     #[inline(always)]
-    pub(crate) fn mark_first(&mut self, key: &Key, shown: Option<&Record>) -> bool
-        requires { list_any (awaits_first key.now) self.old ≡ true }
+    pub(crate) fn mark_first(&mut self, at: usize, key: &Key, shown: Option<&Record>) -> bool
+        requires { position (awaits_first key.now) self.old ≡ Some at }
         ensures slots { self.new ≡ map (with_first key.now (option_copied shown.entry)) self.old }
         ensures shown { result ≡ list_all has_first self.new }
     {
         raise_at_first(&mut self.needed, self.slots.as_slice(), key, shown);
-        self.slots.take_first(key, shown)
+        self.slots.put_first(at, shown);
+        self.slots.are_shown()
     }
 
     /// Takes what round two showed of the key.
@@ -415,13 +425,6 @@ fn reset_first(slots: &mut [KeyProgress], keys: &[Key])
     }
 }
 
-/// Whether what round one shows of this key is the first of it.
-fn await_first(slots: &[KeyProgress], key: &Key) -> bool
-    ensures { result ≡ list_any (awaits_first key.now) slots.now }
-{
-    slots.iter().any(|slot| slot.awaits_first(key))
-}
-
 /// Raises what is needed of each slot's key by what round one showed of this key, which is the first of it.
 fn raise_at_first(
     needed: &mut SmallList<Stamp, { ReadProgress::MAX_LEN }>,
@@ -467,19 +470,6 @@ fn raised(needed: Stamp, key: &Key, version: &Record) -> Stamp
     } else {
         needed
     }
-}
-
-/// Has each slot take what round one showed of the key, and says whether each has been shown then. It looks through them once.
-fn take_first(slots: &mut [KeyProgress], key: &Key, shown: Option<&Record>) -> bool
-    ensures slots { slots.new ≡ map (with_first key.now (option_copied shown.entry)) slots.old }
-    ensures shown { result ≡ list_all has_first slots.new }
-{
-    let mut are_shown = true;
-    for slot in slots.iter_mut() {
-        slot.take_first(key, shown);
-        are_shown &= slot.first.is_some();
-    }
-    are_shown
 }
 
 /// Has each slot take what round two showed of the key.

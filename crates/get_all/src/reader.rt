@@ -60,7 +60,7 @@ fn is_of(version: &Record, key: &Key) -> bool
 }
 
 impl Reader {
-    ghost use Rattle.std.specs.Prelude.{◌≡◌, ◌+◌, ◌≤◌, true, false, ◌&&◌, ◌==◌, ◌↔◌, List, map, length, bytes_eq, option_copied, if◌then◌else◌, IsTrue, IsNone, IfSome};
+    ghost use Rattle.std.specs.Prelude.{◌≡◌, ◌+◌, ◌≤◌, true, false, ◌&&◌, ◌==◌, ◌↔◌, List, map, length, position, Some, bytes_eq, option_copied, if◌then◌else◌, IsTrue, IsNone, IfSome};
     ghost use Rattle.std.specs.List.{list_any, list_all};
     ghost use Rattle.plain_store.specs.declared.message.Message.{Message};
     ghost use Rattle.plain_store.specs.Run.{are_bad};
@@ -188,20 +188,20 @@ impl Reader {
         ensures few { calls_asked (told_by self.new kind.new) + calls_left self.new
             ≤ calls_left self.old }
     {
-        if !self.slots.await_first(key) {
+        let Some(at) = self.slots.first_place(key) else {
             *kind = ReadMoveKind::Ignored;
             return;
-        }
+        };
         match reply {
             ReadReply::Version(version) => {
                 if is_of(version, key) {
-                    self.show_first(key, Some(version), kind);
+                    self.show_first(at, key, Some(version), kind);
                 } else {
                     self.end();
                     *kind = ReadMoveKind::Torn;
                 }
             }
-            ReadReply::Initial => self.show_first(key, None, kind),
+            ReadReply::Initial => self.show_first(at, key, None, kind),
             ReadReply::Collected(_) => {
                 self.end();
                 *kind = ReadMoveKind::Torn;
@@ -213,11 +213,11 @@ impl Reader {
         }
     }
 
-    /// Takes what round one showed of the key, which is the first of it.
+    /// Takes what round one showed of the key, whose slot, at this place, waits for it.
     #[inline(always)]
-    fn show_first(&mut self, key: &Key, shown: Option<&Record>, kind: &mut ReadMoveKind)
+    fn show_first(&mut self, at: usize, key: &Key, shown: Option<&Record>, kind: &mut ReadMoveKind)
         requires open { self.old.has_ended ≡ false }
-        requires first { list_any (awaits_first key.now) self.old.slots ≡ true }
+        requires first { position (awaits_first key.now) self.old.slots ≡ Some at }
         ensures slots { self.new.slots
             ≡ map (with_first key.now (option_copied shown.entry)) self.old.slots }
         ensures ended { self.new.has_ended ≡ is_whole self.new.slots }
@@ -227,7 +227,7 @@ impl Reader {
             else ReadMove.Ask (late_by self.new.slots))
             else ReadMove.Wait) }
     {
-        if !self.slots.mark_first(key, shown) {
+        if !self.slots.mark_first(at, key, shown) {
             *kind = ReadMoveKind::Wait;
             return;
         }
