@@ -2,3 +2,4 @@ mod CallsLeft
 pub mod Awaited
 pub mod Ascending
 pub mod Steps
+pub mod OnePlace

@@ -1,5 +1,5 @@
 -- The items of a write, and what was answered of them.
-use Rattle.std.specs.Prelude.{◌≡◌, ℕ, Bool, false, ◌&&◌, ◌||◌, ◌==◌, not, bytes_eq, List, map}
+use Rattle.std.specs.Prelude.{◌≡◌, ◌≢◌, AllPairs, ℕ, Bool, false, ◌&&◌, ◌||◌, ◌==◌, not, bytes_eq, List, map}
 use Rattle.std.specs.List.{list_any, list_all}
 use Rattle.stamps.specs.Key.{home_of}
 use Rattle.plain_store.specs.Words.{Key}
@@ -10,6 +10,10 @@ use Rattle.put_all.specs.declared.write_progress.CommitMarked.{CommitMarked}
 -- an item of which nothing was answered
 abbrev pub place_for : ℕ → Key → ItemProgress
 place_for parts key = record { key = key; home = home_of key parts; is_prepared = false; is_committed = false }
+
+-- no two items have one key
+abbrev pub AreApart : List ItemProgress → Type 0
+AreApart = AllPairs (λ (j k : ItemProgress). j.key ≢ k.key)
 
 -- once this key was answered Prepared
 abbrev pub with_prepared : Key → ItemProgress → ItemProgress

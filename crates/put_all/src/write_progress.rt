@@ -1,8 +1,10 @@
 //! The items of a write, and what their partitions answered.
-ghost use Rattle.std.specs.Prelude.{◌≡◌, ◌<◌, ◌≤◌, [], length, map};
+ghost use Rattle.std.specs.Prelude.{◌≡◌, ◌<◌, ◌≤◌, [], length, map, position};
 ghost use Rattle.std.specs.List.{list_any, list_all};
 ghost use Rattle.stamps.specs.Bounds.{IsParts};
+ghost use Rattle.stamps.specs.Key.{IsTransactionKeys};
 ghost use Rattle.stamps.specs.Limits.{max_keys};
+ghost use Rattle.plain_store.specs.Writing.{keys_written};
 ghost use Rattle.put_all.specs.WriteProgress.{MarksPrepared, MarksCommitted, place_for, with_prepared, with_committed, awaits_prepared, awaits_committed, is_at};
 
 use lists::SmallList;
@@ -33,16 +35,6 @@ impl ItemProgress {
             is_prepared: false,
             is_committed: false,
         }
-    }
-
-    /// Takes that this key was answered Prepared, and says whether that was awaited.
-    fn take_prepared(&mut self, key: &Key) -> bool
-        ensures place { self.new ≡ with_prepared key.now self.old }
-        ensures awaited { result ≡ awaits_prepared key.now self.old }
-    {
-        let awaits = self.awaits_prepared(key);
-        self.is_prepared |= awaits;
-        awaits
     }
 
     /// Takes that the COMMIT at this partition was answered, and says whether that was awaited.
@@ -99,7 +91,11 @@ impl Model for WriteProgress {
 
     ghost Value = { List ItemProgress };
 
+    ghost use Rattle.put_all.specs.WriteProgress.{AreApart};
+
     ghost view = { λ p. p.0 };
+
+    ghost invariant = { λ p. AreApart p.0 };
 }
 
 impl WriteProgress {
@@ -108,6 +104,7 @@ impl WriteProgress {
         requires parts { IsParts parts }
         requires some { 0 < length items.now }
         requires room { length items.now ≤ max_keys }
+        requires keys { IsTransactionKeys (keys_written items.now) }
         ensures { result ≡ map (λ item. place_for parts item.key) items.now }
     {
         let mut places = WriteProgress::none(items[0].key);
@@ -126,6 +123,7 @@ impl WriteProgress {
     pub(crate) fn reset(&mut self, items: &[Item], parts: u32)
         requires parts { IsParts parts }
         requires room { length items.now ≤ max_keys }
+        requires keys { IsTransactionKeys (keys_written items.now) }
         ensures { self.new ≡ map (λ item. place_for parts item.key) items.now }
     {
         self.0.clear();
@@ -158,6 +156,15 @@ impl WriteProgress {
             .any(|place| place.awaits_prepared(key))
     }
 
+    /// The place, from 0, of the item of this key that waits for its Prepared.
+    fn awaited_place(&self, key: &Key) -> Option<usize>
+        ensures { result ≡ position (awaits_prepared key.now) self.now }
+    {
+        self.as_slice()
+            .iter()
+            .position(|place| place.awaits_prepared(key))
+    }
+
     /// Whether an item belongs to this partition.
     pub(crate) fn are_at(&self, partition: u32) -> bool
         ensures { result ≡ list_any (is_at partition) self.now }
@@ -175,31 +182,37 @@ impl WriteProgress {
     pub(crate) fn mark_prepared(&mut self, key: &Key) -> Marked
         ensures { MarksPrepared key.now self.old self.new result }
     {
-        self.0.change(|places| take_prepared(places, key))
+        let Some(at) = self.awaited_place(key) else {
+            return Marked {
+                was_awaited: false,
+                are_prepared: self.are_prepared(),
+            };
+        };
+        let mut place = self.as_slice()[at];
+        place.is_prepared = true;
+        self.0.set(at, place);
+        Marked {
+            was_awaited: true,
+            are_prepared: self.are_prepared(),
+        }
     }
 
     /// Takes the answered COMMIT of this partition. Where no item waits for that, they stay as they were.
     pub(crate) fn mark_committed(&mut self, partition: u32) -> CommitMarked
         ensures { MarksCommitted partition self.old self.new result }
     {
-        self.0.change(|places| take_committed(places, partition))
+        take_committed_of(&mut self.0, partition)
     }
 }
 
-/// Has each place take that the key was answered Prepared. It looks through them once.
-fn take_prepared(places: &mut [ItemProgress], key: &Key) -> Marked
-    ensures { MarksPrepared key.now places.old places.new result }
+/// Has each item of the list take that the COMMIT at the partition was answered.
+fn take_committed_of(
+    places: &mut SmallList<ItemProgress, { limits::MAX_KEYS }>,
+    partition: u32,
+) -> CommitMarked
+    ensures { MarksCommitted partition places.old places.new result }
 {
-    let mut marked = Marked {
-        was_awaited: false,
-        are_prepared: true,
-    };
-    for place in places.iter_mut() {
-        let awaits = place.take_prepared(key);
-        marked.was_awaited |= awaits;
-        marked.are_prepared &= place.is_prepared;
-    }
-    marked
+    places.change(|places| take_committed(places, partition))
 }
 
 /// Has each place take that the COMMIT at the partition was answered. It looks through them once.
