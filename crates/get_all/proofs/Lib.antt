@@ -9,5 +9,5 @@ pub mod SearchedKeys
 pub mod SearchTurns
 pub mod SearchReads
 pub mod NewSearch
-pub mod NeededStamps
+pub mod Lateness
 pub mod OneSlot

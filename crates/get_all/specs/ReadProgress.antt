@@ -51,10 +51,6 @@ first_shows stamp writes (Some (Some version)) = (version.stamp == stamp) && key
 abbrev pub needed_by : List KeyProgress → Key → Stamp
 needed_by slots key = greatest_by (λ slot. stamp_for key slot.first) slots
 
--- what is needed of each slot's key
-abbrev pub needed_stamps : List KeyProgress → List Stamp
-needed_stamps slots = map (λ slot. needed_by slots slot.key) slots
-
 abbrev pub is_late_by : List KeyProgress → KeyProgress → Bool
 is_late_by slots slot = nat_lt (stamp_seen slot.first) (needed_by slots slot.key)
 

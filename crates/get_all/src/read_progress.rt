@@ -1,11 +1,11 @@
 //! The keys of a read, and the replies that counted.
-ghost use Rattle.std.specs.Prelude.{◌≡◌, true, ◌<◌, ◌≤◌, ◌+◌, ◌++◌, ◌∷◌, length, map, max, cond, nat_lt, option_copied, slice_index_or, slice_set, position, take, drop, Some};
+ghost use Rattle.std.specs.Prelude.{◌≡◌, true, false, ◌<◌, ◌≤◌, ◌+◌, ◌++◌, ◌∷◌, length, map, max, cond, nat_lt, option_copied, slice_index_or, slice_set, position, take, drop, Some};
 ghost use Rattle.std.specs.List.{list_any, list_all};
 ghost use Rattle.stamps.specs.Key.{IsTransactionKeys};
 ghost use Rattle.stamps.specs.Limits.{max_keys};
 ghost use Rattle.plain_store.specs.Rounds.{stamp_for, stamp_seen, reading_of, flat};
 ghost use Rattle.get_all.specs.declared.read_progress.KeyProgress.{KeyProgress};
-ghost use Rattle.get_all.specs.ReadProgress.{slot_for, with_first, with_second, awaits_first, has_first, first_shows, needed_by, needed_stamps, awaits_second, is_answered_by, late_by, readings_by};
+ghost use Rattle.get_all.specs.ReadProgress.{slot_for, with_first, with_second, awaits_first, has_first, first_shows, is_late_by, needed_by, awaits_second, is_answered_by, late_by, readings_by};
 
 use crate::record_place::{FirstShown, RecordPlace};
 use crate::{Late, LateKeys};
@@ -90,36 +90,36 @@ impl KeyProgress {
         }
     }
 
-    /// Whether round one showed an older version than this one, that is needed.
-    fn is_late(&self, needed: Stamp) -> bool
-        ensures { result ≡ nat_lt (stamp_seen self.now.first) needed }
+    /// Whether round one showed here a later transaction than that of this stamp, which wrote the key.
+    fn outdates(&self, key: &Key, stamp: Stamp) -> bool
+        ensures { result ≡ nat_lt stamp (stamp_for key.now self.now.first) }
     {
-        self.first_stamp() < needed
+        match self.first.version() {
+            Some(version) => is_later(version, key, stamp),
+            None => false,
+        }
     }
 
-    /// The record that is read where this stamp is needed, or none for the initial version.
-    fn version(&self, needed: Stamp) -> Option<&Record>
-        ensures { option_copied result
-            ≡ cond (nat_lt (stamp_seen self.now.first) needed) self.now.second
-            (flat self.now.first) }
+    /// The record that is read where the key is late or is not, or none for the initial version.
+    fn version(&self, is_late: bool) -> Option<&Record>
+        ensures { option_copied result ≡ cond is_late self.now.second (flat self.now.first) }
     {
-        if self.is_late(needed) {
+        if is_late {
             self.second.get()
         } else {
             self.first.version()
         }
     }
 
-    /// Puts what is read where this stamp is needed at this place of the caller's buffer.
-    fn read_into(&self, needed: Stamp, at: usize, place: &mut Readings)
+    /// Puts what is read where the key is late or is not at this place of the caller's buffer.
+    fn read_into(&self, is_late: bool, at: usize, place: &mut Readings)
         requires place { at ≤ length place.old }
         requires room { at < max_keys }
         ensures { place.new ≡ take at place.old
-            ++ (reading_of self.now.key
-            (cond (nat_lt (stamp_seen self.now.first) needed) self.now.second
-            (flat self.now.first))) ∷ drop (at + 1) place.old }
+            ++ (reading_of self.now.key (cond is_late self.now.second (flat self.now.first)))
+            ∷ drop (at + 1) place.old }
     {
-        match self.version(needed) {
+        match self.version(is_late) {
             Some(version) => place.put_record(at, version),
             None => place.put(at, &initial(self.key)),
         }
@@ -216,6 +216,28 @@ impl KeyProgressList {
         self.as_slice().iter().all(|slot| slot.first.is_some())
     }
 
+    /// Whether round one showed a later transaction than the one that it showed of this slot's key, which wrote the key.
+    fn is_late(&self, slot: &KeyProgress) -> bool
+        ensures { result ≡ is_late_by self.now slot.now }
+    {
+        let stamp = slot.first_stamp();
+        outdate(self.as_slice(), &slot.key, stamp)
+    }
+
+    /// Whether some key is late.
+    fn are_late(&self) -> bool
+        ensures { result ≡ list_any (is_late_by self.now) self.now }
+    {
+        self.as_slice().iter().any(|slot| self.is_late(slot))
+    }
+
+    /// Whether it is known that no key is late: they are looked through once all are shown.
+    fn are_current(&self, are_shown: bool) -> bool
+        ensures { result ≡ true → list_any (is_late_by self.now) self.now ≡ false }
+    {
+        are_shown && !self.are_late()
+    }
+
     /// Has each slot take what round two showed of the key.
     fn take_second(&mut self, key: &Key, version: &Record)
         ensures { self.new ≡ map (with_second key.now version.now) self.old }
@@ -228,22 +250,23 @@ impl KeyProgressList {
 #[derive(Drop)]
 pub(crate) struct ReadProgress {
     slots: KeyProgressList,
-    /// What is needed of each key, kept as the records come.
-    needed: SmallList<Stamp, { ReadProgress::MAX_LEN }>,
+    /// It is known that no key is late.
+    is_current: bool,
 }
 
 impl Model for ReadProgress {
-    ghost use Rattle.std.specs.Prelude.{◌≡◌, ◌<◌, ◌≤◌, List, length};
+    ghost use Rattle.std.specs.Prelude.{◌≡◌, ◌<◌, ◌≤◌, List, true, false, length};
+    ghost use Rattle.std.specs.List.{list_any};
     ghost use Rattle.stamps.specs.Limits.{max_keys};
     ghost use Rattle.get_all.specs.declared.read_progress.KeyProgress.{KeyProgress};
 
     ghost Value = { List KeyProgress };
 
-    ghost use Rattle.get_all.specs.ReadProgress.{needed_stamps, AreApart};
+    ghost use Rattle.get_all.specs.ReadProgress.{is_late_by, AreApart};
 
     ghost view = { λ s. s.slots };
 
-    ghost invariant = { λ s. (0 < length s.slots) × (length s.slots ≤ max_keys) × (s.needed ≡ needed_stamps s.slots) × AreApart s.slots };
+    ghost invariant = { λ s. (0 < length s.slots) × (length s.slots ≤ max_keys) × (s.is_current ≡ true → list_any (is_late_by s.slots) s.slots ≡ false) × AreApart s.slots };
 }
 
 impl ReadProgress {
@@ -255,9 +278,11 @@ impl ReadProgress {
         ensures { result ≡ map slot_for keys.now }
     {
         let mut slots = KeyProgressList::empty(keys[0]);
-        let mut needed = SmallList::empty(Stamp::ZERO);
-        reset_each(&mut slots, &mut needed, keys);
-        ReadProgress { slots, needed }
+        slots.reset(keys);
+        ReadProgress {
+            slots,
+            is_current: false,
+        }
     }
 
     /// Puts in its place those of these keys, of which nothing was shown.
@@ -265,7 +290,8 @@ impl ReadProgress {
         requires { IsTransactionKeys keys.now }
         ensures { self.new ≡ map slot_for keys.now }
     {
-        reset_each(&mut self.slots, &mut self.needed, keys);
+        self.is_current = false;
+        self.slots.reset(keys);
     }
 
     fn as_slice(&self) -> &[KeyProgress]
@@ -276,13 +302,16 @@ impl ReadProgress {
         self.slots.as_slice()
     }
 
-    /// The stamp that is needed of the key of the slot at this place.
-    fn needed_at(&self, i: usize) -> Stamp
+    /// Whether the key of the slot at this place is late.
+    fn is_late_at(&self, i: usize) -> bool
         requires { i < length self.now }
         ensures { (slot : KeyProgress) → slot ≡ slice_index_or self.now i slot
-            → result ≡ needed_by self.now slot.key }
+            → result ≡ is_late_by self.now slot }
     {
-        self.needed.as_slice()[i]
+        if self.is_current {
+            return false;
+        }
+        self.slots.is_late(&self.as_slice()[i])
     }
 
     /// The place, from 0, of the slot of which a first-round reply of this key is the first.
@@ -305,11 +334,6 @@ impl ReadProgress {
     pub(crate) fn needed(&self, key: &Key) -> Stamp
         ensures { result ≡ needed_by self.now key.now }
     {
-        for (i, slot) in self.as_slice().iter().enumerate() {
-            if slot.key == *key {
-                return self.needed_at(i);
-            }
-        }
         needed_above(self.as_slice(), key, Stamp::ZERO)
     }
 
@@ -318,7 +342,7 @@ impl ReadProgress {
         ensures { result ≡ list_any (awaits_second self.now key.now) self.now }
     {
         for (i, slot) in self.as_slice().iter().enumerate() {
-            if slot.key == *key && slot.is_late(self.needed_at(i)) && slot.second.is_none() {
+            if slot.key == *key && self.is_late_at(i) && slot.second.is_none() {
                 return true;
             }
         }
@@ -330,7 +354,7 @@ impl ReadProgress {
         ensures { result ≡ list_all (is_answered_by self.now) self.now }
     {
         for (i, slot) in self.as_slice().iter().enumerate() {
-            if slot.is_late(self.needed_at(i)) && slot.second.is_none() {
+            if self.is_late_at(i) && slot.second.is_none() {
                 return false;
             }
         }
@@ -352,9 +376,10 @@ impl ReadProgress {
         ensures slots { self.new ≡ map (with_first key.now (option_copied shown.entry)) self.old }
         ensures shown { result ≡ list_all has_first self.new }
     {
-        raise_at_first(&mut self.needed, self.slots.as_slice(), key, shown);
         self.slots.put_first(at, shown);
-        self.slots.are_shown()
+        let are_shown = self.slots.are_shown();
+        self.is_current = self.slots.are_current(are_shown);
+        are_shown
     }
 
     /// Takes what round two showed of the key.
@@ -374,11 +399,10 @@ impl ReadProgress {
             stamp: Stamp::ZERO,
         });
         for (i, slot) in slots.iter().enumerate() {
-            let needed = self.needed_at(i);
-            if slot.is_late(needed) {
+            if self.is_late_at(i) {
                 late.push(Late {
                     key: slot.key,
-                    stamp: needed,
+                    stamp: self.needed(&slot.key),
                 });
             }
         }
@@ -392,25 +416,8 @@ impl ReadProgress {
         let slots = self.as_slice();
         place.truncate(slots.len());
         for (i, slot) in slots.iter().enumerate() {
-            slot.read_into(self.needed_at(i), i, place);
+            slot.read_into(self.is_late_at(i), i, place);
         }
-    }
-}
-
-/// Puts in their place the slots of these keys, of which nothing was shown, and the stamp 0.0 for each.
-fn reset_each(
-    slots: &mut KeyProgressList,
-    needed: &mut SmallList<Stamp, { ReadProgress::MAX_LEN }>,
-    keys: &[Key],
-)
-    requires { length keys.now ≤ max_keys }
-    ensures slots { slots.new ≡ map slot_for keys.now }
-    ensures needed { needed.new ≡ needed_stamps (map slot_for keys.now) }
-{
-    slots.reset(keys);
-    needed.clear();
-    for _key in keys {
-        needed.push(Stamp::ZERO);
     }
 }
 
@@ -425,47 +432,27 @@ fn reset_first(slots: &mut [KeyProgress], keys: &[Key])
     }
 }
 
-/// Raises what is needed of each slot's key by what round one showed of this key, which is the first of it.
-fn raise_at_first(
-    needed: &mut SmallList<Stamp, { ReadProgress::MAX_LEN }>,
-    slots: &[KeyProgress],
-    key: &Key,
-    shown: Option<&Record>,
-)
-    requires needed { needed.old ≡ needed_stamps slots.now }
-    requires first { list_any (awaits_first key.now) slots.now ≡ true }
-    ensures { needed.new
-        ≡ needed_stamps (map (with_first key.now (option_copied shown.entry)) slots.now) }
+/// Whether the version is of a later transaction than that of this stamp, which wrote the key. The write set is looked through
+/// only where it is later.
+fn is_later(version: &Record, key: &Key, stamp: Stamp) -> bool
+    ensures { result ≡ nat_lt stamp (stamp_for key.now (Some (Some version.now))) }
 {
-    if let Some(version) = shown {
-        raise_each(needed, slots, version);
-    }
+    stamp < version.stamp && version.writes.contains(key)
 }
 
-/// Raises what is needed of each slot's key to the version's stamp, where its transaction wrote the key.
-fn raise_each(
-    needed: &mut SmallList<Stamp, { ReadProgress::MAX_LEN }>,
-    slots: &[KeyProgress],
-    version: &Record,
-)
-    requires { needed.old ≡ needed_stamps slots.now }
-    ensures { needed.new ≡ map
-        (λ slot.
-        max (needed_by slots.now slot.key)
-        (stamp_for slot.key (Some (Some version.now)))) slots.now }
+/// Whether round one showed a later transaction than that of this stamp, which wrote the key.
+fn outdate(slots: &[KeyProgress], key: &Key, stamp: Stamp) -> bool
+    ensures { result
+        ≡ list_any (λ slot. nat_lt stamp (stamp_for key.now slot.first)) slots.now }
 {
-    for (i, slot) in slots.iter().enumerate() {
-        let before = needed.as_slice()[i];
-        needed.set(i, raised(before, &slot.key, version));
-    }
+    slots.iter().any(|slot| slot.outdates(key, stamp))
 }
 
-/// The greater of this stamp and the version's, where its transaction wrote the key. The write set is looked through only
-/// where the stamp is the greater one.
+/// The greater of this stamp and the version's, where its transaction wrote the key.
 fn raised(needed: Stamp, key: &Key, version: &Record) -> Stamp
     ensures { result ≡ max needed (stamp_for key.now (Some (Some version.now))) }
 {
-    if needed < version.stamp && version.writes.contains(key) {
+    if is_later(version, key, needed) {
         version.stamp
     } else {
         needed

@@ -1,16 +1,16 @@
 use Rattle.std.proofs.Common.{◌≡◌, ◌∙◌, length, ap, sym, subst, arith}
 use Rattle.std.proofs.lemmas.List.{length-map}
-use Rattle.get_all.specs.ReadProgress.{AreApart, slot_for, needed_stamps}
+use Rattle.get_all.specs.ReadProgress.{AreApart, slot_for}
 use Rattle.get_all.proofs.OneSlot.{new_apart}
 use Rattle.get_all.proofs.read_progress.ReadProgress.of.Goals as goal
 
 pub invariant_of-result : goal.invariant_of-result
 invariant_of-result c =
     let keys = c.args.keys.now in
-    let made = c.reset_each.ensures.slots in
-    let as_long : length c.reset_each.new.slots ≡ length keys = ap length made ∙ length-map keys slot_for in (
+    let made = c.reset.ensures in
+    let as_long : length c.reset.new.self ≡ length keys = ap length made ∙ length-map keys slot_for in (
       omega (arith, c.requires.not_empty, as_long),
       omega (arith, c.requires.at_most, as_long),
-      c.reset_each.ensures.needed ∙ ap needed_stamps (sym made),
+      λ current. cc,
       subst AreApart (sym made) (new_apart keys c.requires.distinct),
     )

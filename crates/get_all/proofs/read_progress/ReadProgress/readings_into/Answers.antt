@@ -1,11 +1,10 @@
 use Rattle.std.proofs.Common.{◌≡◌, ◌+◌, ◌<◌, ◌≤◌, List, [], ◌∷◌, ◌++◌, length, get_or, map, take, drop, cond, ap, sym, ◌∙◌, length-append, arith}
-use Rattle.std.specs.Prelude.{nat_lt}
 use Rattle.std.proofs.lemmas.List.{take_all, take_more, drop_all, drop-drop, append-nil, map-append, length-map, length-take, length-take-le}
 use Rattle.plain_store.specs.declared.reading.Reading.{Reading}
-use Rattle.plain_store.specs.Rounds.{reading_of, stamp_seen, flat}
+use Rattle.plain_store.specs.Rounds.{reading_of, flat}
 use Rattle.plain_store.proofs.Filling.{next_written}
 use Rattle.get_all.specs.declared.read_progress.KeyProgress.{KeyProgress}
-use Rattle.get_all.specs.ReadProgress.{needed_by, version_by}
+use Rattle.get_all.specs.ReadProgress.{is_late_by, version_by}
 use Rattle.get_all.proofs.read_progress.ReadProgress.readings_into.Goals as goal
 
 pub read_into-requires-clause-place : goal.read_into-requires-clause-place
@@ -27,9 +26,9 @@ loop-i-preserved c =
     let within : i < length slots = omega (arith, c.loop-i-test.true) in
     let long : length (map f (take i slots)) ≡ i = length-map (take i slots) f ∙ length-take-le i slots (omega (arith, within)) in
     let there = c.index-slots-i.is ∙ ap (λ (ss : List KeyProgress). get_or ss i slot) c.as_slice-slots.ensures.slots in
-    let needed : c.needed_at.result ≡ needed_by self slot.key = c.needed_at.ensures slot there in
-    let x : Reading = reading_of slot.key (cond (nat_lt (stamp_seen slot.first) c.needed_at.result) slot.second (flat slot.first)) in
-    let is : x ≡ f slot = ap (λ n. reading_of slot.key (cond (nat_lt (stamp_seen slot.first) n) slot.second (flat slot.first))) needed in
+    let late : c.is_late_at.result ≡ is_late_by self slot = c.is_late_at.ensures slot there in
+    let x : Reading = reading_of slot.key (cond c.is_late_at.result slot.second (flat slot.first)) in
+    let is : x ≡ f slot = ap (λ b. reading_of slot.key (cond b slot.second (flat slot.first))) late in
     let more : map f (take i slots) ++ x ∷ [] ≡ map f (take (i + 1) slots) =
     ap (λ (r : Reading). map f (take i slots) ++ r ∷ []) is
     ∙ sym (ap (map f) (take_more slots i slot within ∙ ap (λ (s : KeyProgress). take i slots ++ s ∷ []) (sym c.index-slots-i.is)) ∙ map-append f (take i slots) (slot ∷ [])) in
