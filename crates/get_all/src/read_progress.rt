@@ -9,7 +9,6 @@ ghost use Rattle.get_all.specs.ReadProgress.{slot_for, with_first, with_second, 
 
 use crate::record_place::{FirstShown, RecordPlace};
 use crate::{Late, LateKeys};
-use lists::SmallList;
 use plain_store::{Reading, Readings};
 use stamps::{Item, Key, Record, Stamp, Tag, Value, WriteSet, limits};
 use std::array;
@@ -75,8 +74,8 @@ impl KeyProgress {
         ensures { result ≡ max needed (stamp_for key.now self.now.first) }
     {
         match self.first.version() {
-            Some(version) => raised(needed, key, version),
-            None => needed,
+            Some(version) if is_later(version, key, needed) => version.stamp,
+            _ => needed,
         }
     }
 
@@ -446,17 +445,6 @@ fn outdate(slots: &[KeyProgress], key: &Key, stamp: Stamp) -> bool
         ≡ list_any (λ slot. nat_lt stamp (stamp_for key.now slot.first)) slots.now }
 {
     slots.iter().any(|slot| slot.outdates(key, stamp))
-}
-
-/// The greater of this stamp and the version's, where its transaction wrote the key.
-fn raised(needed: Stamp, key: &Key, version: &Record) -> Stamp
-    ensures { result ≡ max needed (stamp_for key.now (Some (Some version.now))) }
-{
-    if is_later(version, key, needed) {
-        version.stamp
-    } else {
-        needed
-    }
 }
 
 /// Has each slot take what round two showed of the key.

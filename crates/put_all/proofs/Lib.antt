@@ -3,3 +3,4 @@ pub mod Awaited
 pub mod Ascending
 pub mod Steps
 pub mod OnePlace
+pub mod InOrder
