@@ -1,21 +1,23 @@
 -- The elements of a list at places of it: for the calls of `CallBatch`, `PendingSet` and `Waiting`.
-use Rattle.std.proofs.Common.{◌≡◌, ℕ, zero, suc, ◌<◌, ◌≤◌, List, [], ◌∷◌, ◌++◌, Bool, true, false, ◌&&◌, ◌||◌, not, filter, map, ap, sym, ◌∙◌, refl, cond, arith, length, take, get_or, Option, Some, None, slice_get, length-append, inl, inr}
-use Rattle.std.specs.Prelude.{nat_lt, min}
+use Rattle.std.proofs.Common.{◌≡◌, ◌≢◌, ℕ, zero, suc, ◌<◌, ◌≤◌, List, [], ◌∷◌, ◌++◌, Bool, true, false, ◌&&◌, ◌||◌, not, filter, map, ap, sym, ◌∙◌, refl, cond, subst, arith, length, take, get_or, Option, Some, None, slice_get, length-append, inl, inr}
+use Rattle.std.specs.Prelude.{nat_lt, min, AllPairs}
 use Rattle.std.specs.List.{list_all, filter_map, cons_option}
 use Rattle.std.specs.Option.{option_map, option_map_or}
-use Rattle.std.proofs.lemmas.Bool.{and_parts, ltb-true, lt-ltb, le-ltb, cases_lt}
-use Rattle.std.proofs.lemmas.List.{take_all}
+use Rattle.std.proofs.lemmas.Bool.{and_parts, ltb-true, lt-ltb, le-ltb, cases_lt, cases_Bool}
+use Rattle.std.proofs.lemmas.List.{take_all, length-map}
 use Rattle.std.proofs.lemmas.List.Elements.{filter_map-append}
-use Rattle.std.proofs.lemmas.Option.{slice_get-get_or, slice_get_past, slice_get-map}
+use Rattle.std.proofs.lemmas.Option.{slice_get-get_or, slice_get_past, slice_get-map, slice_get_cases, get_or_from_slice_get}
+use Rattle.std.proofs.lemmas.Slice.Eq.{bytes_eq-Decides}
 use Rattle.std.proofs.Math.Seq.{take-suc}
+use Rattle.stamps.specs.Key.{home_of}
 use Rattle.plain_store.specs.declared.calls.Call.{Call}
-use Rattle.plain_store.specs.declared.calls.Call.TheVariants.{Get, Found}
+use Rattle.plain_store.specs.declared.calls.Call.TheVariants.{Prepare, Get, Found}
 use Rattle.plain_store.specs.declared.message.Message.{Message}
-use Rattle.plain_store.specs.Words.{Tag}
+use Rattle.plain_store.specs.Words.{Key, Stamp, Item, Record, Tag}
 use Rattle.plain_store.specs.Finding.{below}
 use Rattle.plain_store.specs.Moves.{same_place}
-use Rattle.plain_store.specs.Writing.{Outgoing}
-use Rattle.tenant_sessions.specs.Parts.{Founds, batch_calls, is_search_at, searches, is_replaced_by, is_answered_at}
+use Rattle.plain_store.specs.Writing.{Outgoing, keys_written, record_for}
+use Rattle.tenant_sessions.specs.Parts.{Prepares, First, Founds, AreApart, AnswersOne, batch_calls, is_search_at, searches, is_replaced_by, is_answered_at}
 use Rattle.plain_store.proofs.ListTests.{all_push, all-filter}
 use Rattle.plain_store.proofs.Members.{all_more}
 use Rattle.std.proofs.Math.Bool.{or-true}
@@ -46,6 +48,12 @@ below_at (suc n) i within =
           let same : n ≡ i = omega arith in
           ap (slice_get (below n ++ n ∷ [])) last ∙ get_end (below n) n ∙ ap Some same
     ]
+
+pub below_once : (n : ℕ) → AllPairs (λ i j. i ≢ j) (below n)
+below_once n i j d before within =
+    let at : (k : ℕ) → k < n → get_or (below n) k d ≡ k = λ k low. get_or_from_slice_get (below n) k k d (below_at n k low) in
+    let fewer : j < n = omega (arith, within, length-below n) in
+    λ same. omega (arith, before, sym (at i (omega (arith, before, fewer))) ∙ same ∙ at j fewer)
 
 pub below_past : (n i : ℕ) → n ≤ i → slice_get (below n) i ≡ None
 below_past n i past = slice_get_past (below n) i (omega (arith, length-below n))
@@ -137,6 +145,75 @@ search_place g p message = go message.call
 
 pub searches_at : (parts : ℕ) (tag : Tag) (message : Message) (place : ℕ) → is_answered_at (batch_calls parts (Founds tag)) message place ≡ option_map_or (λ p. searches p message) (slice_get (below parts) place) false
 searches_at parts tag message place = answered_by _ (λ p. searches p message) (below parts) message place (λ p. search_place tag p message)
+
+-- ---- calls of which a message answers one at most
+
+found_at : {X : Type 0} (q : X → Bool) (xs : List X) (i : ℕ) → option_map_or q (slice_get xs i) false ≡ true → (x : X) × (i < length xs) × (slice_get xs i ≡ Some x) × (q x ≡ true)
+found_at q xs i h =
+    elim ((slice_get_cases xs i).1) [
+      | inl f ↦ (f.0, f.1, f.2, sym (ap (λ o. option_map_or q o false) f.2) ∙ h)
+      | inr none ↦ let no : false ≡ true = sym (ap (λ o. option_map_or q o false) none.1) ∙ h in cc
+    ]
+
+-- calls of keys of which none stands twice, where a message answers only calls of its key
+module _ {X : Type 0} (key : X → Key) (call : X → Outgoing) (own : (message : Message) (x y : X) → is_replaced_by message (call x) ≡ true → is_replaced_by message (call y) ≡ true → key x ≡ key y)
+    (xs : List X) (once : AllPairs (λ j k. j ≢ k) (map key xs)) where
+  key_at : (i : ℕ) (x : X) (d : Key) → slice_get xs i ≡ Some x → get_or (map key xs) i d ≡ key x
+  key_at i x d at = get_or_from_slice_get (map key xs) i (key x) d (slice_get-map key xs i ∙ ap (option_map key) at)
+
+  not_below : (i j : ℕ) (x y : X) → slice_get xs i ≡ Some x → slice_get xs j ≡ Some y → key x ≡ key y → j < length xs → i < j → ⊥
+  not_below i j x y at there same within low =
+      once i j (key x) low (omega (arith, within, length-map xs key)) (key_at i x (key x) at ∙ same ∙ sym (key_at j y (key x) there))
+
+  pub keyed_apart : AreApart (map call xs)
+  keyed_apart message i j first second =
+      let q = λ (x : X). is_replaced_by message (call x) in
+      let a = found_at q xs i (sym (answered_by call q xs message i (λ x. refl)) ∙ first) in
+      let b = found_at q xs j (sym (answered_by call q xs message j (λ x. refl)) ∙ second) in
+      let same = own message a.0 b.0 a.3 b.3 in
+      elim (cases_lt i j) [
+        | inl low ↦ absurd (not_below i j a.0 b.0 a.2 b.2 same b.1 low)
+        | inr high ↦
+            elim (cases_lt j i) [
+              | inl low ↦ absurd (not_below j i b.0 a.0 b.2 a.2 (sym same) a.1 low)
+              | inr low ↦ omega (arith, high, low)
+            ]
+      ]
+
+same_first : (p q r : ℕ) (call : Call) (a b : Key) → same_place p (Get a None) r call ≡ true → same_place q (Get b None) r call ≡ true → a ≡ b
+same_first p q r (Get k None) a b first second = (bytes_eq-Decides a k).0 first ∙ sym ((bytes_eq-Decides b k).0 second)
+same_first p q r (Get k (Some s)) a b first second = cc
+same_first p q r _ a b first second = cc
+
+same_prepare : (p q r : ℕ) (call : Call) (a b : Record) → same_place p (Prepare a) r call ≡ true → same_place q (Prepare b) r call ≡ true → a.key ≡ b.key
+same_prepare p q r (Prepare v) a b first second = (bytes_eq-Decides a.key v.key).0 first ∙ sym ((bytes_eq-Decides b.key v.key).0 second)
+same_prepare p q r (Get k None) a b first second = cc
+same_prepare p q r _ a b first second = cc
+
+same_keys : (keys : List Key) → map (λ (key : Key). key) keys ≡ keys
+same_keys [] = refl
+same_keys (key ∷ keys) = ap (λ ks. key ∷ ks) (same_keys keys)
+
+pub first_apart : (parts : ℕ) (keys : List Key) → AllPairs (λ j k. j ≢ k) keys → AreApart (batch_calls parts (First keys))
+first_apart parts keys once =
+    keyed_apart (λ (key : Key). key) _ (λ message a b. same_first (home_of a parts) (home_of b parts) message.partition message.call a b) keys (subst (AllPairs (λ j k. j ≢ k)) (sym (same_keys keys)) once)
+
+recorded_keys : (stamp : Stamp) (all items : List Item) → map (λ (v : Record). v.key) (map (record_for stamp all) items) ≡ keys_written items
+recorded_keys stamp all [] = refl
+recorded_keys stamp all (item ∷ items) = ap (λ ks. item.key ∷ ks) (recorded_keys stamp all items)
+
+pub prepares_apart : (parts : ℕ) (stamp : Stamp) (items : List Item) → AllPairs (λ j k. j ≢ k) (keys_written items) → AreApart (batch_calls parts (Prepares (map (record_for stamp items) items)))
+prepares_apart parts stamp items once =
+    keyed_apart (λ (v : Record). v.key) _ (λ message a b. same_prepare (home_of a.key parts) (home_of b.key parts) message.partition message.call a b) (map (record_for stamp items) items)
+    (subst (AllPairs (λ j k. j ≢ k)) (sym (recorded_keys stamp items items)) once)
+
+-- of calls that are apart, a message answers one of those at places of which none stands twice
+pub answers_one : (calls : List Outgoing) (message : Message) (places : List ℕ) → AreApart calls → AllPairs (λ i j. i ≢ j) places → AnswersOne calls message places
+answers_one calls message places apart once i j d before within first =
+    elim (cases_Bool (is_answered_at calls message (get_or places j d))) [
+      | inl second ↦ absurd (once i j d before within (apart message (get_or places i d) (get_or places j d) first second))
+      | inr other ↦ other
+    ]
 
 -- a mapped element at its place
 pub made_at : {X Y : Type 0} (f : X → Y) (xs : List X) (all : List Y) (place : ℕ) (x : X) (y : Y) → all ≡ map f xs → slice_get xs place ≡ Some x → y ≡ f x

@@ -1,5 +1,5 @@
 -- The calls of a transaction's parts.
-use Rattle.std.specs.Prelude.{ℕ, ◌==◌, List, Bool, false, bytes_eq, map, Some, None, slice_get}
+use Rattle.std.specs.Prelude.{◌≡◌, ℕ, ◌==◌, List, AllPairs, Bool, true, false, bytes_eq, map, Some, None, slice_get}
 use Rattle.std.specs.Option.{option_map_or}
 use Rattle.stamps.specs.Key.{home_of}
 use Rattle.stamps.specs.Record.{Record}
@@ -93,3 +93,13 @@ is_replaced_by message out = same_place out.partition out.call message.partition
 -- the same of the call at a place of a list, if there is one
 abbrev pub is_answered_at : List Outgoing → Message → ℕ → Bool
 is_answered_at calls message place = option_map_or (is_replaced_by message) (slice_get calls place) false
+
+-- whatever a message is, its reply takes the place of one call of a list at most
+abbrev pub AreApart : List Outgoing → Type 0
+AreApart calls =
+    (message : Message) (i j : ℕ) → is_answered_at calls message i ≡ true → is_answered_at calls message j ≡ true → i ≡ j
+
+-- the message's reply takes the place of the call at one of these places at most
+abbrev pub AnswersOne : List Outgoing → Message → List ℕ → Type 0
+AnswersOne calls message =
+    AllPairs (λ i j. is_answered_at calls message i ≡ true → is_answered_at calls message j ≡ false)

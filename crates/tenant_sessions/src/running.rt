@@ -123,7 +123,7 @@ impl Running {
             return false;
         }
         self.kind = TransactionKind::Get;
-        self.waiting.read(keys, parts);
+        self.waiting.read(keys, parts, true);
         self.parts = parts;
         true
     }

@@ -95,7 +95,7 @@ pub(crate) fn take_found(
             *kind = MoveKind::Wait;
         }
         FindMove::Begin(keys) => {
-            waiting.read(keys.as_slice(), parts);
+            waiting.read(keys.as_slice(), parts, false);
             *kind = MoveKind::Begins;
         }
         FindMove::Ask(late) => {

@@ -1,12 +1,12 @@
 //! The calls that a transaction waits for.
-ghost use Rattle.std.specs.Prelude.{◌≡◌, ◌<◌, ◌≤◌, [], ◌∷◌, ◌++◌, true, nat_lt, min, map, not, filter, length, slice_get};
+ghost use Rattle.std.specs.Prelude.{◌≡◌, ◌≢◌, ◌<◌, ◌≤◌, [], ◌∷◌, ◌++◌, true, nat_lt, min, map, not, filter, length, slice_get, AllPairs};
 ghost use Rattle.std.specs.List.{filter_map, list_all};
 ghost use Rattle.stamps.specs.Bounds.{IsParts};
 ghost use Rattle.stamps.specs.Limits.{max_keys, max_parts};
 ghost use Rattle.tenant_sessions.specs.Asking.{Awaits, MayWrite, PutsCall};
 ghost use Rattle.plain_store.specs.Finding.{below};
 ghost use Rattle.plain_store.specs.Writing.{record_for};
-ghost use Rattle.tenant_sessions.specs.Parts.{Prepares, Commits, First, Second, Founds, batch_calls, is_answered_at};
+ghost use Rattle.tenant_sessions.specs.Parts.{Prepares, Commits, First, Second, Founds, AnswersOne, batch_calls, is_answered_at};
 
 use crate::call_batch::CallBatch;
 use get_all::LateKeys;
@@ -29,7 +29,7 @@ impl Model for PendingSet {
 }
 
 impl PendingSet {
-    ghost use Rattle.tenant_sessions.specs.Parts.{batch_calls, is_answered_at};
+    ghost use Rattle.tenant_sessions.specs.Parts.{AnswersOne, batch_calls, is_answered_at};
 
     const MAX_LEN: usize = limits::MAX_PARTS as usize;
 
@@ -64,13 +64,14 @@ impl PendingSet {
         self.0.push(place);
     }
 
-    /// Keeps the places but for that of the call whose place the message's reply takes.
-    fn forget_answered(&mut self, part: &CallBatch, parts: u32, message: &Message)
-        requires { IsParts parts }
+    /// Keeps the places but for that of the call whose place the message's reply takes: one at most where `are_apart` says so.
+    fn forget_answered(&mut self, part: &CallBatch, parts: u32, message: &Message, are_apart: bool)
+        requires parts { IsParts parts }
+        requires apart { are_apart ≡ true → AnswersOne (batch_calls parts part.now) message.now self.old }
         ensures { self.new
             ≡ filter (λ place. not (is_answered_at (batch_calls parts part.now) message.now place)) self.old }
     {
-        keep_unanswered(&mut self.0, part, parts, message);
+        keep_unanswered(&mut self.0, part, parts, message, are_apart);
     }
 
     fn as_slice(&self) -> &[u8]
@@ -81,22 +82,28 @@ impl PendingSet {
     }
 }
 
-/// Keeps of these places those of calls whose place the message's reply does not take. Each is moved forward where it lies.
+/// Keeps of these places those of calls whose place the message's reply does not take. Each is moved forward where it lies. Where
+/// `are_apart` says that the reply takes one place at most, no call is compared once that was found.
 fn keep_unanswered(
     places: &mut SmallList<u8, { PendingSet::MAX_LEN }>,
     part: &CallBatch,
     parts: u32,
     message: &Message,
+    are_apart: bool,
 )
-    requires { IsParts parts }
+    requires parts { IsParts parts }
+    requires apart { are_apart ≡ true → AnswersOne (batch_calls parts part.now) message.now places.old }
     ensures { places.new ≡ filter (λ place. not (is_answered_at (batch_calls parts part.now) message.now place)) places.old }
 {
     let mut kept = 0;
+    let mut is_found = false;
     for at in 0..places.as_slice().len() {
         let place = places.as_slice()[at];
-        if !part.is_answered_at(parts, usize::from(place), message) {
+        if is_found || !part.is_answered_at(parts, usize::from(place), message) {
             places.set(kept, place);
             kept += 1;
+        } else {
+            is_found = are_apart;
         }
     }
     places.truncate(kept);
@@ -112,6 +119,7 @@ fn fill_all(places: &mut PendingSet, part: &CallBatch, parts: u32)
         ≡ batch_calls parts part.now }
     ensures few { length (filter_map (slice_get (batch_calls parts part.now)) places.new)
         ≤ length (batch_calls parts part.now) }
+    ensures once { AllPairs (λ i j. i ≢ j) places.new }
 {
     places.fill(part.len(parts));
 }
@@ -122,20 +130,22 @@ pub(crate) struct Waiting {
     part: CallBatch,
     parts: u32,
     places: PendingSet,
+    /// That no reply takes the place of two of the calls. False where this is not known.
+    are_apart: bool,
 }
 
 impl Model for Waiting {
-    ghost use Rattle.std.specs.Prelude.{◌≡◌, List, true, nat_lt, length, slice_get};
+    ghost use Rattle.std.specs.Prelude.{◌≡◌, ◌≢◌, List, AllPairs, true, nat_lt, length, slice_get};
     ghost use Rattle.std.specs.List.{filter_map, list_all};
     ghost use Rattle.stamps.specs.Bounds.{IsParts};
     ghost use Rattle.plain_store.specs.Writing.{Outgoing as Sent};
-    ghost use Rattle.tenant_sessions.specs.Parts.{batch_calls};
+    ghost use Rattle.tenant_sessions.specs.Parts.{AreApart, batch_calls};
 
     ghost Value = { List Sent };
 
     ghost view = { λ w. filter_map (slice_get (batch_calls w.parts w.part)) w.places };
 
-    ghost invariant = { λ w. IsParts w.parts × (list_all (λ place. nat_lt place (length (batch_calls w.parts w.part))) w.places ≡ true) };
+    ghost invariant = { λ w. IsParts w.parts × (list_all (λ place. nat_lt place (length (batch_calls w.parts w.part))) w.places ≡ true) × AllPairs (λ i j. i ≢ j) w.places × (w.are_apart ≡ true → AreApart (batch_calls w.parts w.part)) };
 }
 
 impl Waiting {
@@ -151,6 +161,7 @@ impl Waiting {
             part: CallBatch::none(tag),
             parts: 1,
             places: PendingSet::none(),
+            are_apart: false,
         }
     }
 
@@ -165,6 +176,7 @@ impl Waiting {
         self.part.prepare(stamp, items, writes);
         fill_all(&mut self.places, &self.part, parts);
         self.parts = parts;
+        self.are_apart = true;
     }
 
     /// The COMMITs of this stamp at these partitions.
@@ -176,18 +188,21 @@ impl Waiting {
         self.part.commit(stamp, partitions);
         fill_all(&mut self.places, &self.part, parts);
         self.parts = parts;
+        self.are_apart = false;
     }
 
-    /// The GETs of the latest versions of these keys, up to `MAX_KEYS`.
-    pub(crate) fn read(&mut self, keys: &[Key], parts: u32)
+    /// The GETs of the latest versions of these keys, up to `MAX_KEYS`. With `are_apart` no key stands twice.
+    pub(crate) fn read(&mut self, keys: &[Key], parts: u32, are_apart: bool)
         requires few { length keys.now ≤ max_keys }
         requires parts { IsParts parts }
+        requires apart { are_apart ≡ true → AllPairs (λ j k. j ≢ k) keys.now }
         ensures awaits { Awaits (batch_calls parts (First keys.now)) (length keys.now) self.new }
         ensures gets { All (λ out. IsGet out.call) self.new }
     {
         self.part.read(keys);
         fill_all(&mut self.places, &self.part, parts);
         self.parts = parts;
+        self.are_apart = are_apart;
     }
 
     /// The GETs of these late versions.
@@ -199,6 +214,7 @@ impl Waiting {
         self.part.read_late(late);
         fill_all(&mut self.places, &self.part, parts);
         self.parts = parts;
+        self.are_apart = false;
     }
 
     /// The searches by this tag.
@@ -210,6 +226,7 @@ impl Waiting {
         self.part.search(tag);
         fill_all(&mut self.places, &self.part, parts);
         self.parts = parts;
+        self.are_apart = false;
     }
 
     /// How many there are.
@@ -236,6 +253,7 @@ impl Waiting {
     pub(crate) fn forget(&mut self, message: &Message)
         ensures { self.new ≡ filter (λ out. not (is_replaced_by message.now out)) self.old }
     {
-        self.places.forget_answered(&self.part, self.parts, message);
+        self.places
+            .forget_answered(&self.part, self.parts, message, self.are_apart);
     }
 }

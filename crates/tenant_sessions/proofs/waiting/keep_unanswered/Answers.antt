@@ -4,7 +4,7 @@ use Rattle.std.proofs.lemmas.Grind.{get_or_default_zero}
 use Rattle.std.proofs.lemmas.List.Elements.{filter-append}
 use Rattle.tenant_sessions.specs.Parts.{batch_calls, is_answered_at}
 use Rattle.tenant_sessions.proofs.waiting.keep_unanswered.Goals as goal
-use Rattle.tenant_sessions.proofs.waiting.keep_unanswered.Goals.{then-not-is_answered_at, else-not-is_answered_at}
+use Rattle.tenant_sessions.proofs.waiting.keep_unanswered.Goals.{then-not-is_answered_at, else-not-is_answered_at, then-is_found, else-is_found}
 
 -- one more place of xs is kept in ys, or left out
 module _ (p : ℕ → Bool) (xs ys : List ℕ) (kept i x : ℕ) (within : i < length xs) (few : kept ≤ i) (long : length ys ≡ length xs)
@@ -30,9 +30,14 @@ module _ (p : ℕ → Bool) (xs ys : List ℕ) (kept i x : ℕ) (within : i < le
   leaves : p x ≡ false → take kept ys ≡ filter p (take (i + 1) xs)
   leaves says = so_far ∙ sym (append-nil (filter p (take i xs))) ∙ sym (filtered false says)
 
+no_more : (b : Bool) → not b ≡ false → b ≡ true
+no_more true is = refl
+no_more false is = cc
+
 pub loop-at-preserved : goal.loop-at-preserved
 loop-at-preserved c =
-    let p = λ (i : ℕ). not (is_answered_at (batch_calls c.args.parts c.args.part.now) c.args.message.now i) in
+    let answers = is_answered_at (batch_calls c.args.parts c.args.part.now) c.args.message.now in
+    let p = λ (i : ℕ). not (answers i) in
     let xs = c.args.places.now in
     let ys = c.loop-at.places in
     let i = c.loop-at.at in
@@ -40,21 +45,32 @@ loop-at-preserved c =
     let x = get_or c.as_slice.result.now i 0 in
     let within : i < length xs = omega (arith, inv.long, ap length c.as_slice-at-end.ensures.value) in
     let is : x ≡ get_or ys i x = ap (λ l. get_or l i 0) c.as_slice.ensures.value ∙ sym (get_or_default_zero ys i x (omega (arith, within, inv.long))) in
+    let at : get_or xs i x ≡ x = there p xs ys c.loop-at.kept i x within inv.few inv.long inv.kept inv.rest is in
+    let value : c.if-is_found.value ≡ p x =
+    elim c.if-is_found.branch [
+      | then-is_found w ↦
+          let f = inv.found w.if-is_found.true in
+          let once = c.requires.apart f.3 f.0 i x f.1 within (ap answers (get_or_default_zero xs f.0 x (omega (arith, f.1, within))) ∙ f.2) in
+          w.value-is ∙ w.if-is_found.true ∙ sym (ap p (sym at) ∙ ap not once)
+      | else-is_found w ↦ w.value-is ∙ ap not w.is_answered_at.ensures ∙ ap p w.from.ensures
+    ] in
     elim c.if-not-is_answered_at.branch [
       | then-not-is_answered_at w ↦
-          let says : p x ≡ true = ap p (sym c.from.ensures) ∙ ap not (sym c.is_answered_at.ensures ∙ w.if-not-is_answered_at.true) in
+          let says : p x ≡ true = sym value ∙ w.if-not-is_answered_at.true in
           let after = w.places-is ∙ w.set.ensures in record {
             kept = ap (λ k. take k c.if-not-is_answered_at.places) w.kept-is ∙ ap (take (c.loop-at.kept + 1)) after ∙ keeps p xs ys c.loop-at.kept i x within inv.few inv.long inv.kept inv.rest is says;
             rest = ap (drop (i + 1)) after ∙ stays p xs ys c.loop-at.kept i x within inv.few inv.long inv.kept inv.rest is;
             few = omega (arith, inv.few, w.kept-is);
             long = ap length after ∙ length-set ys c.loop-at.kept x ∙ inv.long;
+            found = λ h. let f = inv.found (sym w.is_found-is ∙ h) in (f.0, omega (arith, f.1), f.2, f.3);
           }
       | else-not-is_answered_at w ↦
-          let says : p x ≡ false = ap p (sym c.from.ensures) ∙ ap not (sym c.is_answered_at.ensures ∙ w.if-not-is_answered_at.false) in record {
+          let says : p x ≡ false = sym value ∙ w.if-not-is_answered_at.false in record {
             kept = ap (λ k. take k c.if-not-is_answered_at.places) w.kept-is ∙ ap (take c.loop-at.kept) w.places-is ∙ leaves p xs ys c.loop-at.kept i x within inv.few inv.long inv.kept inv.rest is says;
             rest = ap (drop (i + 1)) w.places-is ∙ past p xs ys c.loop-at.kept i x within inv.few inv.long inv.kept inv.rest is;
             few = omega (arith, inv.few, w.kept-is);
             long = ap length w.places-is ∙ inv.long;
+            found = λ h. (i, omega arith, ap answers (sym (get_or_default_zero xs i x within) ∙ at) ∙ no_more (answers x) says, sym w.is_found-is ∙ h);
           }
     ]
 

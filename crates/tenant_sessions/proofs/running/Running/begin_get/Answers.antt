@@ -14,6 +14,16 @@ returns-then-not-reset c =
     let bad : are_bad c.args.keys.now ≡ true = c.reset.ensures.refused.0 c.if-not-reset.true in
     (sym (ap not bad), λ setup parts fits. let no : true ≡ false = sym bad ∙ fits in cc)
 
+was_false : (b : Bool) → not b ≡ true → b ≡ false
+was_false true is = cc
+was_false false is = refl
+
+pub read-requires-clause-apart : goal.read-requires-clause-apart
+read-requires-clause-apart c = λ _.
+    let good : not (are_bad c.args.keys.now) ≡ true =
+    sym (says_not (are_bad c.args.keys.now) c.reset.result c.if-not-reset.false c.reset.ensures.refused.1) ∙ c.if-not-reset.false in
+    (transaction_keys c.args.keys.now (was_false (are_bad c.args.keys.now) good)).distinct
+
 pub returns : goal.returns
 returns c = (
   sym c.if-not-reset.false ∙ says_not (are_bad c.args.keys.now) c.reset.result c.if-not-reset.false c.reset.ensures.refused.1,
