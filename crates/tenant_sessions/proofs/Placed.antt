@@ -3,7 +3,7 @@ use Rattle.std.proofs.Common.{◌≡◌, ◌≢◌, ℕ, zero, suc, ◌<◌, ◌
 use Rattle.std.specs.Prelude.{nat_lt, min, AllPairs}
 use Rattle.std.specs.List.{list_all, filter_map, cons_option}
 use Rattle.std.specs.Option.{option_map, option_map_or}
-use Rattle.std.proofs.lemmas.Bool.{and_parts, ltb-true, lt-ltb, le-ltb, cases_lt, cases_Bool}
+use Rattle.std.proofs.lemmas.Bool.{and_parts, eqb-true, ltb-true, lt-ltb, le-ltb, cases_lt, cases_Bool}
 use Rattle.std.proofs.lemmas.List.{take_all, length-map}
 use Rattle.std.proofs.lemmas.List.Elements.{filter_map-append}
 use Rattle.std.proofs.lemmas.Option.{slice_get-get_or, slice_get_past, slice_get-map, slice_get_cases, get_or_from_slice_get}
@@ -11,13 +11,13 @@ use Rattle.std.proofs.lemmas.Slice.Eq.{bytes_eq-Decides}
 use Rattle.std.proofs.Math.Seq.{take-suc}
 use Rattle.stamps.specs.Key.{home_of}
 use Rattle.plain_store.specs.declared.calls.Call.{Call}
-use Rattle.plain_store.specs.declared.calls.Call.TheVariants.{Prepare, Get, Found}
+use Rattle.plain_store.specs.declared.calls.Call.TheVariants.{Prepare, Commit, Get, Found}
 use Rattle.plain_store.specs.declared.message.Message.{Message}
 use Rattle.plain_store.specs.Words.{Key, Stamp, Item, Record, Tag}
 use Rattle.plain_store.specs.Finding.{below}
 use Rattle.plain_store.specs.Moves.{same_place}
 use Rattle.plain_store.specs.Writing.{Outgoing, keys_written, record_for}
-use Rattle.tenant_sessions.specs.Parts.{Prepares, First, Founds, AreApart, AnswersOne, batch_calls, is_search_at, searches, is_replaced_by, is_answered_at}
+use Rattle.tenant_sessions.specs.Parts.{Prepares, Commits, First, Founds, AreApart, AnswersOne, batch_calls, is_search_at, searches, is_replaced_by, is_answered_at}
 use Rattle.plain_store.proofs.ListTests.{all_push, all-filter}
 use Rattle.plain_store.proofs.Members.{all_more}
 use Rattle.std.proofs.Math.Bool.{or-true}
@@ -156,9 +156,9 @@ found_at q xs i h =
     ]
 
 -- calls of keys of which none stands twice, where a message answers only calls of its key
-module _ {X : Type 0} (key : X → Key) (call : X → Outgoing) (own : (message : Message) (x y : X) → is_replaced_by message (call x) ≡ true → is_replaced_by message (call y) ≡ true → key x ≡ key y)
+module _ {X K : Type 0} (key : X → K) (call : X → Outgoing) (own : (message : Message) (x y : X) → is_replaced_by message (call x) ≡ true → is_replaced_by message (call y) ≡ true → key x ≡ key y)
     (xs : List X) (once : AllPairs (λ j k. j ≢ k) (map key xs)) where
-  key_at : (i : ℕ) (x : X) (d : Key) → slice_get xs i ≡ Some x → get_or (map key xs) i d ≡ key x
+  key_at : (i : ℕ) (x : X) (d : K) → slice_get xs i ≡ Some x → get_or (map key xs) i d ≡ key x
   key_at i x d at = get_or_from_slice_get (map key xs) i (key x) d (slice_get-map key xs i ∙ ap (option_map key) at)
 
   not_below : (i j : ℕ) (x y : X) → slice_get xs i ≡ Some x → slice_get xs j ≡ Some y → key x ≡ key y → j < length xs → i < j → ⊥
@@ -190,13 +190,23 @@ same_prepare p q r (Prepare v) a b first second = (bytes_eq-Decides a.key v.key)
 same_prepare p q r (Get k None) a b first second = cc
 same_prepare p q r _ a b first second = cc
 
-same_keys : (keys : List Key) → map (λ (key : Key). key) keys ≡ keys
-same_keys [] = refl
-same_keys (key ∷ keys) = ap (λ ks. key ∷ ks) (same_keys keys)
+as_they_are : {K : Type 0} (keys : List K) → map (λ (key : K). key) keys ≡ keys
+as_they_are [] = refl
+as_they_are (key ∷ keys) = ap (λ ks. key ∷ ks) (as_they_are keys)
 
 pub first_apart : (parts : ℕ) (keys : List Key) → AllPairs (λ j k. j ≢ k) keys → AreApart (batch_calls parts (First keys))
 first_apart parts keys once =
-    keyed_apart (λ (key : Key). key) _ (λ message a b. same_first (home_of a parts) (home_of b parts) message.partition message.call a b) keys (subst (AllPairs (λ j k. j ≢ k)) (sym (same_keys keys)) once)
+    keyed_apart (λ (key : Key). key) _ (λ message a b. same_first (home_of a parts) (home_of b parts) message.partition message.call a b) keys (subst (AllPairs (λ j k. j ≢ k)) (sym (as_they_are keys)) once)
+
+same_commit : (s : Stamp) (a b r : ℕ) (call : Call) → same_place a (Commit s) r call ≡ true → same_place b (Commit s) r call ≡ true → a ≡ b
+same_commit s a b r (Commit t) first second = eqb-true a r first ∙ sym (eqb-true b r second)
+same_commit s a b r (Get k None) first second = cc
+same_commit s a b r _ first second = cc
+
+pub commits_apart : (parts : ℕ) (stamp : Stamp) (partitions : List ℕ) → AllPairs (λ i j. i < j) partitions → AreApart (batch_calls parts (Commits stamp partitions))
+commits_apart parts stamp partitions ascending =
+    let once : AllPairs (λ i j. i ≢ j) partitions = λ i j d before within same. omega (arith, ascending i j d before within, same) in
+    keyed_apart (λ (p : ℕ). p) _ (λ message a b. same_commit stamp a b message.partition message.call) partitions (subst (AllPairs (λ i j. i ≢ j)) (sym (as_they_are partitions)) once)
 
 recorded_keys : (stamp : Stamp) (all items : List Item) → map (λ (v : Record). v.key) (map (record_for stamp all) items) ≡ keys_written items
 recorded_keys stamp all [] = refl

@@ -1,5 +1,5 @@
 //! The calls that a transaction waits for.
-ghost use Rattle.std.specs.Prelude.{◌≡◌, ◌≢◌, ◌<◌, ◌≤◌, [], ◌∷◌, ◌++◌, true, nat_lt, min, map, not, filter, length, slice_get, AllPairs};
+ghost use Rattle.std.specs.Prelude.{◌≡◌, ◌≢◌, ◌<◌, ◌≤◌, true, nat_lt, min, map, not, filter, length, slice_get, AllPairs};
 ghost use Rattle.std.specs.List.{filter_map, list_all};
 ghost use Rattle.stamps.specs.Bounds.{IsParts};
 ghost use Rattle.stamps.specs.Limits.{max_keys, max_parts};
@@ -16,83 +16,33 @@ use put_all::Partitions;
 use stamps::{Item, Key, Stamp, Tag, WriteSet, limits};
 use std::marker::Model;
 
+const MOST_PLACES: usize = limits::MAX_PARTS as usize;
+
 /// Places in a part's list of calls: up to `MAX_PARTS`.
-#[derive(Drop)]
-struct PendingSet(SmallList<u8, { PendingSet::MAX_LEN }>);
+type PendingSet = SmallList<u8, { MOST_PLACES }>;
 
-impl Model for PendingSet {
-    ghost use Rattle.std.specs.Prelude.{ℕ, List};
-
-    ghost Value = { List ℕ };
-
-    ghost view = { λ p. p.0 };
-}
-
-impl PendingSet {
-    ghost use Rattle.tenant_sessions.specs.Parts.{AnswersOne, batch_calls, is_answered_at};
-
-    const MAX_LEN: usize = limits::MAX_PARTS as usize;
-
-    /// No places.
-    fn none() -> PendingSet
-        ensures { result ≡ [] }
-    {
-        PendingSet(SmallList::empty(0))
-    }
-
-    /// Holds none.
-    fn clear(&mut self)
-        ensures { self.new ≡ [] }
-    {
-        self.0.clear();
-    }
-
-    /// Makes of them the first so many places, up to `MAX_PARTS`.
-    fn fill(&mut self, count: usize)
-        ensures { self.new ≡ below (min count max_parts) }
-    {
-        self.clear();
-        for place in 0..count.min(PendingSet::MAX_LEN) {
-            self.push(place as u8);
-        }
-    }
-
-    fn push(&mut self, place: u8)
-        requires { length self.old < max_parts }
-        ensures { self.new ≡ self.old ++ place ∷ [] }
-    {
-        self.0.push(place);
-    }
-
-    /// Keeps the places but for that of the call whose place the message's reply takes: one at most where `are_apart` says so.
-    fn forget_answered(&mut self, part: &CallBatch, parts: u32, message: &Message, are_apart: bool)
-        requires parts { IsParts parts }
-        requires apart { are_apart ≡ true → AnswersOne (batch_calls parts part.now) message.now self.old }
-        ensures { self.new
-            ≡ filter (λ place. not (is_answered_at (batch_calls parts part.now) message.now place)) self.old }
-    {
-        keep_unanswered(&mut self.0, part, parts, message, are_apart);
-    }
-
-    fn as_slice(&self) -> &[u8]
-        ensures places { result.now ≡ self.now }
-        ensures few { length result.now ≤ max_parts }
-    {
-        self.0.as_slice()
+/// Makes of them the first so many places, up to `MAX_PARTS`.
+fn fill(places: &mut PendingSet, count: usize)
+    ensures { places.new ≡ below (min count max_parts) }
+{
+    places.clear();
+    for place in 0..count.min(MOST_PLACES) {
+        places.push(place as u8);
     }
 }
 
 /// Keeps of these places those of calls whose place the message's reply does not take. Each is moved forward where it lies. Where
 /// `are_apart` says that the reply takes one place at most, no call is compared once that was found.
 fn keep_unanswered(
-    places: &mut SmallList<u8, { PendingSet::MAX_LEN }>,
+    places: &mut PendingSet,
     part: &CallBatch,
     parts: u32,
     message: &Message,
     are_apart: bool,
 )
     requires parts { IsParts parts }
-    requires apart { are_apart ≡ true → AnswersOne (batch_calls parts part.now) message.now places.old }
+    requires apart { are_apart ≡ true
+        → AnswersOne (batch_calls parts part.now) message.now places.old }
     ensures { places.new ≡ filter (λ place. not (is_answered_at (batch_calls parts part.now) message.now place)) places.old }
 {
     let mut kept = 0;
@@ -121,7 +71,19 @@ fn fill_all(places: &mut PendingSet, part: &CallBatch, parts: u32)
         ≤ length (batch_calls parts part.now) }
     ensures once { AllPairs (λ i j. i ≢ j) places.new }
 {
-    places.fill(part.len(parts));
+    fill(places, part.len(parts));
+}
+
+/// Whether each of these partitions is above the one before it.
+fn are_ascending(partitions: &[u8]) -> bool
+    ensures { result ≡ true → AllPairs (λ i j. i < j) partitions.now }
+{
+    for at in 1..partitions.len() {
+        if partitions[at - 1] >= partitions[at] {
+            return false;
+        }
+    }
+    true
 }
 
 /// The calls of one part of a transaction that have no reply taken, in their order: up to `MAX_PARTS`.
@@ -160,7 +122,7 @@ impl Waiting {
         Waiting {
             part: CallBatch::none(tag),
             parts: 1,
-            places: PendingSet::none(),
+            places: PendingSet::empty(0),
             are_apart: false,
         }
     }
@@ -185,10 +147,11 @@ impl Waiting {
         ensures awaits { Awaits (batch_calls parts (Commits stamp partitions)) (length partitions) self.new }
         ensures commits { All (λ out. out.call ≡ Commit stamp) self.new }
     {
+        let are_apart = are_ascending(partitions.as_slice());
         self.part.commit(stamp, partitions);
         fill_all(&mut self.places, &self.part, parts);
         self.parts = parts;
-        self.are_apart = false;
+        self.are_apart = are_apart;
     }
 
     /// The GETs of the latest versions of these keys, up to `MAX_KEYS`. With `are_apart` no key stands twice.
@@ -253,7 +216,12 @@ impl Waiting {
     pub(crate) fn forget(&mut self, message: &Message)
         ensures { self.new ≡ filter (λ out. not (is_replaced_by message.now out)) self.old }
     {
-        self.places
-            .forget_answered(&self.part, self.parts, message, self.are_apart);
+        keep_unanswered(
+            &mut self.places,
+            &self.part,
+            self.parts,
+            message,
+            self.are_apart,
+        );
     }
 }

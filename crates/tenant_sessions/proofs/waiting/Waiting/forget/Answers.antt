@@ -11,15 +11,15 @@ invariant_of-self c =
     let w = c.self.inside in
     let calls = batch_calls w.parts w.part in (
       c.self.invariant.0,
-      ap (list_all (λ place. nat_lt place (length calls))) c.forget_answered.ensures
+      ap (list_all (λ place. nat_lt place (length calls))) c.keep_unanswered.ensures
           ∙ still_all (λ place. nat_lt place (length calls)) (λ place. not (is_answered_at calls c.args.message.now place)) w.places c.self.invariant.1,
-      subst (AllPairs (λ i j. i ≢ j)) (sym c.forget_answered.ensures)
+      subst (AllPairs (λ i j. i ≢ j)) (sym c.keep_unanswered.ensures)
           (AllPairs-filter (λ i j. i ≢ j) (λ place. not (is_answered_at calls c.args.message.now place)) w.places c.self.invariant.2),
       c.self.invariant.3,
     )
 
-pub forget_answered-requires-clause-apart : goal.forget_answered-requires-clause-apart
-forget_answered-requires-clause-apart c = λ are.
+pub keep_unanswered-requires-clause-apart : goal.keep_unanswered-requires-clause-apart
+keep_unanswered-requires-clause-apart c = λ are.
     let w = c.self.inside in
     answers_one (batch_calls w.parts w.part) c.args.message.now w.places (c.self.invariant.3 are) c.self.invariant.2
 
@@ -27,5 +27,5 @@ pub returns : goal.returns
 returns c =
     let w = c.self.inside in
     let calls = batch_calls w.parts w.part in
-    ap (filter_map (slice_get calls)) c.forget_answered.ensures ∙ forgotten (slice_get calls) (is_replaced_by c.args.message.now) w.places
+    ap (filter_map (slice_get calls)) c.keep_unanswered.ensures ∙ forgotten (slice_get calls) (is_replaced_by c.args.message.now) w.places
     ∙ ap (filter (λ out. not (is_replaced_by c.args.message.now out))) c.self.view_is

@@ -1,7 +1,7 @@
 use Rattle.std.proofs.Common.{◌≡◌}
 use Rattle.plain_store.specs.Finding.{below}
-use Rattle.tenant_sessions.proofs.waiting.PendingSet.fill.Given as goal
+use Rattle.tenant_sessions.proofs.waiting.fill.Given as goal
 
 -- the places so far
 abbrev pub invariant-loop-place : goal.invariant-loop-place
-invariant-loop-place l = l.self ≡ below l.place
+invariant-loop-place l = l.places ≡ below l.place
