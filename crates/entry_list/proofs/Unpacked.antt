@@ -1,6 +1,6 @@
 -- That a packed entry is read again, and lists of packed entries.
-use Rattle.std.proofs.Common.{◌≡◌, ℕ, ◌^◌, zero, suc, ◌<◌, List, [], ◌∷◌, ◌++◌, length, drop, take, map, Option, Some, None, refl, sym, ap, subst, ◌∙◌, append_assoc, Bool, true, false, cond, ltb, arith}
-use Rattle.std.specs.Prelude.{slice_get, option_and_then}
+use Rattle.std.proofs.Common.{◌≡◌, ℕ, zero, suc, List, [], ◌∷◌, ◌++◌, length, drop, take, Option, Some, None, refl, sym, ap, subst, ◌∙◌, append_assoc, Bool, true, false, cond, ltb}
+use Rattle.std.specs.Prelude.{slice_get}
 use Rattle.std.specs.Int.{w64, to_le_bytes}
 use Rattle.std.specs.Option.{option_map}
 use Rattle.std.proofs.lemmas.List.{append-nil}
@@ -23,7 +23,7 @@ use Rattle.entry_list.specs.declared.kinds.Taken.{Taken}
 use Rattle.entry_list.specs.declared.kinds.Operation.{Operation}
 use Rattle.entry_list.specs.declared.kinds.Entry.{Entry}
 use Rattle.entry_list.specs.declared.kinds.Entry.TheVariants.{Began, Took, Answered}
-use Rattle.entry_list.specs.PackedEntries.{packed_entry, IsStoreTaken, IsStoreEntry, began_at, taken_at, took_at, answered_at, entry_by, entry_at, taken_of, taken_part, answer_of, answer_alone, answer_part, operation_of, operation_of_act, operation_by, operation_part, entry_or, entry_in, IsPackedEntry, ArePackedEntries, entries_in}
+use Rattle.entry_list.specs.PackedEntries.{packed_entry, IsStoreTaken, IsStoreEntry, began_at, taken_at, took_at, answered_at, entry_by, entry_at, taken_of, taken_part, answer_of, answer_alone, answer_part, operation_of, operation_of_act, operation_part, entry_in, IsPackedEntry, ArePackedEntries, entries_in}
 
 -- ---- one entry
 

@@ -1,5 +1,5 @@
 -- What an operation of a seat leaves, in pieces.
-use Rattle.std.proofs.Common.{◌≡◌, ◌⊎◌, ℕ, [], Bool, true, false, inl, inr, Some, refl, sym, ap, ◌∙◌, arith}
+use Rattle.std.proofs.Common.{◌≡◌, ◌⊎◌, ◌≤◌, ℕ, List, [], Bool, true, false, cond, inl, inr, Some, refl, sym, ap, ◌∙◌, arith}
 use Rattle.std.proofs.lemmas.List.{append-nil}
 use Rattle.plain_store.specs.declared.answer.Answer.{Answer}
 use Rattle.plain_store.specs.declared.answer.Answer.TheVariants.{Refused}
@@ -7,7 +7,9 @@ use Rattle.plain_store.specs.declared.refusal.Refusal.{Refusal}
 use Rattle.plain_store.specs.declared.refusal.Refusal.TheVariants.{Stopped, RowsUsed, OutOfMemory}
 use Rattle.plain_store.specs.declared.step.Act.{Act}
 use Rattle.hub.specs.Operations.{IsLater}
+use Rattle.entry_list.specs.declared.kinds.Entry.{Entry}
 use Rattle.hub.specs.Seats.{SeatView, Extends, Follows, IsEntered, IsLeftBy, begun_entries, is_unbegun, is_unrecorded, sight}
+use Rattle.hub.specs.Taken.{replies_in}
 use Rattle.history.proofs.Lists.{prefix_of_itself}
 use Rattle.hub.proofs.Entries.{follows-extends}
 use Rattle.hub.proofs.Given.{served-start}
@@ -37,6 +39,21 @@ pub entered-began : (act : Act) (old new : SeatView) (answer : Answer) → IsEnt
 entered-began act old new answer (inl (inside, going, goes, follows)) = inr (follows-extends (begun_entries old act) (Some answer) new.entries follows)
 entered-began act old new answer (inr (outside, (refusal, is, inl (unbegun, same)))) = inl (ap (λ (s : SeatView). s.entries) same)
 entered-began act old new answer (inr (outside, (refusal, is, inr (worker, stops)))) = inr (follows-extends (begun_entries old act) stops.told new.entries stops.entered)
+
+-- ---- what is recorded of that
+
+pub recorded-extends : (b : Bool) (old new : List Entry) → Extends old new → Extends (cond b old []) (cond b new [])
+recorded-extends true old new h = h
+recorded-extends false old new h = ([], refl)
+
+pub recorded-begun : (b : Bool) (old began new : List Entry) → (new ≡ old) ⊎ Extends began new
+    → (cond b new [] ≡ cond b old []) ⊎ Extends (cond b began []) (cond b new [])
+recorded-begun b old began new (inl same) = inl (ap (λ (entries : List Entry). cond b entries []) same)
+recorded-begun b old began new (inr more) = inr (recorded-extends b began new more)
+
+pub recorded-few : (b : Bool) (entries : List Entry) → replies_in (cond b entries []) ≤ replies_in entries
+recorded-few true entries = omega arith
+recorded-few false entries = omega arith
 
 -- nothing was done
 pub later-same : (most : ℕ) (seat : SeatView) → IsLater most seat seat

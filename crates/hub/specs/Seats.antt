@@ -1,5 +1,5 @@
 -- What contracts see of a seat, and what an operation of it leaves.
-use Rattle.std.specs.Prelude.{◌≡◌, ◌⊎◌, ◌≤◌, ℕ, Bool, true, false, List, [], ◌∷◌, ◌++◌, Option, Some, None, Result, Ok, Err}
+use Rattle.std.specs.Prelude.{◌≡◌, ◌⊎◌, ◌≤◌, ℕ, Bool, true, false, cond, List, [], ◌∷◌, ◌++◌, Option, Some, None, Result, Ok, Err}
 use Rattle.std.specs.List.{list_all, filter_map, cons_option}
 use Rattle.plain_store.specs.declared.refusal.Refusal.{Refusal}
 use Rattle.plain_store.specs.declared.refusal.Refusal.TheVariants.{NoTenant, Stopped, Late, RowsUsed, OutOfMemory}
@@ -65,6 +65,10 @@ answer_in entry = None
 abbrev pub Extends : List Entry → List Entry → Type 0
 Extends old new = (more : List Entry) × (new ≡ old ++ more)
 
+-- what a transcript has of these entries of the seat of this name: all, or none where they are not recorded
+abbrev pub recorded : SeatName → List Entry → List Entry
+recorded name entries = cond name.is_recorded entries []
+
 -- the transcript is that of this session
 pub record IsNamed (transcript : Transcript) (name : SeatName) : Type 0 where
   pub tenant : transcript.tenant ≡ name.tenant
@@ -74,12 +78,13 @@ pub record IsNamed (transcript : Transcript) (name : SeatName) : Type 0 where
   pub base : transcript.base ≡ name.base
   pub counter : transcript.counter ≡ name.counter
 
--- A seat was just opened for this client, from this base, in a store of so many partitions, and has done nothing. It begins at the counter
--- that it answers, which is at least the base.
+-- A seat was just opened for this client, from this base, in a store of so many partitions, and has done nothing, and what it does is
+-- recorded. It begins at the counter that it answers, which is at least the base.
 pub record IsOpened (parts tenant client base : ℕ) (seat : SeatView) : Type 0 where
   pub name : (seat.name.tenant ≡ tenant) × (seat.name.client ≡ client) × (seat.name.base ≡ base)
   pub counter : (seat.counter ≡ seat.name.counter) × (base ≤ seat.name.counter)
   pub fresh : (seat.stopped ≡ false) × (seat.sent ≡ 0) × (seat.entries ≡ []) × (seat.parts ≡ parts)
+  pub records : seat.name.is_recorded ≡ true
 
 -- the room of 5 replies, where an answer is still to be entered
 abbrev pub spare : {X : Type 0} → Option X → ℕ

@@ -61,8 +61,8 @@ impl<G: Naming> Clients<G> {
 
     /// Begins the session that was offered, for which there is room, and returns the client's word.
     ///
-    /// It fails where the word is taken (12), which the check has from then on, where the history has other clients than were seen, or 2^62 (26), and where an allocation
-    /// failed (30). Then the register is as it was. A word that came back is returned again.
+    /// It fails where the word is taken (12), which the check has from then on, where the history has other clients than were seen, or
+    /// 2^62 (26), and where an allocation failed (30). Then the register is as it was. A word that came back is returned again.
     pub(crate) fn admit(
         &mut self,
         tenant: u32,

@@ -345,6 +345,7 @@ impl<G: Gate + Naming> Hub<G> {
             seat: admission.seat,
             base,
             counter: admission.counter,
+            is_recorded: true,
         };
         let mut seen = self.seen.again();
         seen.learn(&word.seen());

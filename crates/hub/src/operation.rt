@@ -23,6 +23,7 @@ use crate::dispatcher::{Dispatcher, MOST_CALLS};
 use crate::hub::Hub;
 use crate::seat_request::SeatRequest;
 use closed_store::{Entry, EntryList};
+use entry_list::SeatEntries;
 use history::{Front, Mark, Naming, Tally};
 use plain_store::{Answer, Call, Message, Readings, Refusal, Reply, Rows};
 use shard::{Fault, Gate, SeatName, SeatReply};
@@ -52,7 +53,7 @@ pub(crate) struct RunningOperation<'a, G: Naming> {
     pub(crate) name: SeatName,
     pub(crate) dispatcher: Dispatcher<'a, G>,
     pub(crate) session: ClientSession,
-    pub(crate) entries: EntryList,
+    pub(crate) entries: SeatEntries,
     /// What it has seen of the history: each call of it that was answered.
     pub(crate) seen: Front<G>,
     /// That of the operation: what has it has what was seen as it began, if it reads or searches. What was seen has it.
@@ -75,6 +76,7 @@ pub(crate) struct RunningOperation<'a, G: Naming> {
     ghost clocked: { IsClockOf clock.now.key name.tenant },
     ghost legal: { ∥ IsLegal seen ∥₁ },
     ghost marked: { HasMark seen mark },
+    ghost recorded: { entries.recorded ≡ name.is_recorded },
 }
 
 /// Whether a call is not a PREPARE or COMMIT under another stamp.
@@ -269,7 +271,7 @@ impl<'a, G: Gate + Naming> RunningOperation<'a, G> {
     ghost use Rattle.hub.specs.Clocks.{IsReported};
     ghost use Rattle.hub.specs.Evidence.{no_mark};
     ghost use Rattle.stamps.specs.Stamp.{stamp};
-    ghost use Rattle.hub.specs.Seats.{at_seat, is_final, is_unrecorded, outcome_of, spare, EndsSo, Follows, Extends};
+    ghost use Rattle.hub.specs.Seats.{at_seat, is_final, is_unrecorded, outcome_of, recorded, spare, EndsSo, Follows, Extends};
     ghost use Rattle.shard.specs.Asked.{without_reply};
     ghost use Rattle.plain_store.specs.Run.{call_message};
     ghost use Rattle.plain_store.specs.declared.message.Message.{Message as Sent};
@@ -298,6 +300,7 @@ impl<'a, G: Gate + Naming> RunningOperation<'a, G> {
         requires whose { IsOfClient name (Some client) }
         requires clock { IsClockOf clock.now.key name.tenant }
         requires legal { ∥ IsLegal seen ∥₁ }
+        requires recorded { name.is_recorded ≡ true }
         ensures given { (result.name ≡ name) × (result.dispatcher ≡ dispatcher.entry)
             × (result.session ≡ session) × (result.readings ≡ readings) × (result.seen ≡ seen) }
         ensures begun { (result.first ≡ 0) × (result.entries.items ≡ []) × (result.place ≡ None)
@@ -307,7 +310,7 @@ impl<'a, G: Gate + Naming> RunningOperation<'a, G> {
             name,
             dispatcher,
             session,
-            entries: EntryList::new(alloc),
+            entries: SeatEntries::new(alloc),
             seen,
             mark: NO_MARK,
             client: Some(client),
@@ -489,9 +492,10 @@ impl<'a, G: Gate + Naming> RunningOperation<'a, G> {
         Ok(())
     }
 
-    /// Hands out the entries so far.
+    /// Hands out the entries so far, or none where they are not recorded.
     pub(crate) fn drain(&mut self) -> EntryList
-        ensures handed { (result.items ≡ self.old.entries.items) × (self.new.entries.items ≡ []) }
+        ensures handed { (result.items ≡ recorded self.old.name self.old.entries.items)
+            × (self.new.entries.items ≡ []) }
         ensures rest { (self.new.name ≡ self.old.name) × (self.new.dispatcher ≡ self.old.dispatcher)
             × (self.new.session ≡ self.old.session) × (self.new.first ≡ self.old.first)
             × (self.new.place ≡ self.old.place) × (self.new.fault ≡ self.old.fault)
@@ -499,6 +503,20 @@ impl<'a, G: Gate + Naming> RunningOperation<'a, G> {
             × (self.new.mark ≡ self.old.mark) }
     {
         self.entries.take()
+    }
+
+    /// Forgets the entries so far, and records none from now on.
+    pub(crate) fn stop_recording(&mut self)
+        ensures none { self.new.entries.items ≡ [] }
+        ensures name { self.new.name ≡ record self.old.name { is_recorded = false } }
+        ensures rest { (self.new.dispatcher ≡ self.old.dispatcher)
+            × (self.new.session ≡ self.old.session) × (self.new.first ≡ self.old.first)
+            × (self.new.place ≡ self.old.place) × (self.new.fault ≡ self.old.fault)
+            × (self.new.readings ≡ self.old.readings) × (self.new.seen ≡ self.old.seen)
+            × (self.new.mark ≡ self.old.mark) }
+    {
+        self.entries.stop_recording();
+        self.name.is_recorded = false;
     }
 
     /// Forgets the entries so far, and keeps their memory for those to come.

@@ -14,7 +14,7 @@ ghost use Rattle.hub.specs.Evidence.{HasEntryAt, IsOfClient, no_mark};
 ghost use Rattle.hub.specs.Replies.{IfDone, IfListed, IfRead, IfShows, IsDrawn, IsToldFor};
 ghost use Rattle.hub.specs.Registered.{HasLeft};
 ghost use Rattle.hub.specs.Requests.{act_of};
-ghost use Rattle.hub.specs.Seats.{SeatView, Extends, IsEntered, IsNamed, begun_entries, is_unbegun, last_operation};
+ghost use Rattle.hub.specs.Seats.{SeatView, Extends, IsEntered, IsNamed, begun_entries, is_unbegun, last_operation, recorded};
 ghost use Rattle.hub.specs.Taken.{replies_in};
 ghost use Rattle.shard.specs.Jobs.{refusal_of};
 
@@ -84,6 +84,7 @@ impl<'a, G: Gate + Naming> Seat<'a, G> {
         requires clock { IsClockOf clock.now.key name.tenant }
         requires legal { ∥ IsLegal seen ∥₁ }
         requires of_store { ∥ HasParts seen hub.now.parts ∥₁ }
+        requires recorded { name.is_recorded ≡ true }
         ensures seen { result.seen ≡ seen }
         ensures rest { (result.name ≡ name) × (result.stopped ≡ false) × (result.sent ≡ 0)
             × (result.counter ≡ ends.entry.session.counter) × (result.parts ≡ hub.now.parts)
@@ -135,9 +136,10 @@ impl<'a, G: Gate + Naming> Seat<'a, G> {
         self.operation.learn(other);
     }
 
-    /// Hands out the entries so far. What it does from then on is entered after them, in a list that begins with nothing.
+    /// Hands out the entries so far, or none where they are not recorded. What it does from then on is entered after them, in a list that
+    /// begins with nothing.
     pub fn drain(&mut self) -> EntryList
-        ensures handed { result.items ≡ self.old.entries }
+        ensures handed { result.items ≡ recorded self.old.name self.old.entries }
         ensures rest { self.new ≡ record self.old { entries = [] } }
     {
         self.operation.drain()
@@ -148,6 +150,22 @@ impl<'a, G: Gate + Naming> Seat<'a, G> {
         ensures { self.new ≡ record self.old { entries = [] } }
     {
         self.operation.forget();
+    }
+
+    /// Forgets the entries so far, and records none from now on: they take no memory and no time, and neither `drain` nor the transcript
+    /// has them. Contracts see them still.
+    pub fn stop_recording(&mut self)
+        ensures { self.new ≡ record self.old
+            { entries = []; name = record self.old.name { is_recorded = false } } }
+    {
+        self.operation.stop_recording();
+    }
+
+    /// Whether its entries are recorded, as they are until `stop_recording`.
+    pub fn is_recorded(&self) -> bool
+        ensures { result ≡ self.now.name.is_recorded }
+    {
+        self.operation.name.is_recorded
     }
 
     /// Writes the items, and returns when all calls were answered.
@@ -263,10 +281,12 @@ impl<'a, G: Gate + Naming> Seat<'a, G> {
     /// Begins to write the items, takes at most so many replies, and ends the session. What its moves ask for is sent before
     /// it ends. Where `put_all` would be refused without an entry, it only ends the session.
     pub fn abandon<R: Wait>(self, rt: &R, items: &[Item], takes: u32) -> Transcript
-        ensures entries { Extends self.entry.entries result.entries.items }
-        ensures began { (result.entries.items ≡ self.entry.entries)
-            ⊎ Extends
-            (begun_entries self.entry (Put self.entry.name.client items.now)) result.entries.items }
+        ensures entries { Extends
+            (recorded self.entry.name self.entry.entries) result.entries.items }
+        ensures began { (result.entries.items ≡ recorded self.entry.name self.entry.entries)
+            ⊎ Extends (recorded self.entry.name
+            (begun_entries self.entry (Put self.entry.name.client items.now)))
+            result.entries.items }
         ensures few { replies_in result.entries.items ≤ replies_in self.entry.entries + takes }
         ensures name { IsNamed result self.entry.name }
     {
@@ -276,9 +296,9 @@ impl<'a, G: Gate + Naming> Seat<'a, G> {
         seat.end(rt)
     }
 
-    /// Ends the session, and answers its transcript. Entries that were returned are not in it.
+    /// Ends the session, and answers its transcript. Entries that were returned, or are not recorded, are not in it.
     pub fn end<R: Wait>(self, rt: &R) -> Transcript
-        ensures entries { result.entries.items ≡ self.entry.entries }
+        ensures entries { result.entries.items ≡ recorded self.entry.name self.entry.entries }
         ensures name { IsNamed result self.entry.name }
     {
         let (transcript, _departure) = self.end_with_departure(rt);
@@ -288,7 +308,7 @@ impl<'a, G: Gate + Naming> Seat<'a, G> {
     /// As `end`, and answers that the hub's register has entered it: the client's number is free again, and its next session goes on at
     /// the seat's counter or above it. A seat that was stopped has left before, which changes nothing then.
     pub fn end_with_departure<R: Wait>(self, rt: &R) -> (Transcript, Departure)
-        ensures entries { result.0.entries.items ≡ self.entry.entries }
+        ensures entries { result.0.entries.items ≡ recorded self.entry.name self.entry.entries }
         ensures name { IsNamed result.0 self.entry.name }
         ensures left { HasLeft self.entry.name self.entry.counter result.1 }
     {
@@ -296,6 +316,8 @@ impl<'a, G: Gate + Naming> Seat<'a, G> {
         let departure = seat.leave(rt);
         let Seat { operation, .. } = seat;
         let RunningOperation { name, entries, .. } = operation;
+        let mut noted = entries;
+        let entries = noted.take();
         let transcript = Transcript {
             tenant: name.tenant,
             client: name.client,

@@ -183,6 +183,7 @@ fn run_rounds<J: Naming, H: Wait>(
     draws: Draws,
     orders: Orders,
 ) -> SeatEnd<J>
+    requires { seat.name.is_recorded ≡ true }
     ensures name { IsGivenBack seat.entry.name.tenant seat.entry.name.client result.1
         × IfSome result.0 (λ left. IsNamed left.0 seat.entry.name) }
     // Each reply that it was given has its place in what its seat has seen.

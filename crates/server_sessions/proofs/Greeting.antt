@@ -33,9 +33,9 @@ own_told : (client : Option ℕ) (name : SeatName) → IfSome (told_of client na
 own_told (Some client) name = tt
 own_told None name = refl
 
-pub greeted : (limits : List Limits) (tenant : ℕ) (client : Option ℕ) (base : ℕ) (names : List (List ℕ)) (name : List ℕ) (opened : Result SeatView Refusal) (told : Option ℕ) (said : Said) (old new : Option SeatView)
-    → IsNumberOf names name tenant → old ≡ None → OpensSeat limits tenant client base opened told → Greets opened told said old new → IsGreeted limits names name client base said new
-greeted limits tenant client base names name (Ok seat) told said old new number none opens greets =
+pub greeted : (epoch : ℕ) (limits : List Limits) (tenant : ℕ) (client : Option ℕ) (base : ℕ) (names : List (List ℕ)) (name : List ℕ) (opened : Result SeatView Refusal) (told : Option ℕ) (said : Said) (old new : Option SeatView)
+    → IsNumberOf names name tenant → old ≡ None → OpensSeat epoch limits tenant client base opened told → Greets opened told said old new → IsGreeted limits names name client base said new
+greeted epoch limits tenant client base names name (Ok seat) told said old new number none opens greets =
     subst (IsGreeted limits names name client base said) (sym greets.ready.1) (
       greets.ready.0 ∙ ap (λ (c : Option ℕ). said_ready seat.name.counter c) opens.told_is,
       record {
@@ -46,20 +46,20 @@ greeted limits tenant client base names name (Ok seat) told said old new number 
         no_entries = opens.fresh.2;
       },
     )
-greeted limits tenant client base names name (Err cause) told said old new number none opens greets =
+greeted epoch limits tenant client base names name (Err cause) told said old new number none opens greets =
     let exact : (cause ≡ NoTenant) ↔ (length limits ≤ tenant) = (λ same. opens.no_tenant.0 (ap Err same), λ past. err_is (Err cause) cause NoTenant refl (opens.no_tenant.1 past)) in
     subst (IsGreeted limits names name client base said) (sym (greets.refused.1 ∙ none)) (cause, greets.refused.0, ungreeted (length limits) tenant names name cause number exact opens.refusals)
 
 pub greeting_told : (newest : Bool) (epoch : ℕ) (limits : List Limits) (tenant : ℕ) (client : Option ℕ) (base : ℕ) (opened : Result SeatView Refusal) (told : Option ℕ) (said : Said) (old new : Option SeatView)
-    → old ≡ None → OpensSeat limits tenant client base opened told → Greets opened told said old new → Tells newest epoch None new (said_line said)
+    → old ≡ None → OpensSeat epoch limits tenant client base opened told → Greets opened told said old new → Tells newest epoch None new (said_line said)
 greeting_told newest epoch limits tenant client base (Ok seat) told said old new none opens greets =
     rw (greets.ready.0, greets.ready.1)
-    (Tells-ready newest epoch seat told (opens.fresh.2, opens.fresh.1, opens.fresh.0) (subst (λ (c : Option ℕ). IfSome c (λ its. its ≡ seat.name.client)) (sym opens.told_is) (own_told client seat.name)))
+    (Tells-ready newest epoch seat told (opens.fresh.2, opens.fresh.1, opens.fresh.0, opens.records) (subst (λ (c : Option ℕ). IfSome c (λ its. its ≡ seat.name.client)) (sym opens.told_is) (own_told client seat.name)))
 greeting_told newest epoch limits tenant client base (Err cause) told said old new none opens greets =
     rw (greets.refused.0, greets.refused.1 ∙ none) (Tells-refused newest epoch cause)
 
-pub greeting_seated : (limits : List Limits) (tenant : ℕ) (client : Option ℕ) (base : ℕ) (names : List (List ℕ)) (name : List ℕ) (opened : Result SeatView Refusal) (told : Option ℕ) (said : Said) (old new : Option SeatView)
-    → IsNumberOf names name tenant → old ≡ None → OpensSeat limits tenant client base opened told → Greets opened told said old new → IsSeated new names
-greeting_seated limits tenant client base names name (Ok seat) told said old new number none opens greets =
+pub greeting_seated : (epoch : ℕ) (limits : List Limits) (tenant : ℕ) (client : Option ℕ) (base : ℕ) (names : List (List ℕ)) (name : List ℕ) (opened : Result SeatView Refusal) (told : Option ℕ) (said : Said) (old new : Option SeatView)
+    → IsNumberOf names name tenant → old ≡ None → OpensSeat epoch limits tenant client base opened told → Greets opened told said old new → IsSeated new names
+greeting_seated epoch limits tenant client base names name (Ok seat) told said old new number none opens greets =
     rw greets.ready.1 (name, subst (IsNumberOf names name) (sym opens.of_tenant.0) number)
-greeting_seated limits tenant client base names name (Err cause) told said old new number none opens greets = rw (greets.refused.1 ∙ none) tt
+greeting_seated epoch limits tenant client base names name (Err cause) told said old new number none opens greets = rw (greets.refused.1 ∙ none) tt

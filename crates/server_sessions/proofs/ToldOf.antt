@@ -1,5 +1,5 @@
 -- What the client of a connection is answered, answer by answer.
-use Rattle.std.proofs.Common.{◌≡◌, ◌+◌, ◌*◌, ℕ, zero, suc, Bool, true, false, cond, nat_lt, List, [], ◌∷◌, ◌++◌, length, take, Option, Some, None, Result, Ok, Err, refl, sym, ap, subst, inl, inr, arith, ◌∙◌, append_assoc}
+use Rattle.std.proofs.Common.{◌≡◌, ◌<◌, ◌+◌, ◌*◌, ℕ, zero, suc, Bool, true, false, cond, nat_lt, List, [], ◌∷◌, ◌++◌, length, take, Option, Some, None, Result, Ok, Err, refl, sym, ap, subst, inl, inr, arith, ◌∙◌, append_assoc}
 use Rattle.std.proofs.lemmas.List.{append-nil}
 use Rattle.std.proofs.lemmas.List.Elements.{filter_map-append}
 use Rattle.std.proofs.lemmas.List.Concat.{flat_map-append}
@@ -20,14 +20,14 @@ use Rattle.entry_list.specs.declared.kinds.Entry.TheVariants.{Began}
 use Rattle.entry_list.specs.Raises.{raise_entries}
 use Rattle.hub.specs.Limits.{max_calls}
 use Rattle.hub.specs.Clocks.{IsRaised, MayBeRaised, PutsByClock}
-use Rattle.hub.specs.Seats.{SeatView, Follows, IsEntered, IsLeftBy, IsNamed, answer_in, is_of_worker}
+use Rattle.hub.specs.Seats.{SeatView, Follows, IsEntered, IsLeftBy, IsNamed, answer_in, is_of_worker, recorded}
 use Rattle.shard.specs.declared.seat_name.SeatName.{SeatName}
 use Rattle.closed_store.specs.declared.transcript.Transcript.{Transcript}
 use Rattle.line_protocol.specs.AnswerSpelling.{answer_line}
 use Rattle.line_protocol.specs.declared.request.Request.{Request}
 use Rattle.line_protocol.specs.declared.request.Request.TheVariants.{Hello, Put, Get, Find, Keep, Info, Bye}
 use Rattle.line_runs.specs.RunAnswers.{Gathers}
-use Rattle.server_sessions.specs.Answered.{IsOfSeat}
+use Rattle.server_sessions.specs.Answered.{IsEndOf, IsOfSeat}
 use Rattle.server_sessions.specs.Histories.{IsGivenIn}
 use Rattle.server_sessions.specs.Said.{Aside, Declines, Shows, aside_line, asides_text, ready_line}
 use Rattle.server_sessions.specs.SeatAnswers.{AreGiven, IsAnswered, IsAnsweredAndDrained, IsDrained, IsFresh, IsPut, IsServedWith, IsToldBySeat, IsToldNext, Nothing, OneMore, ReportsFind, ReportsGet, Returned}
@@ -65,7 +65,7 @@ pub Tells-refused : (newest : Bool) (epoch : ℕ) (cause : Refusal) → Tells ne
 Tells-refused newest epoch cause = Tells-aside newest epoch (Declines cause)
 
 -- a seat is opened, and its client is told, where that was not asked for
-pub Tells-ready : (newest : Bool) (epoch : ℕ) (seat : SeatView) (told_client : Option ℕ) → IsFresh seat → IfSome told_client (λ client. client ≡ seat.name.client)
+pub Tells-ready : (newest : Bool) (epoch : ℕ) (seat : SeatView) (told_client : Option ℕ) → IsFresh epoch seat → IfSome told_client (λ client. client ≡ seat.name.client)
     → Tells newest epoch None (Some seat) (ready_line seat.name.counter told_client)
 Tells-ready newest epoch seat told_client fresh own told h =
     let line = ready_line seat.name.counter told_client in
@@ -479,6 +479,33 @@ Gathers-emptied a b c x y z text h adds none = record {
 
 -- ---- the end of a session
 
+abbrev pub ToldSo : Bool → ℕ → Option (List ℕ) → Option (List ℕ) → List ℕ → List ℕ → Option SeatView → Option SeatView → Type 0
+ToldSo newest epoch old new before after first last = (text : List ℕ) × Gathers old new before after text × Tells newest epoch first last text
+
+one_or_other : (b : Bool) (entries : List Entry) → cond b entries entries ≡ entries
+one_or_other true entries = refl
+one_or_other false entries = refl
+
+-- a seat has no entries left where they are not recorded
+recorded_left : (epoch : ℕ) (seat : SeatView) (all : List Entry) → (seat.name.is_recorded ≡ true) ⊎ (0 < epoch) → IsLeftOf epoch all seat.entries
+    → recorded seat.name seat.entries ≡ seat.entries
+recorded_left epoch seat all (inl records) left = ap (λ (b : Bool). cond b seat.entries []) records
+recorded_left epoch seat all (inr cut) left = ap (recorded seat.name) (left.1 cut) ∙ one_or_other seat.name.is_recorded [] ∙ sym (left.1 cut)
+
+-- what is left has all entries that the seat had at last
+all_left : (newest : Bool) (epoch : ℕ) (seat : Option SeatView) (left : Option SessionLeft) (text : List ℕ) → WasTold newest epoch seat text → IsEndOf seat left → IsOfSeat 0 seat left
+all_left newest epoch None left text h none = none
+all_left newest epoch (Some seat) left text h (its, is, named, entries, seen) =
+    let its_own = h.1 in
+    let records = subst (λ (n : SeatName). (n.is_recorded ≡ true) ⊎ (0 < epoch)) (sym its_own.session) its_own.fresh.3 in
+    (its, is, named, λ never. entries ∙ recorded_left epoch seat h.0.1.all records h.0.1.handed, seen)
+
+pub ended_told : (newest : Bool) (epoch : ℕ) (seat : Option SeatView) (left : Option SessionLeft) (a b : Option (List ℕ)) (gathered : List ℕ) → ToldSo newest epoch a b [] gathered None seat → IsEndOf seat left → IsOfSeat 0 seat left
+ended_told newest epoch seat left a b gathered told end = all_left newest epoch seat left told.0 (told.2 [] ([], refl)) end
+
+pub ended_broken : (newest : Bool) (epoch : ℕ) (seat : Option SeatView) (left : Option SessionLeft) (a b : Option (List ℕ)) → BreaksTelling newest epoch None seat a b [] → IsEndOf seat left → IsOfSeat 0 seat left
+ended_broken newest epoch seat left a b broken end = all_left newest epoch seat left broken.0 (broken.2 [] ([], refl)) end
+
 -- what was reported of a seat, of what it left
 told_at_end : (newest : Bool) (epoch : ℕ) (seat : Option SeatView) (left : Option SessionLeft) (text : List ℕ) → WasTold newest epoch seat text → IsOfSeat 0 seat left → HasTold newest epoch left text
 told_at_end newest epoch None left text h none = subst (λ (l : Option SessionLeft). HasTold newest epoch l text) (sym none) h
@@ -510,9 +537,6 @@ writes newest epoch seat left a b c gathered text last h tells is adds end =
     (text, last, told_at_end newest epoch seat left text (tells [] ([], refl)) end, is, Gathers-end a b c gathered text last h adds)
 
 -- ---- what is gathered, and what it reports
-
-abbrev pub ToldSo : Bool → ℕ → Option (List ℕ) → Option (List ℕ) → List ℕ → List ℕ → Option SeatView → Option SeatView → Type 0
-ToldSo newest epoch old new before after first last = (text : List ℕ) × Gathers old new before after text × Tells newest epoch first last text
 
 pub told_none : (newest : Bool) (epoch : ℕ) (writer : Option (List ℕ)) (out : List ℕ) (seat : Option SeatView) → ToldSo newest epoch writer writer out out seat seat
 told_none newest epoch writer out seat = ([], Gathers-none writer out, Tells-same newest epoch seat)

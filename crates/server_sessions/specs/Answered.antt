@@ -4,7 +4,7 @@ use Rattle.std.specs.Io.KnownBytes.{Appends}
 use Rattle.plain_store.specs.declared.refusal.Refusal.TheVariants.{OutOfMemory}
 use Rattle.plain_store.specs.declared.answer.Answer.TheVariants.{Refused}
 use Rattle.hub.specs.Hubs.{ConfigView}
-use Rattle.hub.specs.Seats.{IsNamed, SeatView}
+use Rattle.hub.specs.Seats.{IsNamed, SeatView, recorded}
 use Rattle.line_protocol.specs.Held.{EndsAs}
 use Rattle.line_protocol.specs.ServeSpelling.{IsNoServeLine, IsServeLine}
 use Rattle.line_protocol.specs.Stream.{lines_of, terminated}
@@ -125,6 +125,13 @@ IsOfSeat epoch None left = left ≡ None
 IsOfSeat epoch (Some seat) left =
     (its : SessionLeft) × (left ≡ Some its) × IsNamed its.0 seat.name
     × (epoch ≡ 0 → its.0.entries.items ≡ seat.entries) × (its.1 ≡ seat.seen)
+
+-- what is left of a seat that was ended: its transcript, with its entries where they are recorded, and the history that it has seen
+abbrev pub IsEndOf : Option SeatView → Option SessionLeft → Type 0
+IsEndOf None left = left ≡ None
+IsEndOf (Some seat) left =
+    (its : SessionLeft) × (left ≡ Some its) × IsNamed its.0 seat.name
+    × (its.0.entries.items ≡ recorded seat.name seat.entries) × (its.1 ≡ seat.seen)
 
 -- What a session over this input wrote that left this, or opened no seat: each line of a prefix of the input, which has whole lines
 -- alone, was answered in its turn, by the tenant that its hello named; and then comes the last line.

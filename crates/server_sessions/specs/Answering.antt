@@ -62,10 +62,11 @@ IsGreeted limits names name client base said (Some seat) =
     × IsOpenedSeat limits names name client base seat
 
 -- What comes of opening a seat of this client, or of any, which is then told; or why none is opened: 10 exactly where there is no such
--- tenant, else 12, 24, 26 or 30.
-pub record OpensSeat (limits : List Limits) (tenant : ℕ) (client : Option ℕ) (base : ℕ) (opened : Result SeatView Refusal)
+-- tenant, else 12, 24, 26 or 30. What it does is recorded, but where journals are cut.
+pub record OpensSeat (epoch : ℕ) (limits : List Limits) (tenant : ℕ) (client : Option ℕ) (base : ℕ) (opened : Result SeatView Refusal)
     (told : Option ℕ) : Type 0 where
   pub fresh : IfOk opened (λ s. (s.stopped ≡ false) × (s.sent ≡ 0) × (s.entries ≡ []))
+  pub records : IfOk opened (λ s. (s.name.is_recorded ≡ true) ⊎ (0 < epoch))
   pub of_tenant : IfOk opened (λ s. (s.name.tenant ≡ tenant) × (s.name.base ≡ base))
   pub of_client : IfOk opened (λ s. IsOfClient limits client s.name)
   pub told_is : IfOk opened (λ s. told ≡ told_of client s.name)

@@ -92,9 +92,10 @@ pub data ToldSince (newest : Bool) (epoch : ℕ) (opened : SeatView) : SeatView 
   Returned : (old : SeatView) (new : SeatView) (text : List ℕ) → ToldSince newest epoch opened old text
       → IsDrained epoch old new → ToldSince newest epoch opened new text
 
--- a seat that was just opened
-abbrev pub IsFresh : SeatView → Type 0
-IsFresh seat = (seat.entries ≡ []) × (seat.sent ≡ 0) × (seat.stopped ≡ false)
+-- a seat that was just opened, whose entries are recorded, or returned where journals are cut
+abbrev pub IsFresh : ℕ → SeatView → Type 0
+IsFresh epoch seat =
+    (seat.entries ≡ []) × (seat.sent ≡ 0) × (seat.stopped ≡ false) × ((seat.name.is_recorded ≡ true) ⊎ (0 < epoch))
 
 -- each reply among the seat's entries was given to a call of it, at its place in the history that it has seen
 abbrev pub AreGiven : SeatView → Type 0
@@ -106,7 +107,7 @@ AreGiven seat = AreServed (sight seat) 0 seat.sent [] seat.entries
 pub record IsToldBySeat (newest : Bool) (epoch : ℕ) (seat : SeatView) (text : List ℕ) : Type 0 where
   pub asides : List Aside
   pub opened : SeatView
-  pub fresh : IsFresh opened
+  pub fresh : IsFresh epoch opened
   pub session : seat.name ≡ opened.name
   pub told : List ℕ
   pub since : ToldSince newest epoch opened seat told

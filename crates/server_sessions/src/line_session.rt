@@ -11,7 +11,7 @@ ghost use Rattle.line_protocol.specs.StepSpelling.{IsNumberOf};
 ghost use Rattle.line_protocol.specs.Stream.{HasNoLineFeed, IsLine, terminated};
 ghost use Rattle.line_runs.specs.RunAnswers.{Gathers};
 ghost use Rattle.line_runs.specs.declared.fault.RunFault.TheVariants.{Write as IsWrite};
-ghost use Rattle.server_sessions.specs.Answered.{BreaksOffIn, IsOfSeat, StaysBehind, TakesBytes, TakesInput};
+ghost use Rattle.server_sessions.specs.Answered.{BreaksOffIn, IsEndOf, StaysBehind, TakesBytes, TakesInput};
 ghost use Rattle.server_sessions.specs.declared.line_session.SessionEnd.TheVariants.{Unread};
 ghost use Rattle.server_sessions.specs.Answering.{Greets, IsAnsweredBy, IsEndOfInput, IsGreeted, last_line, no_options, refused_as};
 ghost use Rattle.server_sessions.specs.Departed.{GivesBack};
@@ -218,7 +218,7 @@ fn end_seat<G: Gate + Naming, H: Wait>(
     seat: Option<Seat<'_, G>>,
     counts: Option<&AnswerCounts>,
 ) -> (Option<SessionLeft<G>>, Option<Departure>)
-    ensures { IsOfSeat 0 seat.entry result.0 × GivesBack result.0 result.1 }
+    ensures { IsEndOf seat.entry result.0 × GivesBack result.0 result.1 }
 {
     match seat {
         Some(seat) => {

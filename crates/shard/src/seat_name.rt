@@ -1,7 +1,7 @@
 //! Sessions by name.
 use stamps::{Client, Counter};
 
-/// Whose session it is, and how it was opened.
+/// Whose session it is, how it was opened, and whether what it does is recorded.
 #[derive(Clone, Copy)]
 pub struct SeatName {
     pub tenant: u32,
@@ -14,4 +14,6 @@ pub struct SeatName {
     pub base: Counter,
     /// The counter that opening it answered.
     pub counter: Counter,
+    /// Whether its transcript has what it does.
+    pub is_recorded: bool,
 }

@@ -118,6 +118,18 @@ fn is_served<G: Gate + Naming, R: Wait>(
     Some(is_put && matches!(found, Answer::Listed(_)) && is_handed)
 }
 
+/// Whether a seat that records nothing serves as others do, and leaves nothing.
+fn is_unrecorded<G: Gate + Naming, R: Wait>(rt: &R, hub: &Hub<G>) -> Option<bool> {
+    let mut seat = hub.seat(rt, 0, client(1)?, Counter::new(0)?).ok()?;
+    let was: bool = seat.is_recorded();
+    seat.stop_recording();
+    let put: Answer = seat.put_all(rt, &[item("z")?]);
+    let is_put = matches!(put, Answer::Done(_)) && was && !seat.is_recorded();
+    let handed: EntryList = seat.drain();
+    let transcript: Transcript = seat.end(rt);
+    Some(is_put && handed.is_empty() && transcript.entries.is_empty())
+}
+
 /// Whether a write that takes no reply is abandoned.
 fn is_abandoned<G: Gate + Naming, R: Wait>(rt: &R, hub: &Hub<G>) -> Option<bool> {
     let seat = hub.seat(rt, 0, client(2)?, Counter::new(0)?).ok()?;
@@ -149,9 +161,13 @@ fn closed_in<
     let mut left: Vec<Transcript> = Vec::new(alloc);
     let is_served = is_served(rt, alloc, &hub, &mut left);
     let is_abandoned = is_abandoned(rt, &hub);
+    let is_unrecorded = is_unrecorded(rt, &hub);
     let keeps: bool = hub.has_journals();
     let closed: Closed = hub.close(rt, left);
-    Some((is_served? && is_abandoned? && keeps, closed))
+    Some((
+        is_served? && is_abandoned? && is_unrecorded? && keeps,
+        closed,
+    ))
 }
 
 /// Whether what is left has its parts, of which another like it is made, and is joined with nothing.
@@ -170,7 +186,7 @@ fn is_left(alloc: Global, closed: Closed) -> Option<bool> {
     let joined = joined.ok()?;
     let count: &Counts = joined.counts.first()?;
     let (seats, collector): (u128, u128) = (count.of_seats, count.of_collector);
-    let parts = joined.journals.len() == 2 && seats == 5 && collector == 0;
+    let parts = joined.journals.len() == 2 && seats == 7 && collector == 0;
     Some(parts && joined.transcripts.len() == 1 && joined.config.parts == 2)
 }
 

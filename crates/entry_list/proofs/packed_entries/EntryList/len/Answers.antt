@@ -1,4 +1,4 @@
-use Rattle.std.proofs.Common.{◌≡◌, ◌<◌, ◌^◌, ℕ, List, length, sym, ap, subst, ◌∙◌, arith}
+use Rattle.std.proofs.Common.{◌≡◌, length, sym, ap, ◌∙◌, arith}
 use Rattle.entry_list.specs.PackedEntries.{EntriesView}
 use Rattle.entry_list.proofs.Unpacked.{as_many}
 use Rattle.entry_list.proofs.packed_entries.EntryList.len.Goals as goal

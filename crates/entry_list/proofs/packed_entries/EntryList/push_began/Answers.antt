@@ -1,7 +1,6 @@
-use Rattle.std.proofs.Common.{◌≡◌, ◌+◌, ◌*◌, ◌<◌, ◌≤◌, List, ℕ, [], ◌∷◌, ◌++◌, length, sym, ap, subst, ◌∙◌, arith}
-use Rattle.entry_list.specs.declared.kinds.Entry.{Entry}
+use Rattle.std.proofs.Common.{◌≡◌, List, ℕ, [], ◌∷◌, ◌++◌, ap, ◌∙◌, arith}
 use Rattle.entry_list.specs.declared.kinds.Entry.TheVariants.{Began}
-use Rattle.entry_list.specs.PackedEntries.{packed_entry, ArePackedEntries, entries_in, EntriesView}
+use Rattle.entry_list.specs.PackedEntries.{packed_entry, EntriesView}
 use Rattle.entry_list.specs.LentActs.{act_lent}
 use Rattle.entry_list.proofs.Unpacked.{still_packed, grown}
 use Rattle.entry_list.proofs.packed_entries.EntryList.push_began.Goals as goal

@@ -1,6 +1,5 @@
-use Rattle.std.proofs.Common.{◌≡◌, ◌∷◌, ◌++◌, List, ℕ, [], refl, ap, ◌∙◌, arith}
+use Rattle.std.proofs.Common.{◌∷◌, ◌++◌, List, ℕ, [], refl, ap, ◌∙◌, arith}
 use Rattle.plain_store.specs.declared.step.Act.TheVariants.{Hello, Stop}
-use Rattle.entry_list.specs.declared.kinds.Entry.{Entry}
 use Rattle.entry_list.specs.declared.kinds.Entry.TheVariants.{Began}
 use Rattle.entry_list.specs.PackedEntries.{packed_entry, EntriesView}
 use Rattle.entry_list.specs.Raises.{raise_entries}

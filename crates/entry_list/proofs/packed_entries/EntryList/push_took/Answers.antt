@@ -1,5 +1,4 @@
-use Rattle.std.proofs.Common.{◌≡◌, ◌+◌, ◌*◌, ◌-◌, ◌<◌, ◌≤◌, List, [], ◌∷◌, ◌++◌, refl, ap, ◌∙◌, arith}
-use Rattle.entry_list.specs.declared.kinds.Entry.{Entry}
+use Rattle.std.proofs.Common.{◌≡◌, ◌*◌, ◌≤◌, [], ◌∷◌, ◌++◌, refl, ap, ◌∙◌, arith}
 use Rattle.entry_list.specs.declared.kinds.Entry.TheVariants.{Took}
 use Rattle.entry_list.specs.PackedEntries.{packed_entry, EntriesView}
 use Rattle.entry_list.specs.Sizes.{max_took_bytes}

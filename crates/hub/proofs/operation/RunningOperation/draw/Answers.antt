@@ -1,7 +1,7 @@
 use Rattle.std.proofs.Common.{ℕ, List, ◌<◌, ◌++◌, ◌∙◌, ap, subst}
 use Rattle.std.specs.Prelude.{IfSome}
 use Rattle.entry_list.specs.declared.kinds.Entry.{Entry}
-use Rattle.entry_list.specs.PackedEntries.{EntriesView}
+use Rattle.entry_list.specs.SeatEntries.{SeatEntriesView}
 use Rattle.entry_list.specs.Raises.{raise_entries}
 use Rattle.hub.proofs.Clocked.{drawn_below, raised, raised_to}
 use Rattle.hub.proofs.operation.RunningOperation.draw.Goals as goal
@@ -20,7 +20,7 @@ pub returns-clause-entered : goal.returns-clause-entered
 returns-clause-entered g c =
     let self = c.args.self.now in
     let session = self.session in
-    ap (λ (v : EntriesView). v.items) c.learn.ensures.more.entries ∙ c.in-Ok.ensures.ok
+    ap (λ (v : SeatEntriesView). v.items) c.learn.ensures.more.entries ∙ c.in-Ok.ensures.ok.0
     ∙ ap (λ (n : ℕ). self.entries.items ++ raise_entries self.name.client n)
     (raised_to session.counter c.in-Some.base c.reopen.new.self.counter c.draw_next-drawn.result c.in-Some.ensures
     (subst (λ (n : ℕ). IfSome c.draw_next-drawn.result (λ counter. n < counter)) (c.get-floor.ensures.value ∙ c.counter.ensures) c.draw_next-drawn.ensures.floor)

@@ -12,13 +12,13 @@ returns-in_default-clause-greeted g c = rw c.requires (NoTenant, c.refuse.ensure
 
 pub returns-clause-tenant : goal.returns-clause-tenant
 returns-clause-tenant g c =
-    rw c.greet.ensures.0 (greeting_seated _ c.in-Some.tenant _ _ _ c.args.name.now c.open_seat-opened.result.0 c.open_seat-opened.result.1 _ _ _ c.in-Some.ensures.some c.requires c.open_seat-opened.ensures c.greet.ensures.1)
+    rw c.greet.ensures.0 (greeting_seated _ _ c.in-Some.tenant _ _ _ c.args.name.now c.open_seat-opened.result.0 c.open_seat-opened.result.1 _ _ _ c.in-Some.ensures.some c.requires c.open_seat-opened.ensures c.greet.ensures.1)
 
 pub returns-clause-told : goal.returns-clause-told
 returns-clause-told g c = greeting_told c.args.self.now.terms.options.newest c.args.hub.now.epoch _ _ _ _ c.open_seat-opened.result.0 c.open_seat-opened.result.1 _ _ _ c.requires c.open_seat-opened.ensures c.greet.ensures.1
 
 pub returns-clause-greeted : goal.returns-clause-greeted
-returns-clause-greeted g c = greeted _ c.in-Some.tenant _ _ _ c.args.name.now c.open_seat-opened.result.0 c.open_seat-opened.result.1 _ _ _ c.in-Some.ensures.some c.requires c.open_seat-opened.ensures c.greet.ensures.1
+returns-clause-greeted g c = greeted _ _ c.in-Some.tenant _ _ _ c.args.name.now c.open_seat-opened.result.0 c.open_seat-opened.result.1 _ _ _ c.in-Some.ensures.some c.requires c.open_seat-opened.ensures c.greet.ensures.1
 
 pub returns-clause-named : goal.returns-clause-named
 returns-clause-named g c = rw c.greet.ensures.2 c.in-Some.ensures.some
