@@ -1,9 +1,9 @@
 -- Bodies of records: what was packed is read again, by readers that check nothing.
-use Rattle.std.proofs.Common.{◌≡◌, ℕ, ◌<◌, ◌≤◌, ◌+◌, ◌-◌, suc, zero, leb, ◌&&◌, Bool, true, false, eqb, ltb, cond, ◌||◌, List, [], ◌∷◌, ◌++◌, length, take, drop, set, replicate, Option, Some, None, refl, sym, ap, subst, ◌∙◌, append_assoc, append-nil, length-append, drop-set-lt, drop-drop, arith}
-use Rattle.std.specs.Prelude.{IsSome}
+use Rattle.std.proofs.Common.{◌≡◌, ℕ, ◌<◌, ◌≤◌, ◌+◌, ◌-◌, suc, zero, leb, ◌&&◌, Bool, true, false, eqb, ltb, cond, ◌||◌, List, [], ◌∷◌, ◌++◌, length, take, drop, set, replicate, Option, Some, None, refl, sym, ap, subst, ◌∙◌, append_assoc, append-nil, length-append, length-take-le, take-append-drop, drop-set-lt, drop-drop, arith}
+use Rattle.std.specs.Prelude.{IsSome, is_some}
 use Rattle.std.specs.Option.{option_map}
 use Rattle.std.proofs.lemmas.Bool.{false≢true, and_parts, leb-true, lt-ltb, ltb-false, eqb-false}
-use Rattle.std.proofs.lemmas.List.{drop-replicate}
+use Rattle.std.proofs.lemmas.List.{get_or_append_left, drop-replicate, take_all, take-take}
 use Rattle.std.proofs.Math.Seq.{take-append-add}
 use Rattle.stamps.specs.Limits.{max_keys, max_key_len, max_tag_len, max_value_len}
 use Rattle.stamps.specs.Text.{IsText, is_name_byte, is_visible_byte}
@@ -19,48 +19,57 @@ use Rattle.packed.specs.Bodies.{packed_body, body_at, record_in, record_or, no_r
 use Rattle.packed.specs.Reading.{◌>>=◌, byte_at, text_at, key_from, key_at, tag_at, value_at, keys_at, writes_of, writes_at}
 use Rattle.packed.proofs.Texts.{text_again, key_again, tag_again, value_again}
 use Rattle.packed.proofs.Records.{writes_again}
-use Rattle.packed.proofs.KeyLoop.{SoFar, begins_not, stops}
+use Rattle.packed.proofs.KeyLoop.{with_front, SoFar, begins_not, stops}
 
 -- ---- the parts of a body
 
-abbrev pub behind_value : Record → List ℕ
-behind_value r = packed_keys r.writes
+-- each with what stands behind the body
+abbrev pub behind_value : Record → List ℕ → List ℕ
+behind_value r more = packed_keys r.writes ++ more
 
-abbrev pub behind_tag : Record → List ℕ
-behind_tag r = packed_text r.value ++ behind_value r
+abbrev pub behind_tag : Record → List ℕ → List ℕ
+behind_tag r more = packed_text r.value ++ behind_value r more
 
-abbrev pub behind_key : Record → List ℕ
-behind_key r = packed_text r.tag ++ behind_tag r
+abbrev pub behind_key : Record → List ℕ → List ℕ
+behind_key r more = packed_text r.tag ++ behind_tag r more
 
-parted : (a b c d : List ℕ) → a ++ b ++ c ++ d ≡ a ++ (b ++ (c ++ d))
-parted a b c d = simp append_assoc
+parted : (a b c d e : List ℕ) → (a ++ b ++ c ++ d) ++ e ≡ a ++ (b ++ (c ++ (d ++ e)))
+parted a b c d e = simp append_assoc
 
-pub body_parted : (r : Record) → packed_body r ≡ packed_text r.key ++ behind_key r
-body_parted r = parted (packed_text r.key) (packed_text r.tag) (packed_text r.value) (packed_keys r.writes)
+pub body_parted : (r : Record) (more : List ℕ) → packed_body r ++ more ≡ packed_text r.key ++ behind_key r more
+body_parted r more = parted (packed_text r.key) (packed_text r.tag) (packed_text r.value) (packed_keys r.writes) more
 
-module _ (r : Record) (store : IsStoreRecord r) where
-  pub first_text : (bytes : List ℕ) → bytes ≡ packed_body r → text_at bytes ≡ Some (r.key, behind_key r)
-  first_text bytes is = ap text_at (is ∙ body_parted r) ∙ text_again r.key (behind_key r)
+-- a body alone, with nothing behind it
+pub alone : (r : Record) (bytes : List ℕ) → bytes ≡ packed_body r → bytes ≡ packed_body r ++ []
+alone r bytes is = is ∙ sym (append-nil (packed_body r))
 
-  pub key_is : (bytes : List ℕ) → bytes ≡ packed_body r → key_at bytes ≡ Some (r.key, behind_key r)
-  key_is bytes is = ap key_at (is ∙ body_parted r) ∙ key_again r.key (behind_key r) store.key
+-- bytes of which the first ones are a body
+pub body_first : (r : Record) (bytes : List ℕ) (len : ℕ) → take len bytes ≡ packed_body r → bytes ≡ packed_body r ++ drop len bytes
+body_first r bytes len is = sym (take-append-drop len bytes) ∙ ap (λ front. front ++ drop len bytes) is
 
-  pub tag_is : tag_at (behind_key r) ≡ Some (r.tag, behind_tag r)
-  tag_is = tag_again r.tag (behind_tag r) store.tag
+module _ (r : Record) (more : List ℕ) (store : IsStoreRecord r) where
+  pub first_text : (bytes : List ℕ) → bytes ≡ packed_body r ++ more → text_at bytes ≡ Some (r.key, behind_key r more)
+  first_text bytes is = ap text_at (is ∙ body_parted r more) ∙ text_again r.key (behind_key r more)
 
-  pub value_is : value_at (behind_tag r) ≡ Some (r.value, behind_value r)
-  value_is = value_again r.value (behind_value r) store.value
+  pub key_is : (bytes : List ℕ) → bytes ≡ packed_body r ++ more → key_at bytes ≡ Some (r.key, behind_key r more)
+  key_is bytes is = ap key_at (is ∙ body_parted r more) ∙ key_again r.key (behind_key r more) store.key
 
-  pub writes_is : writes_at (behind_value r) ≡ Some (r.writes, [])
-  writes_is = ap writes_at (sym (append-nil (packed_keys r.writes))) ∙ writes_again r.writes [] store.writes store.keys
+  pub tag_is : tag_at (behind_key r more) ≡ Some (r.tag, behind_tag r more)
+  tag_is = tag_again r.tag (behind_tag r more) store.tag
 
-  body_again : (bytes : List ℕ) → bytes ≡ packed_body r → body_at r.stamp bytes ≡ Some (r, [])
+  pub value_is : value_at (behind_tag r more) ≡ Some (r.value, behind_value r more)
+  value_is = value_again r.value (behind_value r more) store.value
+
+  pub writes_is : writes_at (behind_value r more) ≡ Some (r.writes, more)
+  writes_is = writes_again r.writes more store.writes store.keys
+
+  body_again : (bytes : List ℕ) → bytes ≡ packed_body r ++ more → body_at r.stamp bytes ≡ Some (r, more)
   unfolding body_at
   body_again bytes is = rw (key_is bytes is, tag_is, value_is, writes_is, lt-ltb 0 r.stamp store.whole.written, member_to r.key r.writes store.whole.member) refl
 
 -- the record of a body is the one that it was packed of
 pub record_is : (stamp : ℕ) (bytes : List ℕ) (h : IsPackedBody stamp bytes) → record_in stamp bytes ≡ h.0
-record_is stamp bytes h = ap (λ s. record_in s bytes) (sym h.2) ∙ ap (record_or no_record) (body_again h.0 h.1 bytes h.3)
+record_is stamp bytes h = ap (λ s. record_in s bytes) (sym h.2) ∙ ap (record_or no_record) (body_again h.0 [] h.1 bytes (alone h.0 bytes h.3))
 
 -- ---- what is read without a check
 
@@ -87,30 +96,30 @@ pub pair_parts : {A B : Type 0} (a x : A) (b y : B) → found a b ≡ found x y 
 unfolding left_or right_or
 pair_parts a x b y e = (ap (left_or a) e, ap (right_or b) e)
 
-module _ (r : Record) (store : IsStoreRecord r) where
-  pub after_first : (bytes text rest : List ℕ) → bytes ≡ packed_body r → found text rest ≡ text_at bytes → rest ≡ behind_key r
-  after_first bytes text rest is read = (pair_parts text r.key rest (behind_key r) (read ∙ first_text r store bytes is)).1
+module _ (r : Record) (more : List ℕ) (store : IsStoreRecord r) where
+  pub after_first : (bytes text rest : List ℕ) → bytes ≡ packed_body r ++ more → found text rest ≡ text_at bytes → rest ≡ behind_key r more
+  after_first bytes text rest is read = (pair_parts text r.key rest (behind_key r more) (read ∙ first_text r more store bytes is)).1
 
-  pub after_key : (bytes key rest : List ℕ) → bytes ≡ packed_body r → found key rest ≡ key_at bytes → (key ≡ r.key) × (rest ≡ behind_key r)
-  after_key bytes key rest is read = pair_parts key r.key rest (behind_key r) (read ∙ key_is r store bytes is)
+  pub after_key : (bytes key rest : List ℕ) → bytes ≡ packed_body r ++ more → found key rest ≡ key_at bytes → (key ≡ r.key) × (rest ≡ behind_key r more)
+  after_key bytes key rest is read = pair_parts key r.key rest (behind_key r more) (read ∙ key_is r more store bytes is)
 
-  pub after_tag : (bytes tag rest : List ℕ) → bytes ≡ behind_key r → found tag rest ≡ tag_at bytes → (tag ≡ r.tag) × (rest ≡ behind_tag r)
-  after_tag bytes tag rest is read = pair_parts tag r.tag rest (behind_tag r) (read ∙ ap tag_at is ∙ tag_is r store)
+  pub after_tag : (bytes tag rest : List ℕ) → bytes ≡ behind_key r more → found tag rest ≡ tag_at bytes → (tag ≡ r.tag) × (rest ≡ behind_tag r more)
+  after_tag bytes tag rest is read = pair_parts tag r.tag rest (behind_tag r more) (read ∙ ap tag_at is ∙ tag_is r more store)
 
-  pub after_value : (bytes value rest : List ℕ) → bytes ≡ behind_tag r → found value rest ≡ value_at bytes → (value ≡ r.value) × (rest ≡ behind_value r)
-  after_value bytes value rest is read = pair_parts value r.value rest (behind_value r) (read ∙ ap value_at is ∙ value_is r store)
+  pub after_value : (bytes value rest : List ℕ) → bytes ≡ behind_tag r more → found value rest ≡ value_at bytes → (value ≡ r.value) × (rest ≡ behind_value r more)
+  after_value bytes value rest is read = pair_parts value r.value rest (behind_value r more) (read ∙ ap value_at is ∙ value_is r more store)
 
-  pub after_writes : (bytes : List ℕ) (writes : List (List ℕ)) (rest : List ℕ) → bytes ≡ behind_value r → found writes rest ≡ writes_at bytes → writes ≡ r.writes
-  after_writes bytes writes rest is read = (pair_parts writes r.writes rest [] (read ∙ ap writes_at is ∙ writes_is r store)).0
+  pub after_writes : (bytes : List ℕ) (writes : List (List ℕ)) (rest : List ℕ) → bytes ≡ behind_value r more → found writes rest ≡ writes_at bytes → writes ≡ r.writes
+  after_writes bytes writes rest is read = (pair_parts writes r.writes rest more (read ∙ ap writes_at is ∙ writes_is r more store)).0
 
-  pub tag_there : (bytes : List ℕ) → bytes ≡ behind_key r → IsSome (tag_at bytes)
-  tag_there bytes is = is_there (ap tag_at is ∙ tag_is r store)
+  pub tag_there : (bytes : List ℕ) → bytes ≡ behind_key r more → IsSome (tag_at bytes)
+  tag_there bytes is = is_there (ap tag_at is ∙ tag_is r more store)
 
-  pub value_there : (bytes : List ℕ) → bytes ≡ behind_tag r → IsSome (value_at bytes)
-  value_there bytes is = is_there (ap value_at is ∙ value_is r store)
+  pub value_there : (bytes : List ℕ) → bytes ≡ behind_tag r more → IsSome (value_at bytes)
+  value_there bytes is = is_there (ap value_at is ∙ value_is r more store)
 
-  pub writes_there : (bytes : List ℕ) → bytes ≡ behind_value r → IsSome (writes_at bytes)
-  writes_there bytes is = is_there (ap writes_at is ∙ writes_is r store)
+  pub writes_there : (bytes : List ℕ) → bytes ≡ behind_value r more → IsSome (writes_at bytes)
+  writes_there bytes is = is_there (ap writes_at is ∙ writes_is r more store)
 
 -- ---- the first bytes of a body
 
@@ -119,8 +128,9 @@ pub front_parts : (r : Record) (store : IsStoreRecord r) (front body : List ℕ)
     → (rest : List ℕ) × (front ≡ packed_text r.key ++ (packed_text r.tag ++ rest))
 front_parts r store front body is h =
     let both = packed_text r.key ++ packed_text r.tag in
-    let split : body ≡ both ++ behind_tag r = is ∙ body_parted r ∙ sym (append_assoc (packed_text r.key) (packed_text r.tag) (behind_tag r)) in
-    let total = ap length split ∙ length-append both (behind_tag r) in
+    let tail = behind_tag r [] in
+    let split : body ≡ both ++ tail = alone r body is ∙ body_parted r [] ∙ sym (append_assoc (packed_text r.key) (packed_text r.tag) tail) in
+    let total = ap length split ∙ length-append both tail in
     let size = length-append (packed_text r.key) (packed_text r.tag) in
     let key_long = store.key.at_most in
     let tag_long = store.tag.at_most in
@@ -128,8 +138,8 @@ front_parts r store front body is h =
     let within : length both ≤ length front = omega (arith, total, size, key_long, tag_long, long) in
     let more = length front - length both in
     let sum : length front ≡ length both + more = omega (arith, within) in (
-      take more (behind_tag r),
-      h.same ∙ ap (λ n. take n body) sum ∙ ap (take (length both + more)) split ∙ take-append-add both (behind_tag r) more ∙ append_assoc (packed_text r.key) (packed_text r.tag) (take more (behind_tag r)),
+      take more tail,
+      h.same ∙ ap (λ n. take n body) sum ∙ ap (take (length both + more)) split ∙ take-append-add both tail more ∙ append_assoc (packed_text r.key) (packed_text r.tag) (take more tail),
     )
 
 module _ (r : Record) (store : IsStoreRecord r) (front rest : List ℕ) (is : front ≡ packed_text r.key ++ (packed_text r.tag ++ rest)) where
@@ -153,6 +163,24 @@ stored_from allowed least most text rest there = go (text_from allowed least mos
     go : (o : Option (List ℕ)) → text_from allowed least most text ≡ o → IsSome (o >>= λ x. found x rest) → IsText allowed least most text × (found text rest ≡ (text_from allowed least most text >>= λ x. found x rest))
     go None is some = absurd (false≢true some)
     go (Some a) is some = let made = text_from-found allowed least most text a is in (subst (IsText allowed least most) (sym made.1) made.0, rw is (ap (λ x. found x rest) made.1))
+
+-- a text lies behind the byte with its length
+pub text_found : (bytes text rest : List ℕ) → found text rest ≡ text_at bytes → (0 < length bytes) × (take (length text) (drop 1 bytes) ≡ text)
+unfolding text_at
+text_found [] text rest is = absurd (false≢true (ap is_some (sym is)))
+text_found (len ∷ bytes) text rest is = go (ltb (length bytes) len) refl is
+  where
+    go : (b : Bool) → ltb (length bytes) len ≡ b → found text rest ≡ cond b None (found (take len bytes) (drop len bytes))
+        → (0 < length (len ∷ bytes)) × (take (length text) bytes ≡ text)
+    go true short read = absurd (false≢true (sym (ap is_some read)))
+    go false long read =
+        let same = (pair_parts text (take len bytes) rest (drop len bytes) read).0 in
+        (omega arith, ap (λ n. take n bytes) (ap length same ∙ length-take-le len bytes (ltb-false (length bytes) len long)) ∙ sym same)
+
+-- also in an array that begins there
+pub front_text : (bytes text rest front : List ℕ) (n : ℕ) → found text rest ≡ text_at bytes → front ≡ take n (drop 1 bytes) → length text ≤ n → take (length text) front ≡ text
+front_text bytes text rest front n is front_is fits =
+    ap (take (length text)) front_is ∙ take-take (length text) n (drop 1 bytes) fits ∙ (text_found bytes text rest is).1
 
 pub key_here : (bytes text rest : List ℕ) → found text rest ≡ text_at bytes → IsSome (key_at bytes) → IsKey text × (found text rest ≡ key_at bytes)
 unfolding key_at
@@ -257,3 +285,33 @@ still_first keys at key some is =
     let less : max_keys - at - 1 ≡ max_keys - (at + 1) = omega arith in
     drop-set-lt (at + 1) keys at key (omega arith) ∙ sym (drop-drop 1 at keys) ∙ ap (drop 1) is ∙ drop-replicate 1 (max_keys - at) (first_key keys)
     ∙ ap (λ n. replicate n (first_key keys)) less ∙ ap (replicate (max_keys - (at + 1))) (sym (first_set keys at key some))
+
+-- ---- keys that are put one behind the other
+
+-- the first ones of a set are one
+first_ones : (keys more : List (List ℕ)) → 0 < length keys → IsWriteSet (keys ++ more) → IsWriteSet keys
+first_ones keys more some h =
+    let long = length-append keys more in
+    let most = h.at_most in
+    record {
+      not_empty = some;
+      at_most = omega (arith, long, most);
+      ascending =
+          λ i j d before within.
+          let before_too : i < length keys = omega (arith, before, within) in
+          rw (← get_or_append_left keys more d i before_too, ← get_or_append_left keys more d j within) (h.ascending i j d before (omega (arith, long, within)));
+    }
+
+-- keys that were read of a set are one, whatever is still to be read
+pub so_far_set : (count : ℕ) (bytes : List ℕ) (keys : List (List ℕ)) (at : ℕ) (rest : List ℕ) → length keys ≡ at → 0 < at → SoFar count bytes keys at rest
+    → IsSome (writes_of count bytes) → IsWriteSet keys
+unfolding writes_of
+so_far_set count bytes keys at rest full some so_far there =
+    let whole = take_all at keys (omega (arith, full)) in
+    go (keys_at (count - at) rest) (ap (λ (ks : List (List ℕ)). with_front ks (keys_at (count - at) rest)) (sym whole) ∙ so_far)
+  where
+    go : (left : Option (List (List ℕ) × List ℕ)) → with_front keys left ≡ keys_at count bytes → IsWriteSet keys
+    go None is = absurd (false≢true (rw (← is) at there))
+    go (Some more) is =
+        let long = length-append keys more.0 in
+        first_ones keys more.0 (omega (arith, full, some)) (set_here count bytes (keys ++ more.0) more.1 (omega (arith, long, full, some)) (sym is) there).0

@@ -1,6 +1,8 @@
 //! Records without their stamps, as the bytes in which they are kept. What was packed here is read again without a check of any byte.
-ghost use Rattle.std.specs.Prelude.{◌≡◌, ℕ, ◌<◌, ◌≤◌, List, length, take, Some, IsSome};
+ghost use Rattle.std.specs.Prelude.{◌≡◌, ℕ, ◌<◌, ◌≤◌, List, length, take, drop, Some, IsSome, IfSome};
+ghost use Rattle.stamps.specs.Key.{IsKey};
 ghost use Rattle.stamps.specs.Limits.{max_keys};
+ghost use Rattle.stamps.specs.Tag.{IsTag};
 ghost use Rattle.packed.specs.Bodies.{packed_body, record_in, IsPackedBody, IsFront};
 ghost use Rattle.packed.specs.Packing.{IsStoreRecord};
 ghost use Rattle.packed.specs.Reading.{text_at, key_at, tag_at, value_at, writes_of, writes_at};
@@ -23,11 +25,13 @@ pub fn pack_body(bytes: &mut [u8], version: &Record) -> usize
     lay_body(bytes, version)
 }
 
-/// The record of a body, of which the stamp is known. It checks no byte.
+/// The record of a body, of which the stamp is known. It checks no byte. Other bytes may stand behind the body. Where they are as many as a
+/// key has at most, each key and tag is copied at its full width.
 #[inline(always)]
 pub fn body_record(bytes: &[u8], stamp: Stamp) -> Record
-    requires { IsPackedBody stamp bytes.now }
-    ensures { result ≡ record_in stamp bytes.now }
+    requires { (len : ℕ) × IsPackedBody stamp (take len bytes.now) }
+    ensures { (len : ℕ) → IsPackedBody stamp (take len bytes.now)
+        → result ≡ record_in stamp (take len bytes.now) }
 {
     let (key, rest) = stored_key(bytes);
     let (tag, rest) = stored_tag(rest);
@@ -36,16 +40,18 @@ pub fn body_record(bytes: &[u8], stamp: Stamp) -> Record
     Record::of_stored(key, tag, value, stamp, writes)
 }
 
-/// Writes the record of a body, of which the stamp is known, over another record, part by part. It checks no byte.
+/// Writes the record of a body, of which the stamp is known, over another record, part by part. It checks no byte. Other bytes may stand
+/// behind the body. Where they are as many as a key has at most, each key and tag is copied at its full width.
 pub fn unpack_body(bytes: &[u8], stamp: Stamp, place: &mut Record)
-    requires { IsPackedBody stamp bytes.now }
-    ensures { place.new ≡ record_in stamp bytes.now }
+    requires { (len : ℕ) × IsPackedBody stamp (take len bytes.now) }
+    ensures { (len : ℕ) → IsPackedBody stamp (take len bytes.now)
+        → place.new ≡ record_in stamp (take len bytes.now) }
 {
     let (key, rest) = stored_key(bytes);
-    let (tag, rest) = stored_tag(rest);
-    let (value, rest) = stored_value(rest);
     place.key = key;
+    let (tag, rest) = stored_tag(rest);
     place.tag = tag;
+    let (value, rest) = stored_value(rest);
     place.value = value;
     place.stamp = stamp;
     unpack_writes(rest, &mut place.writes);
@@ -102,6 +108,15 @@ fn stored_text(bytes: &[u8]) -> (&[u8], &[u8])
     text_at(bytes).unwrap()
 }
 
+// So many bytes from the first of the text at the front on, whatever they are. `None` where there are fewer.
+#[inline(always)]
+fn wide_text<const N: usize>(bytes: &[u8]) -> Option<&[u8; N]>
+    requires { 0 < length bytes.now }
+    ensures { IfSome result (λ front. front.now ≡ take N (drop 1 bytes.now)) }
+{
+    bytes[1..].first_chunk()
+}
+
 // The key at the front, and the bytes behind it.
 #[inline(always)]
 fn stored_key(bytes: &[u8]) -> (Key, &[u8])
@@ -109,7 +124,10 @@ fn stored_key(bytes: &[u8]) -> (Key, &[u8])
     ensures { Some (result.0, result.1.now) ≡ key_at bytes.now }
 {
     let (text, rest) = stored_text(bytes);
-    (Key::of_stored(text), rest)
+    match wide_text(bytes) {
+        Some(front) => (Key::of_front(front, text.len()), rest),
+        None => (short_key(text), rest),
+    }
 }
 
 // The tag at the front, and the bytes behind it.
@@ -119,7 +137,30 @@ fn stored_tag(bytes: &[u8]) -> (Tag, &[u8])
     ensures { Some (result.0, result.1.now) ≡ tag_at bytes.now }
 {
     let (text, rest) = stored_text(bytes);
-    (Tag::of_stored(text), rest)
+    match wide_text(bytes) {
+        Some(front) => (Tag::of_front(front, text.len()), rest),
+        None => (short_tag(text), rest),
+    }
+}
+
+// A key that stands near the end of the bytes.
+#[cold]
+#[inline(never)]
+fn short_key(text: &[u8]) -> Key
+    requires { IsKey text.now }
+    ensures { result ≡ text.now }
+{
+    Key::of_stored(text)
+}
+
+// A tag that stands near the end of the bytes.
+#[cold]
+#[inline(never)]
+fn short_tag(text: &[u8]) -> Tag
+    requires { IsTag text.now }
+    ensures { result ≡ text.now }
+{
+    Tag::of_stored(text)
 }
 
 // The value at the front, and the bytes behind it.
@@ -171,7 +212,7 @@ fn unpack_writes(bytes: &[u8], place: &mut WriteSet)
     unpack_keys(usize::from(count), rest, place);
 }
 
-// Writes a write set of so many keys over another one.
+// Writes a write set of so many keys over another one, key by key.
 #[inline(always)]
 fn unpack_keys(count: usize, bytes: &[u8], place: &mut WriteSet)
     requires some { 0 < count }
@@ -180,12 +221,11 @@ fn unpack_keys(count: usize, bytes: &[u8], place: &mut WriteSet)
     ensures { (rest : List ℕ) × (Some (place.new, rest) ≡ writes_of count bytes.now) }
 {
     let (first, after_first) = stored_key(bytes);
-    let mut keys = [first; WriteSet::MAX_LEN];
+    place.set_only(first);
     let mut rest = after_first;
     for at in 1..count {
         let (key, after) = stored_key(rest);
-        keys[at] = key;
+        place.push_stored(key);
         rest = after;
     }
-    *place = WriteSet::of_stored(keys, count);
 }

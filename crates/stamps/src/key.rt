@@ -8,6 +8,7 @@ use crate::limits;
 use crate::text::{self, Text};
 use std::fmt;
 use std::marker::Model;
+use std::simd::u8x32;
 
 /// The name of an item: 1 to `MAX_KEY_LEN` bytes of `a-z 0-9 _ . / -`. Keys compare by byte order. A contract sees a key as its
 /// bytes.
@@ -55,6 +56,21 @@ impl Key {
     {
         Key {
             text: Text::new(bytes),
+        }
+    }
+
+    /// The key of the first `len` bytes of an array, which are known to be one's. It checks none of them. Other bytes may stand behind
+    /// them.
+    #[inline(always)]
+    pub fn of_front(front: &[u8; Key::MAX_LEN], len: usize) -> Key
+        requires valid { IsKey (take len front.now) }
+        requires fits { len ≤ max_key_len }
+        ensures { result ≡ take len front.now }
+    {
+        // Whole vectors are copied, and the bytes behind the key made zeros.
+        let kept = u8x32::from_array(*front) & u8x32::from_array(*text::front_mask(len));
+        Key {
+            text: Text::of_padded(kept.to_array(), len),
         }
     }
 

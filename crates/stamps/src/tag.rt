@@ -7,6 +7,7 @@ use crate::limits;
 use crate::text::{self, Text};
 use std::fmt;
 use std::marker::Model;
+use std::simd::u8x16;
 
 /// A mark by which items are found: 0 to `MAX_TAG_LEN` bytes of `a-z 0-9 _ . / -`. The empty tag marks nothing. A contract sees a
 /// tag as its bytes.
@@ -54,6 +55,21 @@ impl Tag {
     {
         Tag {
             text: Text::new(bytes),
+        }
+    }
+
+    /// The tag of the first `len` bytes of an array, which are known to be one's. It checks none of them. Other bytes may stand behind
+    /// them.
+    #[inline(always)]
+    pub fn of_front(front: &[u8; Tag::MAX_LEN], len: usize) -> Tag
+        requires valid { IsTag (take len front.now) }
+        requires fits { len ≤ max_tag_len }
+        ensures { result ≡ take len front.now }
+    {
+        // Whole vectors are copied, and the bytes behind the tag made zeros.
+        let kept = u8x16::from_array(*front) & u8x16::from_array(*text::front_mask(len));
+        Tag {
+            text: Text::of_padded(kept.to_array(), len),
         }
     }
 

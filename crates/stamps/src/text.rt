@@ -1,15 +1,23 @@
 //! A short byte string that lies in the value itself.
-ghost use Rattle.std.specs.Prelude.{◌≡◌, ◌-◌, ◌<◌, ◌≤◌, length, take, drop, replicate, nat_eq, refl, Some};
+ghost use Rattle.std.specs.Prelude.{◌≡◌, ℕ, ◌-◌, ◌<◌, ◌≤◌, ◌++◌, length, take, drop, replicate, nat_eq, refl, Some};
 ghost use Rattle.std.specs.List.{list_all};
 ghost use Rattle.std.specs.Ordering.{nat_cmp};
 ghost use Rattle.std.specs.Cmp.{partial_equiv_from_equiv};
 ghost use Rattle.std.specs.Str.{IsUtf8};
 ghost use Rattle.std.specs.Cmp.Lexicographic.{pointwise, slice_cmp, nat_list_eq_equiv, nat_list_cmp_total, texts_po, texts_ties};
+ghost use Rattle.stamps.specs.Limits.{max_key_len};
 ghost use Rattle.stamps.specs.Text.{is_name_byte, is_visible_byte};
 
+use crate::limits;
 use std::cmp::Ordering;
 use std::marker::Model;
 use std::{fmt, str};
+
+/// How many bytes a mask has at most.
+const MASK_LEN: usize = limits::MAX_KEY_LEN;
+
+/// As many bytes of 255 as a mask has at most, and as many zeros.
+static ONES_AND_ZEROS: [[u8; MASK_LEN]; 2] = [[255; MASK_LEN], [0; MASK_LEN]];
 
 /// Up to `N` bytes. The unused rest of the array is zero. A contract sees a text as its bytes.
 #[derive(Clone, Copy)]
@@ -48,6 +56,20 @@ impl<const N: usize> Text<N> {
         Text {
             bytes,
             len: source.len() as u8,
+        }
+    }
+
+    /// The first `len` bytes of an array, behind which it has zeros.
+    #[inline(always)]
+    pub(crate) fn of_padded(bytes: [u8; N], len: usize) -> Self
+        requires fits { len ≤ N }
+        requires small { N < 256 }
+        requires zeros { drop len bytes ≡ replicate (N - len) 0 }
+        ensures { result ≡ take len bytes.entry }
+    {
+        Text {
+            bytes,
+            len: len as u8,
         }
     }
 
@@ -129,6 +151,18 @@ impl<const N: usize> fmt::Debug for Text<N> {
             Err(_) => fmt::Debug::fmt(self.as_bytes(), f),
         }
     }
+}
+
+/// The mask of the first `len` bytes: these are 255, and the others 0.
+#[inline(always)]
+pub(crate) fn front_mask<const N: usize>(len: usize) -> &'static [u8; N]
+    requires fits { len ≤ N }
+    requires small { N ≤ max_key_len }
+    ensures { result.now ≡ replicate len 255 ++ replicate (N - len) 0 }
+{
+    ONES_AND_ZEROS.as_flattened()[MASK_LEN - len..]
+        .first_chunk()
+        .unwrap()
 }
 
 // Byte order, eight bytes at a time. The arrays' length is known where this is compiled, so that the words are compared one after

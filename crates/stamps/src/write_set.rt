@@ -1,5 +1,5 @@
 //! Write sets.
-ghost use Rattle.std.specs.Prelude.{◌≡◌, ◌≢◌, ◌<◌, ◌≤◌, ◌-◌, ◌↔◌, AllPairs, IsSome, IfSome, IsTrue, Contains, length, take, drop, replicate};
+ghost use Rattle.std.specs.Prelude.{◌≡◌, ◌≢◌, ◌<◌, ◌≤◌, ◌-◌, ◌↔◌, ◌++◌, ◌∷◌, [], AllPairs, IsSome, IfSome, IsTrue, Contains, length, take, drop, replicate};
 ghost use Rattle.stamps.specs.Key.{IsAscending, IsTransactionKeys, sorted_keys};
 ghost use Rattle.stamps.specs.Limits.{max_keys};
 ghost use Rattle.stamps.specs.WriteSet.{IsWriteSet, contains_key, first_key};
@@ -108,6 +108,27 @@ impl WriteSet {
             keys,
             len: len as u8,
         }
+    }
+
+    /// Makes of it the write set of one key, in place.
+    #[inline(always)]
+    pub fn set_only(&mut self, key: Key)
+        ensures { self.new ≡ key ∷ [] }
+    {
+        *self = WriteSet {
+            keys: [key; WriteSet::MAX_LEN],
+            len: 1,
+        };
+    }
+
+    /// Adds a key behind the others, with which they are known to be a write set. It checks nothing.
+    #[inline(always)]
+    pub fn push_stored(&mut self, key: Key)
+        requires { IsWriteSet (self.old ++ key ∷ []) }
+        ensures { self.new ≡ self.old ++ key ∷ [] }
+    {
+        self.keys[usize::from(self.len)] = key;
+        self.len += 1;
     }
 
     /// Whether there is a write set of these keys, in any order: they are 1 to `MAX_KEYS`, and none stands twice.

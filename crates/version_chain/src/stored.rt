@@ -199,8 +199,8 @@ impl<'b> StoredNode<'b> {
         ensures { place.new ≡ self.now.version.prepared }
     {
         let stamp = self.stamp();
-        let len = self.read(body);
-        unpack_body(&body[..len], stamp, place);
+        self.read(body);
+        unpack_body(body, stamp, place);
     }
 
     /// A copy of the version's record.
@@ -210,8 +210,8 @@ impl<'b> StoredNode<'b> {
         let _short = self.len();
         let stamp = self.stamp();
         let mut body = [0; BODY_ROOM];
-        let len = self.read(&mut body);
-        body_record(&body[..len], stamp)
+        self.read(&mut body);
+        body_record(&body, stamp)
     }
 
     /// A copy of the version.

@@ -1,55 +1,70 @@
-use Rattle.std.proofs.Common.{◌≡◌, sym, subst, ◌∙◌}
+use Rattle.std.proofs.Common.{◌≡◌, ℕ, drop, take, sym, subst, ◌∙◌}
 use Rattle.stamps.specs.Record.{Record, IsRecord}
-use Rattle.packed.proofs.BodyParts.{is_there, key_is, after_key, after_tag, after_value, after_writes, tag_there, value_there, writes_there, record_is}
+use Rattle.packed.specs.Bodies.{IsPackedBody}
+use Rattle.packed.proofs.BodyParts.{is_there, body_first, key_is, after_key, after_tag, after_value, after_writes, tag_there, value_there, writes_there, record_is}
 use Rattle.packed.proofs.bodies.body_record.Goals as goal
 use Rattle.packed.proofs.bodies.body_record.Goals.{After-stored_writes-writes}
 
 pub stored_key-key-requires : goal.stored_key-key-requires
-stored_key-key-requires c = is_there (key_is c.requires.0 c.requires.1 c.args.bytes.now c.requires.3)
+stored_key-key-requires c =
+    let len = c.requires.0 in
+    let body = c.requires.1 in
+    let more = drop len c.args.bytes.now in
+    is_there (key_is body.0 more body.1 c.args.bytes.now (body_first body.0 c.args.bytes.now len body.3))
 
 pub stored_tag-tag-requires : goal.stored_tag-tag-requires
 stored_tag-tag-requires c =
-    let key = after_key c.requires.0 c.requires.1 c.args.bytes.now c.stored_key-key.result.0 c.stored_key-key.result.1.now c.requires.3 c.stored_key-key.ensures in
-    tag_there c.requires.0 c.requires.1 c.stored_key-key.result.1.now key.1
+    let len = c.requires.0 in
+    let body = c.requires.1 in
+    let more = drop len c.args.bytes.now in
+    let key = after_key body.0 more body.1 c.args.bytes.now c.stored_key-key.result.0 c.stored_key-key.result.1.now (body_first body.0 c.args.bytes.now len body.3) c.stored_key-key.ensures in
+    tag_there body.0 more body.1 c.stored_key-key.result.1.now key.1
 
 pub stored_value-value-requires : goal.stored_value-value-requires
 stored_value-value-requires c =
-    let key = after_key c.requires.0 c.requires.1 c.args.bytes.now c.stored_key-key.result.0 c.stored_key-key.result.1.now c.requires.3 c.stored_key-key.ensures in
-    let tag = after_tag c.requires.0 c.requires.1 c.stored_key-key.result.1.now c.stored_tag-tag.result.0 c.stored_tag-tag.result.1.now key.1 c.stored_tag-tag.ensures in
-    value_there c.requires.0 c.requires.1 c.stored_tag-tag.result.1.now tag.1
+    let len = c.requires.0 in
+    let body = c.requires.1 in
+    let more = drop len c.args.bytes.now in
+    let key = after_key body.0 more body.1 c.args.bytes.now c.stored_key-key.result.0 c.stored_key-key.result.1.now (body_first body.0 c.args.bytes.now len body.3) c.stored_key-key.ensures in
+    let tag = after_tag body.0 more body.1 c.stored_key-key.result.1.now c.stored_tag-tag.result.0 c.stored_tag-tag.result.1.now key.1 c.stored_tag-tag.ensures in
+    value_there body.0 more body.1 c.stored_tag-tag.result.1.now tag.1
 
 pub stored_writes-writes-requires : goal.stored_writes-writes-requires
 stored_writes-writes-requires c =
-    let key = after_key c.requires.0 c.requires.1 c.args.bytes.now c.stored_key-key.result.0 c.stored_key-key.result.1.now c.requires.3 c.stored_key-key.ensures in
-    let tag = after_tag c.requires.0 c.requires.1 c.stored_key-key.result.1.now c.stored_tag-tag.result.0 c.stored_tag-tag.result.1.now key.1 c.stored_tag-tag.ensures in
-    let value = after_value c.requires.0 c.requires.1 c.stored_tag-tag.result.1.now c.stored_value-value.result.0 c.stored_value-value.result.1.now tag.1 c.stored_value-value.ensures in
-    writes_there c.requires.0 c.requires.1 c.stored_value-value.result.1.now value.1
+    let len = c.requires.0 in
+    let body = c.requires.1 in
+    let more = drop len c.args.bytes.now in
+    let key = after_key body.0 more body.1 c.args.bytes.now c.stored_key-key.result.0 c.stored_key-key.result.1.now (body_first body.0 c.args.bytes.now len body.3) c.stored_key-key.ensures in
+    let tag = after_tag body.0 more body.1 c.stored_key-key.result.1.now c.stored_tag-tag.result.0 c.stored_tag-tag.result.1.now key.1 c.stored_tag-tag.ensures in
+    let value = after_value body.0 more body.1 c.stored_tag-tag.result.1.now c.stored_value-value.result.0 c.stored_value-value.result.1.now tag.1 c.stored_value-value.ensures in
+    writes_there body.0 more body.1 c.stored_value-value.result.1.now value.1
 
 -- the parts that were read are those of the record
-parts : (c : After-stored_writes-writes) → ◌≡◌ {A = Record} (record {
+parts : (c : After-stored_writes-writes) (len : ℕ) (body : IsPackedBody c.args.stamp (take len c.args.bytes.now)) → ◌≡◌ {A = Record} (record {
   key = c.stored_key-key.result.0;
   tag = c.stored_tag-tag.result.0;
   value = c.stored_value-value.result.0;
   stamp = c.args.stamp;
   writes = c.stored_writes-writes.result;
-}) c.requires.0
-parts c =
-    let key = after_key c.requires.0 c.requires.1 c.args.bytes.now c.stored_key-key.result.0 c.stored_key-key.result.1.now c.requires.3 c.stored_key-key.ensures in
-    let tag = after_tag c.requires.0 c.requires.1 c.stored_key-key.result.1.now c.stored_tag-tag.result.0 c.stored_tag-tag.result.1.now key.1 c.stored_tag-tag.ensures in
-    let value = after_value c.requires.0 c.requires.1 c.stored_tag-tag.result.1.now c.stored_value-value.result.0 c.stored_value-value.result.1.now tag.1 c.stored_value-value.ensures in
-    let writes = after_writes c.requires.0 c.requires.1 c.stored_value-value.result.1.now c.stored_writes-writes.result c.stored_writes-writes.ensures.0 value.1 c.stored_writes-writes.ensures.1 in
+}) body.0
+parts c len body =
+    let more = drop len c.args.bytes.now in
+    let key = after_key body.0 more body.1 c.args.bytes.now c.stored_key-key.result.0 c.stored_key-key.result.1.now (body_first body.0 c.args.bytes.now len body.3) c.stored_key-key.ensures in
+    let tag = after_tag body.0 more body.1 c.stored_key-key.result.1.now c.stored_tag-tag.result.0 c.stored_tag-tag.result.1.now key.1 c.stored_tag-tag.ensures in
+    let value = after_value body.0 more body.1 c.stored_tag-tag.result.1.now c.stored_value-value.result.0 c.stored_value-value.result.1.now tag.1 c.stored_value-value.ensures in
+    let writes = after_writes body.0 more body.1 c.stored_value-value.result.1.now c.stored_writes-writes.result c.stored_writes-writes.ensures.0 value.1 c.stored_writes-writes.ensures.1 in
     λ i. record {
       key = key.0 i;
       tag = tag.0 i;
       value = value.0 i;
-      stamp = sym c.requires.2 i;
+      stamp = sym body.2 i;
       writes = writes i;
     }
 
 pub of_stored-requires : goal.of_stored-requires
-of_stored-requires c = subst IsRecord (sym (parts c)) c.requires.1.whole
+of_stored-requires c = subst IsRecord (sym (parts c c.requires.0 c.requires.1)) c.requires.1.1.whole
 
 pub returns : goal.returns
-returns c =
+returns c = λ len body.
     let at = (goal.at.returns c).After-stored_writes-writes in
-    c.of_stored.ensures ∙ parts at ∙ sym (record_is c.args.stamp c.args.bytes.now c.requires)
+    c.of_stored.ensures ∙ parts at len body ∙ sym (record_is c.args.stamp (take len c.args.bytes.now) body)

@@ -1,6 +1,17 @@
-use Rattle.std.proofs.Common.{sym, ◌∙◌}
+use Rattle.std.proofs.Common.{take, sym, ◌∙◌}
+use Rattle.packed.specs.Bodies.{IsPackedBody}
 use Rattle.packed.proofs.BodyParts.{record_is}
 use Rattle.version_chain.proofs.stored.StoredNode.copy_by.Goals as goal
+use Rattle.version_chain.proofs.stored.StoredNode.copy_by.Goals.{After-read}
+
+-- the bytes that were read are a body
+abbrev read : (c : After-read) → IsPackedBody c.stamp-stamp.result (take c.read.result c.read.new.body)
+read c = (c.args.self.now.version.prepared, c.read.ensures.stored, sym c.stamp-stamp.ensures.value, c.read.ensures.packed)
+
+pub unpack_body-requires : goal.unpack_body-requires
+unpack_body-requires c = let at = (goal.at.unpack_body-requires c).After-read in (c.read.result, read at)
 
 pub returns : goal.returns
-returns c = c.unpack_body.ensures ∙ record_is _ _ (c.args.self.now.version.prepared, c.read-len.ensures.stored, sym c.stamp-stamp.ensures.value, c.read-len.ensures.packed)
+returns c =
+    let at = (goal.at.returns c).After-read in
+    c.unpack_body.ensures c.read.result (read at) ∙ record_is _ _ (read at)
