@@ -115,10 +115,8 @@ impl WriteSet {
     pub fn set_only(&mut self, key: Key)
         ensures { self.new ≡ key ∷ [] }
     {
-        *self = WriteSet {
-            keys: [key; WriteSet::MAX_LEN],
-            len: 1,
-        };
+        self.keys.fill(key);
+        self.len = 1;
     }
 
     /// Adds a key behind the others, with which they are known to be a write set. It checks nothing.
