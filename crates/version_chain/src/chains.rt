@@ -124,20 +124,39 @@ impl Chains {
         requires { HasChain block.now self.now chain }
         ensures { IsPlace block.now self.now chain (least_of bound.now) result.0 result.1 }
     {
+        let mut last = None;
+        let mut here = self.heads[chain as usize];
+        for _step in 0..FEW {
+            let Some(slot) = here else {
+                return (last, here);
+            };
+            if block.get(slot).is_below(bound) {
+                return (last, here);
+            }
+            last = here;
+            here = block.next(slot);
+        }
+        self.seek_far(block, chain, bound)
+    }
+
+    // Does what `seek_within` does, where the first few versions of the chain are within the bound.
+    #[cold]
+    #[inline(never)]
+    fn seek_far(&self, block: &Block, chain: u32, bound: &Bound) -> (Option<Slot>, Option<Slot>)
+        requires { HasChain block.now self.now chain }
+        ensures { IsPlace block.now self.now chain (least_of bound.now) result.0 result.1 }
+    {
         let near = self.near(block, chain, bound);
         self.seek_from(block, chain, bound, near)
     }
 
     // A slot of a chain that is within a bound, and not far from the last such one; `None` stands for the head of the chain.
-    // Behind the first few versions it looks alternately at one of the chain, from the head down, and at one of the list, from
-    // the bound up. The first of the listed ones that stands in the chain is the last within the bound.
+    // It looks alternately at one of the chain, from the head down, and at one of the list, from the bound up. The first of
+    // the listed ones that stands in the chain is the last within the bound.
     fn near(&self, block: &Block, chain: u32, bound: &Bound) -> Option<Slot>
         requires { HasChain block.now self.now chain }
         ensures { IsNear block.now self.now chain (least_of bound.now) result }
     {
-        if !self.is_far(block, chain, bound) {
-            return None;
-        }
         let mut here = self.heads[chain as usize];
         let mut listed = self.kept.upward(bound);
         for _step in 0..self.used {
@@ -156,23 +175,6 @@ impl Chains {
             here = block.next(slot);
         }
         None
-    }
-
-    // Whether the first few versions of a chain are all within a bound.
-    fn is_far(&self, block: &Block, chain: u32, bound: &Bound) -> bool
-        requires { HasChain block.now self.now chain }
-    {
-        let mut here = self.heads[chain as usize];
-        for _step in 0..FEW {
-            let Some(slot) = here else {
-                return false;
-            };
-            if block.get(slot).is_below(bound) {
-                return false;
-            }
-            here = block.next(slot);
-        }
-        true
     }
 
     // Whether the cell of a slot holds a version of this chain that is within a bound.
@@ -361,8 +363,8 @@ impl Chains {
         slot
     }
 
-    /// Where the versions of a stamp begin and end in the list of the kept ones, in which they stand side by side. It finds
-    /// them by a binary search.
+    /// Where the versions of a stamp begin and end in the list of the kept ones, in which they stand side by side. It looks
+    /// at the last few of the list, and finds others by a binary search.
     pub fn places_at(&self, stamp: Stamp) -> (usize, usize)
         ensures { IsRunOf stamp self.now.kept result.0 result.1 }
     {
