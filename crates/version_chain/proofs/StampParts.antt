@@ -2,7 +2,7 @@
 use Rattle.std.proofs.Common.{◌≡◌, ℕ, zero, suc, ◌+◌, ◌-◌, ◌≤◌, ◌==◌, nat_le, nat_lt, Bool, true, false, List, [], ◌∷◌, filter, not, take, drop, length, inl, inr, refl, ap, sym, ◌∙◌, eqb-true, true≢false, arith}
 use Rattle.std.specs.Prelude.{◌≢◌, ◌<◌, slice_range, slice_index_or, insert}
 use Rattle.std.specs.List.{AllWithin}
-use Rattle.std.proofs.lemmas.Bool.{cases_lt, ltb-true, ltb-false, leb-true, leb-false, le-leb, lt-leb, eq-eqb, ne_eqb}
+use Rattle.std.proofs.lemmas.Bool.{cases_lt, ltb-true, ltb-false, leb-true, leb-false, le-leb, le-ltb, lt-leb, lt-ltb, eq-eqb, ne_eqb}
 use Rattle.std.proofs.lemmas.List.Sorted.{IsNonDecreasingBy-insert}
 use Rattle.version_chain.specs.declared.stamp_list.Kept.{Kept}
 use Rattle.version_chain.specs.Listing.{Ascends, EndsAtMost, EndsBelow}
@@ -77,6 +77,24 @@ module _ (kept : List Kept) (stamp : ℕ) where
   all_at_most ascends last = (
     λ k d from to. le-leb _ _ (let highest = ascends k (length kept - 1) d (omega arith) (omega arith) in let least = last (omega arith) d in omega arith),
     λ k d from to. absurd (omega arith),
+  )
+
+  -- from this place on, none is below the stamp
+  abbrev pub NoneFrom : ℕ → Type 0
+  NoneFrom first = (k : ℕ) (d : Kept) → first ≤ k → k < length kept → stamp ≤ (slice_index_or kept k d).stamp
+
+  -- nor from the place before, where the version there is not
+  pub one_lower : (first : ℕ) → 0 < first → ((d : Kept) → stamp ≤ (slice_index_or kept (first - 1) d).stamp) → NoneFrom first → NoneFrom (first - 1)
+  one_lower first some at from k d low high = elim (cases_lt k first) [
+    | inl before ↦ (let here : k ≡ first - 1 = omega arith in rw here (at d))
+    | inr after ↦ from k d after high
+  ]
+
+  -- they begin here where the version before is below the stamp, or there is none
+  pub begins_here : (first : ℕ) → Ascends kept → first ≤ length kept → NoneFrom first → (0 < first → (d : Kept) → (slice_index_or kept (first - 1) d).stamp < stamp) → EndsBelow kept stamp first
+  begins_here first ascends within from below = (
+    λ k d low high. lt-ltb _ _ (let highest = ascends k (first - 1) d (omega arith) (omega arith) in let less = below (omega arith) d in omega arith),
+    λ k d low high. le-ltb _ _ (from k d low high),
   )
 
   -- from the first on, each of these versions is of the stamp

@@ -12,6 +12,9 @@ use std::alloc::{AllocError, Global};
 use std::marker::Model;
 use version_arena::Slot;
 
+// So many versions at the end of a list are looked at before it is searched.
+const FEW: u32 = 8;
+
 /// A kept version: its stamp, and the slot of its cell.
 #[derive(Clone, Copy)]
 pub struct Kept {
@@ -118,7 +121,8 @@ impl StampList {
         other.kept.clear();
     }
 
-    /// Where the versions of a stamp begin and end. A binary search finds the first, and each is visited.
+    /// Where the versions of a stamp begin and end. It looks for the first among the last few of the list, and then by a
+    /// binary search, and visits each.
     pub(crate) fn places(&self, stamp: Stamp) -> (usize, usize)
         ensures ordered { result.0 ≤ result.1 }
         ensures within { result.1 ≤ length self.now.kept }
@@ -126,7 +130,7 @@ impl StampList {
         ensures together { slice_range self.now.kept result.0 result.1
             ≡ filter (λ k. k.stamp == stamp) self.now.kept }
     {
-        let first = self.kept.partition_point(|kept| kept.stamp < stamp);
+        let first = place_from(&self.kept, stamp);
         (first, end_of_run(&self.kept, first, stamp))
     }
 
@@ -216,6 +220,36 @@ fn place_above(list: &[Kept], stamp: Stamp) -> usize
         return list.partition_point(|kept| kept.stamp <= stamp);
     }
     list.len()
+}
+
+// Behind the versions of lower stamps, where those of this stamp begin. It looks at the last few versions before it searches.
+fn place_from(list: &[Kept], stamp: Stamp) -> usize
+    requires { Ascends list.now }
+    ensures within { result ≤ length list.now }
+    ensures place { EndsBelow list.now stamp result }
+{
+    let mut first = list.len();
+    for _step in 0..FEW {
+        if !ends_from(list, first, stamp) {
+            return first;
+        }
+        first -= 1;
+    }
+    list.partition_point(|kept| kept.stamp < stamp)
+}
+
+// Whether there is a last one of so many versions at the front of a list, and its stamp is not below this one.
+fn ends_from(list: &[Kept], left: usize, stamp: Stamp) -> bool
+    requires { left ≤ length list.now }
+    ensures from { IsTrue result
+        → (0 < left) × ((d : Kept) → stamp ≤ (slice_index_or list.now (left - 1) d).stamp) }
+    ensures below { result ≡ false → 0 < left → (d : Kept)
+        → (slice_index_or list.now (left - 1) d).stamp < stamp }
+{
+    if left == 0 {
+        return false;
+    }
+    stamp <= list[left - 1].stamp
 }
 
 // Where the versions of a stamp end, of which this is the place of the first. It visits each of them.
