@@ -21,9 +21,13 @@ use version_arena::{Arena, Slot, SlotBytes};
 pub struct Block {
     pub(crate) heads: Arena<Head>,
     pub(crate) bodies: SlotBytes,
+    // Here a record is packed, before its bytes go to its slot.
+    body: [u8; BODY_ROOM],
 }
 
 impl Model for Block {
+    ghost use Rattle.std.specs.Prelude.{◌≡◌, ◌+◌, length};
+    ghost use Rattle.packed.specs.Sizes.{max_body_bytes};
     ghost use Rattle.version_chain.specs.Chain.{Cells};
     ghost use Rattle.version_chain.specs.Stored.{stored_cells, AreStored};
 
@@ -31,7 +35,7 @@ impl Model for Block {
 
     ghost view = { λ b. stored_cells b.heads b.bodies };
 
-    ghost invariant = { λ b. AreStored b.heads b.bodies };
+    ghost invariant = { λ b. AreStored b.heads b.bodies × (length b.body ≡ max_body_bytes + 63) };
 }
 
 impl Block {
@@ -47,6 +51,7 @@ impl Block {
         Ok(Block {
             heads: Arena::with_cells(alloc, cells)?,
             bodies: SlotBytes::with_slots(alloc, cells)?,
+            body: [0; BODY_ROOM],
         })
     }
 
@@ -73,8 +78,7 @@ impl Block {
             let node : Node = record { version = version; tenant = tenant; chain = chain } in
             self.new ≡ slice_set self.old result (Some (node, next)) }
     {
-        let mut body = [0; BODY_ROOM];
-        let len = pack_body(&mut body, prepared);
+        let len = pack_body(&mut self.body, prepared);
         let head = Head {
             stamp: stamp_of(prepared),
             tenant,
@@ -85,7 +89,7 @@ impl Block {
         let Ok(slot) = self.heads.put(head, next) else {
             unreachable!()
         };
-        self.bodies.put(slot, &body, len);
+        self.bodies.put(slot, &self.body, len);
         slot
     }
 

@@ -8,6 +8,9 @@ use Rattle.version_chain.proofs.StoredNodes.{body_put, body_read, live_many, put
 use Rattle.version_chain.proofs.shared_block.Block.put.Goals as goal
 use Rattle.version_chain.proofs.shared_block.Block.put.Goals.{After-put-2}
 
+pub pack_body-len-requires : goal.pack_body-len-requires
+pack_body-len-requires c = omega (arith, c.self.invariant.1)
+
 pub unreachable-requires : goal.unreachable-requires
 unreachable-requires c =
     let heads = c.self.inside.heads in
@@ -31,9 +34,11 @@ pub invariant_of-self : goal.invariant_of-self
 invariant_of-self c =
     let at = (goal.at.invariant_of-self c).After-put-2 in
     let put = c.put-2.ensures in
-    let packed = c.pack_body-len.ensures in
-    rw c.in-Ok.ensures.put (put_stays c.self.inside.heads c.self.inside.bodies c.put-2.new.self c.in-Ok.slot (head at) c.args.next c.in-Ok.ensures.was_free.0 c.self.invariant put.others
-    (body_put c.args.prepared.now.stamp (head at) (bytes_at c.put-2.new.self c.in-Ok.slot) c.pack_body-len.new.bytes c.pack_body-len.result refl c.stamp_of.ensures put.put packed.body put.long packed.few))
+    let packed = c.pack_body-len.ensures in (
+      rw c.in-Ok.ensures.put (put_stays c.self.inside.heads c.self.inside.bodies c.put-2.new.self c.in-Ok.slot (head at) c.args.next c.in-Ok.ensures.was_free.0 c.self.invariant.0 put.others
+          (body_put c.args.prepared.now.stamp (head at) (bytes_at c.put-2.new.self c.in-Ok.slot) c.pack_body-len.new.bytes c.pack_body-len.result refl c.stamp_of.ensures put.put packed.body put.long packed.few)),
+      c.pack_body-len.auto.bytes ∙ c.self.invariant.1,
+    )
 
 pub returns-clause-put : goal.returns-clause-put
 returns-clause-put c =
@@ -43,5 +48,5 @@ returns-clause-put c =
     let put = c.put-2.ensures in
     let read = body_read c.args.prepared.now.stamp (head at) (bytes_at new slot) c.pack_body-len.new.bytes c.pack_body-len.result c.args.prepared.now refl c.stamp_of.ensures put.put c.pack_body-len.ensures.read in
     ap (λ (h : HeadCells). stored_cells h new) c.in-Ok.ensures.put
-    ∙ put_is c.self.inside.heads c.self.inside.bodies new slot (head at) c.args.next c.in-Ok.ensures.was_free.0 c.self.invariant put.others c.args.prepared.now read
+    ∙ put_is c.self.inside.heads c.self.inside.bodies new slot (head at) c.args.next c.in-Ok.ensures.was_free.0 c.self.invariant.0 put.others c.args.prepared.now read
     ∙ ap (λ (b : Cells). slice_set b slot (Some (record { version = record { prepared = c.args.prepared.now; committed = c.args.committed }; tenant = c.args.tenant; chain = c.args.chain }, c.args.next))) c.self.view_is

@@ -8,7 +8,7 @@ pub set_next-requires : goal.set_next-requires
 set_next-requires c = live_head c.self.inside.heads c.self.inside.bodies c.args.slot (subst (λ (b : Cells). IsLive b c.args.slot) (sym c.self.view_is) c.requires)
 
 pub invariant_of-self : goal.invariant_of-self
-invariant_of-self c = rw c.set_next.ensures (next_stays c.self.inside.heads c.self.inside.bodies c.args.slot c.args.next c.self.invariant (live_head c.self.inside.heads c.self.inside.bodies c.args.slot (subst (λ (b : Cells). IsLive b c.args.slot) (sym c.self.view_is) c.requires)))
+invariant_of-self c = (rw c.set_next.ensures (next_stays c.self.inside.heads c.self.inside.bodies c.args.slot c.args.next c.self.invariant.0 (live_head c.self.inside.heads c.self.inside.bodies c.args.slot (subst (λ (b : Cells). IsLive b c.args.slot) (sym c.self.view_is) c.requires))), c.self.invariant.1)
 
 pub returns : goal.returns
 returns c = rw c.set_next.ensures (next_is c.self.inside.heads c.self.inside.bodies c.args.slot c.args.next ∙ ap (λ (b : Cells). slice_set b c.args.slot (with_next (entry b c.args.slot) c.args.next)) c.self.view_is)

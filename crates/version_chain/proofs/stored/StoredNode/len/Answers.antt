@@ -8,4 +8,4 @@ pub get-requires : goal.get-requires
 get-requires c = live_head c.block.inside.heads c.block.inside.bodies c.self.inside.slot (subst (λ (b : Cells). IsLive b c.self.inside.slot) (sym c.block.view_is) c.self.invariant)
 
 pub returns-clause-exact : goal.returns-clause-exact
-returns-clause-exact c = c.from.ensures ∙ len_shown c.block.inside.heads c.block.inside.bodies c.self.inside.slot c.get.result.now _ c.get.ensures c.block.invariant c.self.inside.block.now c.block.view_is c.args.self.now c.self.view_is
+returns-clause-exact c = c.from.ensures ∙ len_shown c.block.inside.heads c.block.inside.bodies c.self.inside.slot c.get.result.now _ c.get.ensures c.block.invariant.0 c.self.inside.block.now c.block.view_is c.args.self.now c.self.view_is

@@ -10,9 +10,9 @@ get-requires c = live_head c.block.inside.heads c.block.inside.bodies c.self.ins
 
 pub returns-clause-front : goal.returns-clause-front
 returns-clause-front c =
-    let its = stored_at c.block.inside.heads c.block.inside.bodies c.self.inside.slot c.get.result.now _ c.get.ensures c.block.invariant in
+    let its = stored_at c.block.inside.heads c.block.inside.bodies c.self.inside.slot c.get.result.now _ c.get.ensures c.block.invariant.0 in
     let first : c.min-len.result ≡ min c.get.result.now.len 64 = c.min-len.ensures ∙ ap (λ n. min n 64) c.from.ensures in
-    front_is (bytes_at c.block.inside.bodies c.self.inside.slot) _ c.read.new.out c.get.result.now.len c.min-len.result (body_shown c.block.inside.heads c.block.inside.bodies c.self.inside.slot c.get.result.now _ c.get.ensures c.block.invariant c.self.inside.block.now c.block.view_is c.args.self.now c.self.view_is) its.there first c.read.ensures
+    front_is (bytes_at c.block.inside.bodies c.self.inside.slot) _ c.read.new.out c.get.result.now.len c.min-len.result (body_shown c.block.inside.heads c.block.inside.bodies c.self.inside.slot c.get.result.now _ c.get.ensures c.block.invariant.0 c.self.inside.block.now c.block.view_is c.args.self.now c.self.view_is) its.there first c.read.ensures
 
 pub returns-clause-stored : goal.returns-clause-stored
-returns-clause-stored c = store_shown c.block.inside.heads c.block.inside.bodies c.self.inside.slot c.get.result.now _ c.get.ensures c.block.invariant c.self.inside.block.now c.block.view_is c.args.self.now c.self.view_is
+returns-clause-stored c = store_shown c.block.inside.heads c.block.inside.bodies c.self.inside.slot c.get.result.now _ c.get.ensures c.block.invariant.0 c.self.inside.block.now c.block.view_is c.args.self.now c.self.view_is

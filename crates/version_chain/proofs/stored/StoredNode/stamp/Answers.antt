@@ -8,4 +8,4 @@ pub get-requires : goal.get-requires
 get-requires c = live_head c.block.inside.heads c.block.inside.bodies c.self.inside.slot (subst (λ (b : Cells). IsLive b c.self.inside.slot) (sym c.block.view_is) c.self.invariant)
 
 pub returns-clause-value : goal.returns-clause-value
-returns-clause-value c = stamp_shown c.block.inside.heads c.block.inside.bodies c.self.inside.slot c.get.result.now _ c.get.ensures c.block.invariant c.self.inside.block.now c.block.view_is c.args.self.now c.self.view_is
+returns-clause-value c = stamp_shown c.block.inside.heads c.block.inside.bodies c.self.inside.slot c.get.result.now _ c.get.ensures c.block.invariant.0 c.self.inside.block.now c.block.view_is c.args.self.now c.self.view_is
