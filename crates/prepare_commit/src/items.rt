@@ -1,10 +1,10 @@
 //! The items of a cell, in the order of their keys.
-ghost use Rattle.std.specs.Prelude.{◌≡◌, ◌<◌, ◌≤◌, ◌+◌, [], IfOk, IfSome, MatchResult, insert as list_insert, length, slice_index_or, slice_set, vec_capacity, vec_len};
+ghost use Rattle.std.specs.Prelude.{◌≡◌, ◌<◌, ◌≤◌, ◌+◌, [], IfOk, IfSome, IsTrue, MatchResult, insert as list_insert, length, slice_index_or, slice_set, vec_capacity, vec_len};
 ghost use Rattle.stamps.specs.Key.{key_cmp};
 ghost use Rattle.secondary_index.specs.Ordered.{IsInOrder, StandsAt, BelongsAt};
 ghost use Rattle.prepare_commit.specs.Layout.{IsPlaceOf, item_row};
 
-use crate::place_hints::PlaceHints;
+use crate::place_hints::{Guesses, PlaceHints};
 use lists::RowList;
 use stamps::{Key, Stamp, Tag};
 use std::alloc::{AllocError, Global};
@@ -101,6 +101,14 @@ impl ItemList {
         None
     }
 
+    /// Whether the item of a key stands at a place.
+    #[inline(always)]
+    fn stands_at(&self, place: usize, key: &Key) -> bool
+        ensures { IsTrue result → StandsAt key_cmp item_row key.now self.now.items place }
+    {
+        place < self.list.len() && self.list.get(place).entry.key == *key
+    }
+
     /// Notes where the item that has a chain stands.
     pub(crate) fn note(&mut self, chain: u32, place: usize)
         ensures { self.new ≡ self.old }
@@ -121,14 +129,34 @@ pub(crate) fn insert_within<T: Drop>(list: &mut Vec<T>, index: usize, value: T)
 }
 
 /// Where the item of a key stands, or else where it would go in. It looks first where the item was last found.
+#[inline(always)]
 pub(crate) fn search(items: &ItemList, key: &Key) -> Result<usize, usize>
     requires { IsInOrder key_cmp item_row items.now.items }
     ensures { MatchResult result (StandsAt key_cmp item_row key.now items.now.items)
         (BelongsAt key_cmp item_row key.now items.now.items) }
 {
-    let place = items.hints.of(key);
-    if place < items.list.len() && items.list.get(place).entry.key == *key {
+    let guesses = items.hints.of(key);
+    let place = guesses.first();
+    if items.stands_at(place, key) {
         return Ok(place);
+    }
+    search_on(items, key, guesses.rest())
+}
+
+// The same, where the item is not at the first of these places.
+#[inline(never)]
+fn search_on(items: &ItemList, key: &Key, guesses: Guesses) -> Result<usize, usize>
+    requires { IsInOrder key_cmp item_row items.now.items }
+    ensures { MatchResult result (StandsAt key_cmp item_row key.now items.now.items)
+        (BelongsAt key_cmp item_row key.now items.now.items) }
+{
+    let mut left = guesses;
+    for _guess in 1..Guesses::COUNT {
+        let place = left.first();
+        if items.stands_at(place, key) {
+            return Ok(place);
+        }
+        left = left.rest();
     }
     let found = search_list(&items.list, key);
     if let Ok(place) = found {
