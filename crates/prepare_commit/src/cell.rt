@@ -265,6 +265,7 @@ impl Cell {
     ///
     /// It finds the item where it was last found, or by a binary search, and searches for the version's stamp in its chain. For an item with
     /// no entry it shifts the places of the entries behind the new one, here and in the index, and no entry.
+    #[inline(always)]
     pub fn prepare(&mut self, block: &mut Block, version: &Record) -> PrepareReply
         requires { LiesWithShare block.old self.old }
         ensures served { IsServed block.old self.old block.new self.new
@@ -430,6 +431,7 @@ impl Cell {
     ///   or not, or `Unknown` where it is not kept, as for `0.0`.
     ///
     /// It finds the item where it was last found, or by a binary search, and searches for the stamp in its chain, or knows the latest.
+    #[inline(always)]
     pub fn get<'b>(&self, block: &'b Block, key: &Key, stamp: Option<Stamp>) -> GetReply<'b>
         requires { LiesIn block.now self.now }
         ensures { IsAnswered block.now self.now (Call.Get key.now stamp)

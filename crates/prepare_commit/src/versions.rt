@@ -96,6 +96,7 @@ impl Versions {
 
     /// Puts a record into a chain, not committed as yet. It visits what a search for the record's stamp does, and shifts
     /// the listed versions of greater stamps. Where no sweep followed a cut, it sweeps first.
+    #[inline(always)]
     pub(crate) fn insert(&mut self, block: &mut Block, chain: u32, version: &Record) -> Insert
         requires known { chain < length (lists_of block.old self.old) }
         requires share { HaveShare block.old self.old }
@@ -164,7 +165,6 @@ impl Versions {
         sweep_unless(self.is_swept, block, &mut self.chains);
         self.is_swept = true;
         let (first, end) = self.chains.places_at(stamp);
-        note_at(block, &self.chains, stamp, first, end, since);
         commit(
             block,
             &mut self.chains,
@@ -173,6 +173,7 @@ impl Versions {
             end,
             index,
             changed,
+            since,
             visits,
         )
     }
@@ -253,6 +254,7 @@ impl Versions {
 }
 
 // Sweeps the list of the kept versions, unless that was done.
+#[inline(always)]
 fn sweep_unless(is_swept: bool, block: &Block, chains: &mut Chains)
     requires listed { Lists block.now chains.old }
     requires swept { IsTrue is_swept → IsSwept block.now chains.old }

@@ -1,5 +1,5 @@
 //! The index.
-ghost use Rattle.std.specs.Prelude.{◌≡◌, ◌+◌, ◌^◌, ◌<◌, ◌≤◌, ◌↔◌, min, List, [], ◌∷◌, IfOk, IsTrue};
+ghost use Rattle.std.specs.Prelude.{◌≡◌, ℕ, ◌+◌, ◌^◌, ◌<◌, ◌≤◌, ◌↔◌, false, min, List, [], ◌∷◌, IfOk, IfSome, IsTrue};
 ghost use Rattle.std.specs.FinMap as map;
 ghost use Rattle.secondary_index.specs.Index.{HasPlace, Setting, IsIndexOf, keys_under, keys_last_set_to, findings_of};
 ghost use Rattle.stamps.specs.Limits.{max_found};
@@ -70,6 +70,15 @@ impl TagIndex {
         ensures { result ≡ map.contains_key self.now.tags key.now }
     {
         entries::search(&self.entries, key).is_ok()
+    }
+
+    /// Whether any known key has a tag.
+    #[inline(always)]
+    pub fn has_tags(&self) -> bool
+        ensures { result ≡ false
+            → (key : List ℕ) → IfSome (map.get self.now.tags key) (λ tag. tag ≡ []) }
+    {
+        self.pairs.len() > 0
     }
 
     /// Gives a key its tag, in place of the one that it had. The key is known from then on. This takes no memory. Where

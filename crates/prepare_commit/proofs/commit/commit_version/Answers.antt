@@ -1,4 +1,4 @@
-use Rattle.std.proofs.Common.{◌≡◌, ◌<◌, ℕ, true, List, arith, length, All, Option, Some, None, slice_get, inl, sym, ap, subst, ◌∙◌}
+use Rattle.std.proofs.Common.{◌≡◌, ◌<◌, ℕ, true, List, arith, length, All, Option, Some, None, slice_get, sym, ap, subst, ◌∙◌}
 use Rattle.std.specs.FinMap.{contains_key, insert}
 use Rattle.secondary_index.specs.Index.{Index}
 use Rattle.stamps.specs.Record.{Record}
@@ -36,14 +36,17 @@ latest-requires c = record { known = in_range (goal.at.latest-requires c).After-
 pub note-requires : goal.note-requires
 note-requires c = omega (arith, c.mark_slot-chain.ensures.known, c.requires.long)
 
-pub set_numbered-requires : goal.set_numbered-requires
-set_numbered-requires c = inl (ap (contains_key c.args.index.now.tags) c.key_and_tag-key.ensures.0 ∙ in_index (goal.at.set_numbered-requires c).After-mark_slot-chain c.in-Some.latest c.in-Some.ensures)
+pub note-requires-2 : goal.note-requires-2
+note-requires-2 c = omega (arith, c.mark_slot-chain.ensures.known, c.requires.as_long)
+
+pub move_item-requires : goal.move_item-requires
+move_item-requires c = in_index (goal.at.move_item-requires c).After-mark_slot-chain c.in-Some.latest c.in-Some.ensures
 
 pub returns-in-Some-clause-keys : goal.returns-in-Some-clause-keys
 returns-in-Some-clause-keys c =
-    subst (HasSameKeys c.args.index.now.tags) (sym (ap (λ (x : Index). x.tags) c.set_numbered.ensures.value))
-    (same_keys_set c.args.index.now.tags c.key_and_tag-key.result.0 c.key_and_tag-key.result.1
-    (ap (contains_key c.args.index.now.tags) c.key_and_tag-key.ensures.0 ∙ in_index (goal.at.returns-in-Some-clause-keys c).After-mark_slot-chain c.in-Some.latest c.in-Some.ensures))
+    let u = c.in-Some.latest in
+    subst (HasSameKeys c.args.index.now.tags) (sym (ap (λ (x : Index). x.tags) c.move_item.ensures))
+    (same_keys_set c.args.index.now.tags u.key u.tag (in_index (goal.at.returns-in-Some-clause-keys c).After-mark_slot-chain u c.in-Some.ensures))
 
 pub returns-in-Some-clause-moved : goal.returns-in-Some-clause-moved
 returns-in-Some-clause-moved c = rw (← c.mark_slot-chain.ensures.place) (λ key all.
@@ -52,9 +55,7 @@ returns-in-Some-clause-moved c = rw (← c.mark_slot-chain.ensures.place) (λ ke
     let is = latest (goal.at.returns-in-Some-clause-moved c).After-mark_slot-chain key all (Some u) c.in-Some.ensures in (
       last,
       is,
-      ap (λ (x : Index). x.tags) c.set_numbered.ensures.value
-          ∙ ap (λ k. insert c.args.index.now.tags k c.key_and_tag-key.result.1) c.key_and_tag-key.ensures.0
-          ∙ ap (insert c.args.index.now.tags u.key) c.key_and_tag-key.ensures.1
+      ap (λ (x : Index). x.tags) c.move_item.ensures
           ∙ ap (λ k. insert c.args.index.now.tags k u.tag) (latest_key c.args.kept.stamp key _ _ c.mark_slot-chain.ensures.marked all last is),
     ))
 
@@ -66,6 +67,9 @@ returns-in-Some-clause-changed c = rw (← c.mark_slot-chain.ensures.place) c.ma
 
 pub returns-in-Some-clause-noted : goal.returns-in-Some-clause-noted
 returns-in-Some-clause-noted c = rw (← c.mark_slot-chain.ensures.place) c.note.ensures
+
+pub returns-in-Some-clause-since : goal.returns-in-Some-clause-since
+returns-in-Some-clause-since c = rw (← c.mark_slot-chain.ensures.place) c.note-2.ensures
 
 -- there is one
 pub returns-in_default : goal.returns-in_default

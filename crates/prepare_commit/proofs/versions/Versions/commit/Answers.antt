@@ -8,7 +8,6 @@ use Rattle.prepare_commit.proofs.AllChains.{count_all}
 use Rattle.prepare_commit.proofs.Chaining.{chains_long}
 use Rattle.prepare_commit.proofs.EachPlace.{used_is}
 use Rattle.prepare_commit.proofs.Owning.{own_after, still_stands}
-use Rattle.prepare_commit.proofs.Since.{noted_marked}
 use Rattle.prepare_commit.proofs.versions.Versions.commit.Goals as goal
 use Rattle.prepare_commit.proofs.versions.Versions.commit.Goals.{After-sweep_unless}
 
@@ -21,16 +20,6 @@ view c = ap (held_in c.args.block.now) c.sweep_unless.ensures.rest
 have : (c : After-sweep_unless) (items : List ChainedItem) → HaveAll items (held_in c.args.block.now c.args.self.now.chains) → HaveAll items (held_in c.args.block.now c.sweep_unless.new.chains)
 have c items all = subst (λ (h : Chained). HaveAll items h) (sym (view c)) all
 
-pub note_at-requires : goal.note_at-requires
-note_at-requires c =
-    let done = c.sweep_unless.ensures in
-    record {
-      stands = still_stands c.args.block.now c.args.self.now.chains c.sweep_unless.new.chains done.rest c.requires.lies.stands;
-      list = done.list;
-      run = c.places_at-first.ensures;
-      long = c.requires.as_long ∙ chains_long c.args.block.now c.args.self.now.chains ∙ sym (ap (λ (h : Heads). length h.heads) done.rest);
-    }
-
 pub commit-requires : goal.commit-requires
 commit-requires c =
     let done = c.sweep_unless.ensures in
@@ -41,6 +30,7 @@ commit-requires c =
       run = c.places_at-first.ensures;
       few = omega (arith, c.requires.few, ap (λ (h : Heads). h.used) done.rest);
       long = c.requires.long ∙ chains_long c.args.block.now c.args.self.now.chains ∙ sym (ap (λ (h : Heads). length h.heads) done.rest);
+      as_long = c.requires.as_long ∙ chains_long c.args.block.now c.args.self.now.chains ∙ sym (ap (λ (h : Heads). length h.heads) done.rest);
       before = c.requires.before;
       known = (known.0, have (goal.at.commit-requires c).After-sweep_unless known.0 known.1, known.2);
     }
@@ -75,9 +65,8 @@ returns c =
         noted = λ chain free. (let both = done.noted.noted chain free in (both.0, both.1 ∙ ap (λ (h : Chained). chain_at h.chains chain) seen));
       };
       since = record {
-        long = c.note_at.ensures.long;
-        noted = λ chain free.
-            (let both = noted_marked c.args.stamp _ _ _ _ c.note_at.ensures.noted done.marked chain free in (both.0, both.1 ∙ ap (λ (h : Chained). chain_at h.chains chain) seen));
+        long = done.since.long;
+        noted = λ chain free. (let both = done.since.noted chain free in (both.0, both.1 ∙ ap (λ (h : Chained). chain_at h.chains chain) seen));
       };
       visits = done.visits;
     }

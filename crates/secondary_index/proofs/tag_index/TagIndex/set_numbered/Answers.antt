@@ -1,4 +1,4 @@
-use Rattle.std.proofs.Common.{◌≡◌, Some, ◌∷◌, ap, sym, subst, ◌∙◌}
+use Rattle.std.proofs.Common.{◌≡◌, ◌∷◌, ap, sym, subst, ◌∙◌}
 use Rattle.std.specs.FinMap as fin
 use Rattle.secondary_index.specs.Index.{Index, Tags, IsIndexOf}
 use Rattle.secondary_index.proofs.Findings.{IsIndexOf-set, insert-same}
