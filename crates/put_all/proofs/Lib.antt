@@ -1,4 +1,5 @@
 mod CallsLeft
+mod CountAwaited
 pub mod Awaited
 pub mod Ascending
 pub mod Steps

@@ -47,8 +47,15 @@ module _ (key : Key) (places : List ItemProgress) (at : ℕ) (found : position (
   pub place_within : (d : ItemProgress) → at < length places
   place_within d = (position-Some (awaits_prepared key) places at d found).0
 
-  place_waits : (d : ItemProgress) → awaits_prepared key (get_or places at d) ≡ true
+  pub place_waits : (d : ItemProgress) → awaits_prepared key (get_or places at d) ≡ true
   place_waits d = (position-Some (awaits_prepared key) places at d found).1
+
+  pub place_unprepared : (x : ItemProgress) → x ≡ get_or places at x → x.is_prepared ≡ false
+  place_unprepared x is = go x.is_prepared (and_parts (bytes_eq x.key key) (not x.is_prepared) (ap (awaits_prepared key) is ∙ place_waits x)).1
+    where
+      go : (b : Bool) → not b ≡ true → b ≡ false
+      go true h = cc
+      go false h = refl
 
   pub one_place : (x : ItemProgress) → AreApart places → x ≡ get_or places at x → set places at (record x { is_prepared = true }) ≡ map (with_prepared key) places
   one_place x apart is =

@@ -258,10 +258,10 @@ module _ (setup : Setup) (stamp : Stamp) (items : List Item) where
 
     pub takes_prepared : (w after : Writer) → StandsFor setup stamp items w taken → (key : Key) (said : PrepareReply) → IsPrepared stamp key said message → said ≡ Prepared
         → w.has_ended ≡ false → list_any (awaits_prepared key) w.places ≡ true
-        → after.stamp ≡ w.stamp → after.parts ≡ w.parts → after.writes ≡ w.writes → after.has_ended ≡ false → after.places ≡ map (with_prepared key) w.places
+        → after.stamp ≡ w.stamp → after.parts ≡ w.parts → after.has_ended ≡ false → after.places ≡ map (with_prepared key) w.places
         → (answer : WriteMove) → answer ≡ cond (list_all (λ (place : ItemProgress). place.is_prepared) after.places) Decide Wait
         → TakesWrite setup stamp items taken message answer after
-    takes_prepared w after s key said got named going awaited stamped parts writes goes marked answer told_is =
+    takes_prepared w after s key said got named going awaited stamped parts goes marked answer told_is =
         let is = named_prepared stamp key said Prepared message got named in
         let placed : after.places ≡ map (place_after setup stamp (taken ++ message ∷ [])) items =
         marked ∙ ap (map (with_prepared key)) s.places ∙ marked_prepared taken message key is in
@@ -276,7 +276,6 @@ module _ (setup : Setup) (stamp : Stamp) (items : List Item) where
         (record {
           stamped = stamped ∙ s.stamped;
           parts = parts ∙ s.parts;
-          writes = writes ∙ s.writes;
           places = placed;
           ended = goes ∙ sym (ap (λ b. b || all_committed setup stamp items (taken ++ message ∷ [])) not_refused ∙ commits_stay key Prepared is ∙ open_yet.1);
           replies = replies_with s.replies (of_prepare key Prepared is);
@@ -307,7 +306,6 @@ module _ (setup : Setup) (stamp : Stamp) (items : List Item) where
         (record {
           stamped = ap (λ x. x.stamp) ended ∙ s.stamped;
           parts = ap (λ x. x.parts) ended ∙ s.parts;
-          writes = ap (λ x. x.writes) ended ∙ s.writes;
           places = ap (λ x. x.places) ended ∙ s.places ∙ same_places taken message
               (λ k. ap (λ call. says_prepared stamp k call message.reply) is.call ∙ ap (says_prepared stamp k (Prepare is.version)) is.replied ∙ accepts_not is.version k)
               (λ p. ap (λ call. says_committed stamp p message.partition call message.reply) is.call);
@@ -322,11 +320,11 @@ module _ (setup : Setup) (stamp : Stamp) (items : List Item) where
 
     pub takes_committed : (w after : Writer) → StandsFor setup stamp items w taken → (partition : ℕ) → IsCommitted stamp partition message
         → w.has_ended ≡ false → list_all (λ (place : ItemProgress). place.is_prepared) w.places ≡ true → list_any (awaits_committed partition) w.places ≡ true
-        → after.stamp ≡ w.stamp → after.parts ≡ w.parts → after.writes ≡ w.writes → after.places ≡ map (with_committed partition) w.places
+        → after.stamp ≡ w.stamp → after.parts ≡ w.parts → after.places ≡ map (with_committed partition) w.places
         → after.has_ended ≡ list_all (λ (place : ItemProgress). place.is_committed) after.places
         → (answer : WriteMove) → answer ≡ cond (list_all (λ (place : ItemProgress). place.is_committed) after.places) (Done w.stamp) Wait
         → TakesWrite setup stamp items taken message answer after
-    takes_committed w after s partition is going ready awaited stamped parts writes marked ends answer told_is =
+    takes_committed w after s partition is going ready awaited stamped parts marked ends answer told_is =
         let placed : after.places ≡ map (place_after setup stamp (taken ++ message ∷ [])) items =
         marked ∙ ap (map (with_committed partition)) s.places ∙ marked_committed taken message partition is in
         let all_done : list_all (λ (place : ItemProgress). place.is_committed) after.places ≡ all_committed setup stamp items (taken ++ message ∷ []) =
@@ -346,7 +344,6 @@ module _ (setup : Setup) (stamp : Stamp) (items : List Item) where
         (record {
           stamped = stamped ∙ s.stamped;
           parts = parts ∙ s.parts;
-          writes = writes ∙ s.writes;
           places = placed;
           ended = ends ∙ all_done ∙ sym (ap (λ b. b || all_committed setup stamp items (taken ++ message ∷ [])) not_refused);
           replies = replies_with s.replies

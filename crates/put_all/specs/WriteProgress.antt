@@ -1,5 +1,5 @@
 -- The items of a write, and what was answered of them.
-use Rattle.std.specs.Prelude.{◌≡◌, ◌≢◌, AllPairs, ℕ, Bool, false, ◌&&◌, ◌||◌, ◌==◌, not, bytes_eq, List, map}
+use Rattle.std.specs.Prelude.{◌≡◌, ◌≢◌, AllPairs, ℕ, Bool, false, ◌&&◌, ◌||◌, ◌==◌, not, bytes_eq, List, [], ◌∷◌, map, cond, suc}
 use Rattle.std.specs.List.{list_any, list_all}
 use Rattle.stamps.specs.Key.{home_of}
 use Rattle.plain_store.specs.Words.{Key}
@@ -14,6 +14,11 @@ place_for parts key = record { key = key; home = home_of key parts; is_prepared 
 -- no two items have one key
 abbrev pub AreApart : List ItemProgress → Type 0
 AreApart = AllPairs (λ (j k : ItemProgress). j.key ≢ k.key)
+
+-- of how many no PREPARE was answered Prepared
+abbrev pub count_awaited : List ItemProgress → ℕ
+count_awaited [] = 0
+count_awaited (place ∷ places) = cond place.is_prepared (count_awaited places) (suc (count_awaited places))
 
 -- once this key was answered Prepared
 abbrev pub with_prepared : Key → ItemProgress → ItemProgress

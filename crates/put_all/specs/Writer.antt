@@ -1,7 +1,6 @@
 -- What a writer stands for.
 use Rattle.std.specs.Prelude.{◌≡◌, ℕ, List, [], Bool, true, false, ◌||◌, ◌==◌, map, length, cond, Option, Some, None}
 use Rattle.std.specs.List.{list_any, list_all}
-use Rattle.stamps.specs.Key.{sorted_keys}
 use Rattle.stamps.specs.declared.record.Item.{Item}
 use Rattle.plain_store.specs.declared.calls.Call.{Call}
 use Rattle.plain_store.specs.declared.calls.Call.TheVariants.{Prepare, Commit}
@@ -11,7 +10,7 @@ use Rattle.plain_store.specs.declared.message.Message.{Message}
 use Rattle.plain_store.specs.declared.refusal.Refusal.{Refusal}
 use Rattle.plain_store.specs.declared.refusal.Refusal.TheVariants.{FullSlots as NoSlot, FullItems as NoItem}
 use Rattle.plain_store.specs.Words.{Stamp, Setup, home}
-use Rattle.plain_store.specs.Writing.{Outgoing, keys_written, says_prepared, says_committed, commit_calls}
+use Rattle.plain_store.specs.Writing.{Outgoing, says_prepared, says_committed, commit_calls}
 use Rattle.plain_store.specs.Writing.{discard_calls}
 use Rattle.plain_store.specs.Moves.{Move, Waits, Decides, Finishes, Fails}
 use Rattle.put_all.specs.Writing.{has_ended, write_answer, taken_with}
@@ -56,7 +55,6 @@ pub record StandsFor (setup : Setup) (stamp : Stamp) (items : List Item) (writer
     : Type 0 where
   pub stamped : writer.stamp ≡ stamp
   pub parts : writer.parts ≡ setup.partitions
-  pub writes : writer.writes ≡ sorted_keys (keys_written items)
   pub places : writer.places ≡ map (place_after setup stamp taken) items
   pub ended : writer.has_ended ≡ has_ended setup stamp items taken
   pub replies : list_all (λ message. is_reply_of_put stamp message.call message.reply) taken ≡ true

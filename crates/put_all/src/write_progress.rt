@@ -23,8 +23,8 @@ pub(crate) struct ItemProgress {
 }
 
 impl ItemProgress {
-    /// An item of which nothing was answered. The key is borrowed, and this stands alone: its bytes are then summed many at once.
-    #[inline(never)]
+    /// An item of which nothing was answered.
+    #[inline(always)]
     fn new(key: &Key, parts: u32) -> ItemProgress
         requires { IsParts parts }
         ensures { result ≡ place_for parts key.now }
@@ -83,19 +83,23 @@ pub(crate) struct CommitMarked {
 
 /// The items of a write in the order given, up to `MAX_KEYS`.
 #[derive(Drop)]
-pub(crate) struct WriteProgress(SmallList<ItemProgress, { limits::MAX_KEYS }>);
+pub(crate) struct WriteProgress {
+    places: SmallList<ItemProgress, { limits::MAX_KEYS }>,
+    /// Of how many no PREPARE was answered Prepared.
+    awaited: usize,
+}
 
 impl Model for WriteProgress {
-    ghost use Rattle.std.specs.Prelude.{List};
+    ghost use Rattle.std.specs.Prelude.{◌≡◌, List};
     ghost use Rattle.put_all.specs.declared.write_progress.ItemProgress.{ItemProgress};
 
     ghost Value = { List ItemProgress };
 
-    ghost use Rattle.put_all.specs.WriteProgress.{AreApart};
+    ghost use Rattle.put_all.specs.WriteProgress.{AreApart, count_awaited};
 
-    ghost view = { λ p. p.0 };
+    ghost view = { λ p. p.places };
 
-    ghost invariant = { λ p. AreApart p.0 };
+    ghost invariant = { λ p. AreApart p.places × (p.awaited ≡ count_awaited p.places) };
 }
 
 impl WriteProgress {
@@ -116,7 +120,10 @@ impl WriteProgress {
     pub(crate) fn none(filler: Key) -> WriteProgress
         ensures { result ≡ [] }
     {
-        WriteProgress(SmallList::empty(ItemProgress::new(&filler, 1)))
+        WriteProgress {
+            places: SmallList::empty(ItemProgress::new(&filler, 1)),
+            awaited: 0,
+        }
     }
 
     /// Puts in its place those of these items, of which nothing was answered.
@@ -126,17 +133,18 @@ impl WriteProgress {
         requires keys { IsTransactionKeys (keys_written items.now) }
         ensures { self.new ≡ map (λ item. place_for parts item.key) items.now }
     {
-        self.0.clear();
+        self.places.clear();
         for item in items {
-            self.0.push(ItemProgress::new(&item.key, parts));
+            self.places.push(ItemProgress::new(&item.key, parts));
         }
+        self.awaited = items.len();
     }
 
     fn as_slice(&self) -> &[ItemProgress]
         ensures places { result.now ≡ self.now }
         ensures few { length result.now ≤ max_keys }
     {
-        self.0.as_slice()
+        self.places.as_slice()
     }
 
     /// How many they are.
@@ -175,7 +183,7 @@ impl WriteProgress {
     pub(crate) fn are_prepared(&self) -> bool
         ensures { result ≡ list_all (λ place. place.is_prepared) self.now }
     {
-        self.as_slice().iter().all(|place| place.is_prepared)
+        self.awaited == 0
     }
 
     /// Takes the Prepared of this key. Where no item of it waits for that, they stay as they were.
@@ -190,7 +198,8 @@ impl WriteProgress {
         };
         let mut place = self.as_slice()[at];
         place.is_prepared = true;
-        self.0.set(at, place);
+        self.places.set(at, place);
+        self.awaited -= 1;
         Marked {
             was_awaited: true,
             are_prepared: self.are_prepared(),
@@ -201,7 +210,7 @@ impl WriteProgress {
     pub(crate) fn mark_committed(&mut self, partition: u32) -> CommitMarked
         ensures { MarksCommitted partition self.old self.new result }
     {
-        take_committed_of(&mut self.0, partition)
+        take_committed_of(&mut self.places, partition)
     }
 }
 

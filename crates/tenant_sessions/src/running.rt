@@ -106,7 +106,7 @@ impl Running {
         ensures { (setup : Setup) → setup.partitions ≡ parts
             → Starts setup (Writes stamp items.now) self.new }
     {
-        self.writer.reset(stamp, items, writes, parts);
+        self.writer.reset(stamp, items, parts);
         self.kind = TransactionKind::Put;
         self.stamp = stamp;
         self.waiting.prepare(stamp, items, writes, parts);

@@ -5,4 +5,4 @@ use Rattle.put_all.proofs.write_progress.WriteProgress.reset.Given as goal
 
 -- the places so far are those of the items so far
 abbrev pub invariant-loop-item : goal.invariant-loop-item
-invariant-loop-item l = l.self-inside.0 ≡ map (λ (item : Item). place_for l.parts item.key) (take l.item-index l.items)
+invariant-loop-item l = l.self-inside.places ≡ map (λ (item : Item). place_for l.parts item.key) (take l.item-index l.items)
