@@ -1,5 +1,5 @@
 -- The elements of a list at places of it: for the calls of `CallBatch`, `PendingSet` and `Waiting`.
-use Rattle.std.proofs.Common.{◌≡◌, ◌≢◌, ℕ, zero, suc, ◌<◌, ◌≤◌, List, [], ◌∷◌, ◌++◌, Bool, true, false, ◌&&◌, ◌||◌, not, filter, map, ap, sym, ◌∙◌, refl, cond, subst, arith, length, take, get_or, Option, Some, None, slice_get, length-append, inl, inr}
+use Rattle.std.proofs.Common.{◌≡◌, ◌≢◌, ℕ, zero, suc, ◌<◌, ◌≤◌, List, [], ◌∷◌, ◌++◌, Bool, true, false, ◌&&◌, ◌||◌, not, filter, map, ap, sym, ◌∙◌, refl, cond, subst, arith, length, take, drop, get_or, Option, Some, None, slice_get, length-append, inl, inr}
 use Rattle.std.specs.Prelude.{nat_lt, min, AllPairs}
 use Rattle.std.specs.List.{list_all, filter_map, cons_option}
 use Rattle.std.specs.Option.{option_map, option_map_or}
@@ -224,6 +224,26 @@ answers_one calls message places apart once i j d before within first =
       | inl second ↦ absurd (once i j d before within (apart message (get_or places i d) (get_or places j d) first second))
       | inr other ↦ other
     ]
+
+-- there is a first place where the call at it is answered
+pub has_first : (p : ℕ → Bool) (places : List ℕ) → option_map_or p (slice_get places 0) false ≡ true → 0 < length places
+has_first p [] first = cc
+has_first p (place ∷ places) first = omega arith
+
+none_left_out : (p : ℕ → Bool) (places : List ℕ) → ((j d : ℕ) → j < length places → p (get_or places j d) ≡ false) → filter (λ place. not (p place)) places ≡ places
+none_left_out p [] none = refl
+none_left_out p (place ∷ places) none =
+    let rest = filter (λ one. not (p one)) places in
+    ap (λ b. cond (not b) (place ∷ rest) rest) (none 0 place (omega arith)) ∙ ap (λ ones. place ∷ ones) (none_left_out p places (λ j d within. none (suc j) d (omega (arith, within))))
+
+-- where a message answers one at most, and that is at the first place, the others are left
+pub first_left_out : (calls : List Outgoing) (message : Message) (places : List ℕ) → AnswersOne calls message places → option_map_or (is_answered_at calls message) (slice_get places 0) false ≡ true
+    → drop 1 places ≡ filter (λ place. not (is_answered_at calls message place)) places
+first_left_out calls message [] once first = cc
+first_left_out calls message (place ∷ places) once first =
+    let rest = filter (λ one. not (is_answered_at calls message one)) places in
+    sym (ap (λ b. cond (not b) (place ∷ rest) rest) first
+    ∙ none_left_out (is_answered_at calls message) places (λ j d within. once 0 (suc j) d (omega arith) (omega (arith, within)) first))
 
 -- a mapped element at its place
 pub made_at : {X Y : Type 0} (f : X → Y) (xs : List X) (all : List Y) (place : ℕ) (x : X) (y : Y) → all ≡ map f xs → slice_get xs place ≡ Some x → y ≡ f x

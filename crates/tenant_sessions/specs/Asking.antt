@@ -1,6 +1,6 @@
 -- What the calls that begin a transaction, put a call and take a reply ask for, and what they promise.
 use Rattle.std.specs.Prelude.{◌≡◌, ◌≢◌, ℕ, ◌+◌, ◌<◌, ◌≤◌, Bool, true, false, is_some, List, []}
-use Rattle.std.specs.Prelude.{Option, Some, None, Result, Ok, Err, IfOk, IfErr, OnOk, OnErr, IsSome}
+use Rattle.std.specs.Prelude.{Some, None, Result, Ok, Err, IfOk, IfErr, OnOk, OnErr, IsSome}
 use Rattle.std.specs.Prelude.{cond, length, slice_get}
 use Rattle.stamps.specs.Key.{IsTransactionKeys, sorted_keys}
 use Rattle.stamps.specs.Limits.{max_parts}

@@ -8,8 +8,6 @@ use Rattle.plain_store.specs.declared.answer.Answer.TheVariants.{Listed as SaysL
 use Rattle.plain_store.specs.declared.answer.Answer.TheVariants.{Ended as SaysEnded, Ignored as SaysIgnored}
 use Rattle.plain_store.specs.declared.answer.Rows.{Rows}
 use Rattle.plain_store.specs.declared.reading.Reading.{Reading}
-use Rattle.plain_store.specs.declared.refusal.Refusal.{Refusal}
-use Rattle.plain_store.specs.Words.{Key, Stamp}
 use Rattle.plain_store.specs.Writing.{Outgoing}
 use Rattle.plain_store.specs.Moves.{Waits, Decides, Finishes, Asks, Begins as BeginsCalls, Reads, Lists, Restarts}
 use Rattle.plain_store.specs.Moves.{Fails, Move as PlainMove}

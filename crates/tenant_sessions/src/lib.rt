@@ -6,6 +6,7 @@ mod call_batch;
 mod current;
 mod discards;
 mod moves;
+mod pending_set;
 mod running;
 mod running_read;
 mod running_search;

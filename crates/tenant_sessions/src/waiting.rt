@@ -1,39 +1,59 @@
 //! The calls that a transaction waits for.
-ghost use Rattle.std.specs.Prelude.{◌≡◌, ◌≢◌, ◌<◌, ◌≤◌, true, nat_lt, min, map, not, filter, length, slice_get, AllPairs};
+ghost use Rattle.std.specs.Prelude.{◌≡◌, ◌≢◌, ◌<◌, ◌≤◌, true, false, nat_lt, map, not, filter, length, slice_get, AllPairs};
 ghost use Rattle.std.specs.List.{filter_map, list_all};
+ghost use Rattle.std.specs.Option.{option_map_or};
 ghost use Rattle.stamps.specs.Bounds.{IsParts};
 ghost use Rattle.stamps.specs.Limits.{max_keys, max_parts};
 ghost use Rattle.tenant_sessions.specs.Asking.{Awaits, MayWrite, PutsCall};
-ghost use Rattle.plain_store.specs.Finding.{below};
 ghost use Rattle.plain_store.specs.Writing.{record_for};
 ghost use Rattle.tenant_sessions.specs.Parts.{Prepares, Commits, First, Second, Founds, AnswersOne, batch_calls, is_answered_at};
 
 use crate::call_batch::CallBatch;
+use crate::pending_set::PendingSet;
 use get_all::LateKeys;
-use lists::SmallList;
 use plain_store::Message;
 use put_all::Partitions;
-use stamps::{Item, Key, Stamp, Tag, WriteSet, limits};
+use stamps::{Item, Key, Stamp, Tag, WriteSet};
 use std::marker::Model;
 
-const MOST_PLACES: usize = limits::MAX_PARTS as usize;
-
-/// Places in a part's list of calls: up to `MAX_PARTS`.
-type PendingSet = SmallList<u8, { MOST_PLACES }>;
-
-/// Makes of them the first so many places, up to `MAX_PARTS`.
-fn fill(places: &mut PendingSet, count: usize)
-    ensures { places.new ≡ below (min count max_parts) }
+/// Keeps of these places those of calls whose place the message's reply does not take. Where `are_apart` says that the reply
+/// takes one place at most, and that is the first, no other is looked at.
+fn keep_unanswered(
+    places: &mut PendingSet,
+    part: &CallBatch,
+    parts: u32,
+    message: &Message,
+    are_apart: bool,
+)
+    requires parts { IsParts parts }
+    requires apart { are_apart ≡ true
+        → AnswersOne (batch_calls parts part.now) message.now places.old }
+    ensures { places.new ≡ filter (λ place. not (is_answered_at (batch_calls parts part.now) message.now place)) places.old }
 {
-    places.clear();
-    for place in 0..count.min(MOST_PLACES) {
-        places.push(place as u8);
+    if are_apart && is_first_answered(places, part, parts, message) {
+        places.drop_first();
+        return;
+    }
+    keep_each_unanswered(places, part, parts, message, are_apart);
+}
+
+/// Whether there is a place, and the message's reply takes that of the call at the first one.
+fn is_first_answered(places: &PendingSet, part: &CallBatch, parts: u32, message: &Message) -> bool
+    requires { IsParts parts }
+    ensures { result ≡ option_map_or (is_answered_at (batch_calls parts part.now) message.now)
+        (slice_get places.now 0) false }
+{
+    match places.as_slice().get(0) {
+        Some(place) => part.is_answered_at(parts, usize::from(*place), message),
+        None => false,
     }
 }
 
-/// Keeps of these places those of calls whose place the message's reply does not take. Each is moved forward where it lies. Where
-/// `are_apart` says that the reply takes one place at most, no call is compared once that was found.
-fn keep_unanswered(
+/// Does what `keep_unanswered` does, place by place: each that is kept is moved forward where it lies. Where `are_apart` says
+/// that the reply takes one place at most, no call is compared once that was found. It stands alone, since replies mostly come
+/// in the order of the calls.
+#[inline(never)]
+fn keep_each_unanswered(
     places: &mut PendingSet,
     part: &CallBatch,
     parts: u32,
@@ -71,7 +91,7 @@ fn fill_all(places: &mut PendingSet, part: &CallBatch, parts: u32)
         ≤ length (batch_calls parts part.now) }
     ensures once { AllPairs (λ i j. i ≢ j) places.new }
 {
-    fill(places, part.len(parts));
+    places.fill(part.len(parts));
 }
 
 /// Whether each of these partitions is above the one before it.
@@ -122,7 +142,7 @@ impl Waiting {
         Waiting {
             part: CallBatch::none(tag),
             parts: 1,
-            places: PendingSet::empty(0),
+            places: PendingSet::none(),
             are_apart: false,
         }
     }

@@ -1,6 +1,6 @@
 use Rattle.std.proofs.Common.{◌≡◌, ℕ, ◌<◌, ◌≤◌, true, not, filter, take, drop, length, get_or}
 use Rattle.tenant_sessions.specs.Parts.{batch_calls, is_answered_at}
-use Rattle.tenant_sessions.proofs.waiting.keep_unanswered.Given as goal
+use Rattle.tenant_sessions.proofs.waiting.keep_each_unanswered.Given as goal
 
 -- of the places so far those are kept at which the message answers no call, and what follows stands as it did; where one was found,
 -- the message answers the call at a place so far, and no other
