@@ -314,6 +314,7 @@ impl CallBatch {
 
     /// Whether a reply to the message's call takes the place of one to the call at this place. This compares keys and
     /// partitions: a call has some hundreds of bytes.
+    #[inline(always)]
     pub(crate) fn is_answered_at(&self, parts: u32, place: usize, message: &Message) -> bool
         requires { IsParts parts }
         ensures { result ≡ is_answered_at (batch_calls parts self.now) message.now place }
