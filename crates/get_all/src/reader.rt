@@ -117,26 +117,25 @@ impl Reader {
     pub fn take(&mut self, key: &Key, round: u8, reply: &ReadReply) -> ReadMove
         ensures { TakesInRound key.now round reply.now self.old result self.new }
     {
-        let kind = self.take_kind(key, round, reply);
+        let mut kind = ReadMoveKind::Ignored;
+        self.take_kind(key, round, reply, &mut kind);
         self.told(kind)
     }
 
-    /// Does what `take` does, and leaves out what is asked for or read. A move may have a key, so it is written where it is returned.
+    /// Does what `take` does, leaves out what is asked for or read, and writes the move into the caller's buffer.
     #[inline(always)]
-    pub fn take_kind(&mut self, key: &Key, round: u8, reply: &ReadReply) -> ReadMoveKind
-        ensures { TakesInRound key.now round reply.now self.old (told_by self.new result) self.new }
+    pub fn take_kind(&mut self, key: &Key, round: u8, reply: &ReadReply, kind: &mut ReadMoveKind)
+        ensures { TakesInRound key.now round reply.now
+            self.old (told_by self.new kind.new) self.new }
     {
         if self.has_ended {
-            return ReadMoveKind::Ignored;
+            *kind = ReadMoveKind::Ignored;
+            return;
         }
         match round {
-            1 => {
-                let mut kind = ReadMoveKind::Ignored;
-                self.take_first(key, reply, &mut kind);
-                kind
-            }
-            2 => self.take_second(key, reply),
-            _ => ReadMoveKind::Ignored,
+            1 => self.take_first(key, reply, kind),
+            2 => *kind = self.take_second(key, reply),
+            _ => *kind = ReadMoveKind::Ignored,
         }
     }
 

@@ -20,24 +20,26 @@ use crate::{Discards, MoveKind};
 use get_all::{ReadMoveKind, Reader};
 use plain_store::{Call, Message, Readings, Refusal, Reply};
 
-/// Offers a reply to the reader.
-fn offer(reader: &mut Reader, message: &Message) -> ReadMoveKind
-    ensures { OffersToReader message.now reader.old result reader.new }
+/// Offers a reply to the reader, and puts what that does into the caller's buffer.
+fn offer(reader: &mut Reader, message: &Message, kind: &mut ReadMoveKind)
+    ensures { OffersToReader message.now reader.old kind.new reader.new }
 {
     match &message.reply {
-        Some(reply) => offer_reply(reader, message, reply),
-        None => ReadMoveKind::Ignored,
+        Some(reply) => offer_reply(reader, message, reply, kind),
+        None => *kind = ReadMoveKind::Ignored,
     }
 }
 
-/// Offers the message's reply to the reader.
-fn offer_reply(reader: &mut Reader, message: &Message, reply: &Reply) -> ReadMoveKind
+/// Offers the message's reply to the reader, and puts what that does into the caller's buffer.
+fn offer_reply(reader: &mut Reader, message: &Message, reply: &Reply, kind: &mut ReadMoveKind)
     ensures { message.now.reply ≡ Some reply.now
-        → OffersToReader message.now reader.old result reader.new }
+        → OffersToReader message.now reader.old kind.new reader.new }
 {
     match (&message.call, reply) {
-        (Call::Get(key, _), Reply::Get(reply)) => reader.take_kind(key, message.round(), reply),
-        _ => ReadMoveKind::Ignored,
+        (Call::Get(key, _), Reply::Get(reply)) => {
+            reader.take_kind(key, message.round(), reply, kind);
+        }
+        _ => *kind = ReadMoveKind::Ignored,
     }
 }
 
@@ -80,7 +82,9 @@ pub(crate) fn take_read(
         → (kind.new ≡ MoveKind.Ignored) × (reader.new ≡ reader.old)
         × (waiting.new ≡ waiting.old) }
 {
-    match offer(reader, message) {
+    let mut answer = ReadMoveKind::Ignored;
+    offer(reader, message, &mut answer);
+    match answer {
         ReadMoveKind::Wait => {
             waiting.forget(message);
             *kind = MoveKind::Wait;
