@@ -25,7 +25,8 @@ pub const MAX_RAISE_BYTES: usize = 4 + 3 * MAX_NUMBER_BYTES;
 
 /// The entry that an operation began. At `Err` some of its bytes may stand there.
 pub fn put_began(out: &mut Buffer, act: &LentAct<'_>) -> Result<(), AllocError>
-    ensures packed { OnOk result (out.new.items ≡ out.old.items ++ packed_entry (Entry.Began (act_lent act.now))) }
+    ensures packed { OnOk result (out.new.items ≡ out.old.items
+        ++ packed_entry (Entry.Began (act_lent act.now))) }
     ensures stored { OnOk result (IsStoreEntry (Entry.Began (act_lent act.now))) }
 {
     out.reserve(1)?;
@@ -140,7 +141,8 @@ impl<'a> PackEntry for AnsweredParts<'a> {
 /// The entry of a reply. It takes up to `MAX_TOOK_BYTES`.
 pub fn put_took(out: &mut Buffer, number: u64, partition: u32, place: u64, reply: &Reply)
     requires { length out.old.items + max_took_bytes ≤ out.old.capacity }
-    ensures packed { out.new.items ≡ out.old.items ++ packed_entry (Entry.Took number partition place reply.now) }
+    ensures packed { out.new.items ≡ out.old.items
+        ++ packed_entry (Entry.Took number partition place reply.now) }
     ensures stored { IsStoreEntry (Entry.Took number partition place reply.now) }
     ensures few { length out.new.items ≤ length out.old.items + max_took_bytes }
     ensures room { out.old.capacity ≤ out.new.capacity }

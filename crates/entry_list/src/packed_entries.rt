@@ -159,7 +159,8 @@ impl EntryList {
     /// are as they were.
     pub fn push_began(&mut self, act: &LentAct<'_>, room: usize) -> Result<(), AllocError>
         requires { room < 2 ^ 32 }
-        ensures ok { OnOk result (self.new.items ≡ self.old.items ++ Entry.Began (act_lent act.now) ∷ []) }
+        ensures ok { OnOk result (self.new.items ≡ self.old.items
+            ++ Entry.Began (act_lent act.now) ∷ []) }
         ensures room { OnOk result (self.new.room ≡ room) }
         ensures err { OnErr result (self.new.items ≡ self.old.items) }
     {
@@ -190,7 +191,8 @@ impl EntryList {
     /// Puts the entry of a reply at the end, for which there is room. It takes no memory.
     pub fn push_took(&mut self, number: u64, partition: u32, place: u64, reply: &Reply)
         requires { 0 < self.old.room }
-        ensures items { self.new.items ≡ self.old.items ++ Entry.Took number partition place reply.now ∷ [] }
+        ensures items { self.new.items ≡ self.old.items
+            ++ Entry.Took number partition place reply.now ∷ [] }
         ensures room { self.new.room + 1 ≡ self.old.room }
     {
         let parts = TookParts {

@@ -91,7 +91,8 @@ impl<'a, G: Naming> Dispatcher<'a, G> {
     ) -> Result<Dispatcher<'a, G>, AllocError>
         requires parts { IsParts parts }
         requires opening { ∥ HasParts opening parts ∥₁ }
-        ensures given { IfOk result (λ queues. (queues.pool.client ≡ client) × (queues.parts ≡ parts)
+        ensures given { IfOk result (λ queues. (queues.pool.client ≡ client)
+            × (queues.parts ≡ parts)
             × (queues.jobs ≡ jobs) × (queues.shards.now ≡ shards.now)) }
         ensures none_staged { IfOk result (λ queues. (queues.calls.items ≡ []) × (queues.served ≡ 0)
             × (queues.queued ≡ 0) × (queues.sent ≡ 0)) }

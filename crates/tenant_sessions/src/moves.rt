@@ -264,7 +264,8 @@ impl MoveKind {
     /// The stamp of each DISCARD that is sent at the transaction's end; nothing else is sent then.
     pub fn discarded(&self) -> Stamp
         ensures { (readings : List Reading)
-            → All (λ (out : Outgoing). out.call ≡ Discard result) (ending (moved self.now readings)) }
+            → All (λ (out : Outgoing). out.call ≡ Discard result)
+            (ending (moved self.now readings)) }
     {
         match self {
             MoveKind::Ended(_, discards) => discards.stamp(),

@@ -65,7 +65,8 @@ fn discards_of(refusal: Refusal, stamp: Stamp, writer: &Writer) -> Discards
 /// Waits for the COMMITs of this stamp at these partitions. It stands alone, so that no other reply has room for a part.
 fn await_commits(stamp: Stamp, partitions: Partitions, waiting: &mut Waiting, parts: u32)
     requires { IsParts parts }
-    ensures awaits { Awaits (batch_calls parts (Commits stamp partitions)) (length partitions) waiting.new }
+    ensures awaits { Awaits (batch_calls parts (Commits stamp partitions))
+        (length partitions) waiting.new }
     ensures commits { All (λ out. out.call ≡ Commit stamp) waiting.new }
 {
     waiting.commit(stamp, partitions, parts);

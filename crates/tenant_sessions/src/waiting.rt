@@ -28,7 +28,8 @@ fn keep_unanswered(
     requires parts { IsParts parts }
     requires apart { are_apart ≡ true
         → AnswersOne (batch_calls parts part.now) message.now places.old }
-    ensures { places.new ≡ filter (λ place. not (is_answered_at (batch_calls parts part.now) message.now place)) places.old }
+    ensures { places.new ≡ filter (λ place. not
+        (is_answered_at (batch_calls parts part.now) message.now place)) places.old }
 {
     if are_apart && is_first_answered(places, part, parts, message) {
         places.drop_first();
@@ -63,7 +64,8 @@ fn keep_each_unanswered(
     requires parts { IsParts parts }
     requires apart { are_apart ≡ true
         → AnswersOne (batch_calls parts part.now) message.now places.old }
-    ensures { places.new ≡ filter (λ place. not (is_answered_at (batch_calls parts part.now) message.now place)) places.old }
+    ensures { places.new ≡ filter (λ place. not
+        (is_answered_at (batch_calls parts part.now) message.now place)) places.old }
 {
     let mut kept = 0;
     let mut is_found = false;
@@ -164,7 +166,8 @@ impl Waiting {
     /// The COMMITs of this stamp at these partitions.
     pub(crate) fn commit(&mut self, stamp: Stamp, partitions: Partitions, parts: u32)
         requires parts { IsParts parts }
-        ensures awaits { Awaits (batch_calls parts (Commits stamp partitions)) (length partitions) self.new }
+        ensures awaits { Awaits (batch_calls parts (Commits stamp partitions))
+            (length partitions) self.new }
         ensures commits { All (λ out. out.call ≡ Commit stamp) self.new }
     {
         let are_apart = are_ascending(partitions.as_slice());

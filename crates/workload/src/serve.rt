@@ -87,7 +87,8 @@ pub fn run_server<
 ) -> Result<(), ProgramFault>
     ensures { ServesAndTells options.unrecorded options.counts
         (view_with config (not options.unrecorded))
-        names.now (TellsPortFor options.port) (W.contents writer.old) (W.contents writer.new) result }
+        names.now (TellsPortFor options.port) (W.contents writer.old)
+        (W.contents writer.new) result }
 {
     let Ok(listener) = Listener::bind(rt, options.port) else {
         return Err(ProgramFault::Device);

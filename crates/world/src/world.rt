@@ -122,7 +122,8 @@ impl World {
     /// Takes the steps in order, and adds the answer of each. Where an allocation fails it stops before the step that met
     /// this, and the answers are those to the steps before it.
     pub fn run(&mut self, steps: &[Step], answers: &mut Vec<Answer>) -> Result<(), OutOfMemory>
-        ensures { RunsOn steps.now answers.old.items answers.new.items self.old self.new (is_ok result) }
+        ensures { RunsOn steps.now answers.old.items answers.new.items self.old self.new
+            (is_ok result) }
     {
         for step in steps {
             self.answer(step, answers)?;
