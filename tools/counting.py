@@ -48,7 +48,7 @@ prepare_commit/src/versions.rt: insert
 version_chain/src/chains.rt: insert_from
 """,
     "COMMIT": TO_PUT + """
-hub/src/operation.rt: take_replies enter_reply enter_served follow send_asked
+hub/src/operation.rt: take_replies enter_reply follow send_asked
 """ + TO_CELL + """
 prepare_commit/src/cell.rt: apply_into commit commit_counted
 prepare_commit/src/versions.rt: commit

@@ -67,13 +67,6 @@ impl SeatEntries {
         self.is_recorded = false;
     }
 
-    /// Whether the entries are recorded.
-    pub fn is_recorded(&self) -> bool
-        ensures { result ≡ self.now.recorded }
-    {
-        self.is_recorded
-    }
-
     /// Puts the entry that an operation began at the end, and makes room for so many replies behind it. At `Err` the entries
     /// are as they were.
     pub fn push_began(&mut self, act: &LentAct<'_>, room: usize) -> Result<(), AllocError>

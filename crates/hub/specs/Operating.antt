@@ -43,6 +43,12 @@ OnlySends old new =
     (new.name ≡ old.name) × (new.session ≡ old.session) × (new.entries ≡ old.entries) × (new.first ≡ old.first)
     × (new.place ≡ old.place) × (new.fault ≡ old.fault) × (new.readings ≡ old.readings) × (new.seen ≡ old.seen) × (new.mark ≡ old.mark)
 
+-- one call more is staged
+pub record StagesOne {G : Type 0} {naming : Ghosts G} (old new : RunningOperation G naming) : Type 0 where
+  pub counted : new.dispatcher.sent ≡ old.dispatcher.sent + 1
+  pub parts : new.dispatcher.parts ≡ old.dispatcher.parts
+  pub rest : OnlySends old new
+
 -- it is the same seat's, whose calls are numbered on from the same place, and what was seen of the history is seen still
 pub record IsSameSeat {G : Type 0} {naming : Ghosts G} (old new : RunningOperation G naming) : Type 0 where
   pub name : new.name ≡ old.name

@@ -21,7 +21,7 @@ impl<'a, G: Gate + Naming> Seat<'a, G> {
     /// it is above the stamp of each such put of the tenant that began before, whatever keys and whichever client. `put_all` alone
     /// draws a stamp above those that this client has seen, which may be below what is there; nobody reads such a write.
     ///
-    /// The transcript has two entries before those of the write: the client's counter is raised to one below what was drawn, as if its
+    /// Its entries have two before those of the write: the client's counter is raised to one below what was drawn, as if its
     /// session ended, and began again from there. The answers are those of `put_all`, and 26 where the client's counter is more than 2^32
     /// above the clock, or the clock is used up. No entry is made then, nor where room for these two was refused (30).
     ///

@@ -251,12 +251,11 @@ impl<'a, G: Naming> Dispatcher<'a, G> {
         ensures unchanged { IfNone result (self.new.calls ≡ self.old.calls) }
         ensures left { unserved self.old.served self.old.calls.items
             ≡ unserved self.new.served self.new.calls.items + cond (is_some result) 1 0 }
-        ensures served { self.new.served ≡ self.old.served }
-        ensures sent { self.new.sent ≡ self.old.sent }
+        ensures same { (self.new.served ≡ self.old.served) × (self.new.sent ≡ self.old.sent)
+            × (self.new.queued ≡ self.old.queued) }
         ensures calls { deque_len self.old.calls
             ≡ deque_len self.new.calls + cond (is_some result) 1 0 }
         ensures room { SameRoom self.old self.new }
-        ensures queued { self.new.queued ≡ self.old.queued }
     {
         for at in self.served..self.calls.len() {
             if self.is_left(at) {
@@ -270,15 +269,13 @@ impl<'a, G: Naming> Dispatcher<'a, G> {
     /// Sends a call to its partition's worker. It fails where there is no such partition, and where the queue hands the call back.
     fn enqueue<R: Wait>(&mut self, rt: &R, call: SeatCall<G>) -> bool
         requires { 0 < vec_len self.old.spare }
-        ensures sent { self.new.sent ≡ self.old.sent }
-        ensures calls { self.new.calls ≡ self.old.calls }
-        ensures served { self.new.served ≡ self.old.served }
+        ensures same { (self.new.sent ≡ self.old.sent) × (self.new.calls ≡ self.old.calls)
+            × (self.new.served ≡ self.old.served) × (self.new.pool ≡ self.old.pool) }
         ensures refused { result ≡ false → self.new.queued ≡ self.old.queued }
         ensures queued { IsTrue result → self.new.queued ≡ min (self.old.queued + 1) (2 ^ 64 - 1) }
         ensures moved { IsTrue result
             → HasSentAt call.partition self.old.jobs.items self.new.jobs.items }
         ensures ends { vec_len self.old.spare ≡ vec_len self.new.spare + 1 }
-        ensures pool { self.new.pool ≡ self.old.pool }
     {
         let reply_to = self.spare.pop().unwrap();
         let Some(queue) = self.jobs.get_mut(call.partition as usize) else {
@@ -322,10 +319,9 @@ impl<'a, G: Naming> Dispatcher<'a, G> {
 
     /// Does what is due at a partition once its lock is released.
     fn follow_up<R: Wait>(&mut self, rt: &R, shard: &Shard<G>, follow_up: FollowUp)
-        ensures sent { self.new.sent ≡ self.old.sent }
-        ensures calls { (self.new.calls ≡ self.old.calls) × (self.new.queued ≡ self.old.queued) }
+        ensures same { (self.new.sent ≡ self.old.sent) × (self.new.calls ≡ self.old.calls)
+            × (self.new.queued ≡ self.old.queued) × (self.new.served ≡ self.old.served) }
         ensures room { SameRoom self.old self.new }
-        ensures served { self.new.served ≡ self.old.served }
     {
         let collected = follow_up.collects && collect_at(rt, shard).cuts();
         if (follow_up.cuts || collected)
@@ -356,10 +352,9 @@ impl<'a, G: Gate + Naming> Dispatcher<'a, G> {
         ensures calls { deque_len self.new.calls ≡ deque_len self.old.calls + 1 }
         ensures staged { IsStagedNext name.now self.old.parts number
             (Some (without_reply message.value)) self.old.calls.items self.new.calls.items }
-        ensures parts { self.new.parts ≡ self.old.parts }
-        ensures pool { self.new.pool ≡ self.old.pool }
+        ensures same { (self.new.parts ≡ self.old.parts) × (self.new.pool ≡ self.old.pool)
+            × (self.new.queued ≡ self.old.queued) }
         ensures room { (calls : ℕ) → HasPlaces (1 + calls) self.old → HasPlaces calls self.new }
-        ensures queued { self.new.queued ≡ self.old.queued }
     {
         let call = self.called(name, number, message, mark, seen);
         let stage = CallState::Pending;

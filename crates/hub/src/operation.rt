@@ -256,7 +256,7 @@ impl<'a, G: Gate + Naming> RunningOperation<'a, G> {
     ghost use Rattle.entry_list.specs.declared.kinds.Entry.{Entry as Entered};
     ghost use Rattle.shard.specs.declared.jobs.Fault.{Fault as Broken};
     ghost use Rattle.hub.specs.Limits.{max_calls};
-    ghost use Rattle.hub.specs.Operating.{BeginsAs, GoesOnAs, IsSameSeat, IsUnderWayAt, KeepsSession, OnlyEnters, OnlySends, ReadsAt, SeesMore, StillFollows, StillServed};
+    ghost use Rattle.hub.specs.Operating.{BeginsAs, GoesOnAs, IsSameSeat, IsUnderWayAt, KeepsSession, OnlyEnters, OnlySends, ReadsAt, SeesMore, StagesOne, StillFollows, StillServed};
     ghost use Rattle.hub.specs.Rooms.{HasPlaces, HasRoom, awaited};
     ghost use Rattle.tenant_sessions.specs.CallsLeft.{calls_left, calls_waiting, calls_sent};
     ghost use Rattle.plain_store.specs.declared.refusal.Refusal.{Refusal as Why};
@@ -654,8 +654,9 @@ impl<'a, G: Gate + Naming> RunningOperation<'a, G> {
         }
     }
 
-    /// Enters a reply to a call of the operation under this stamp, which this thread or a worker served. After a fault nothing is
-    /// entered any more.
+    /// Enters a reply to a call of the operation under this stamp, which this thread or a worker served, hands it to the session, and
+    /// follows its move. One that was not served is a fault, and so is one to a PREPARE or COMMIT under another stamp than this, and one
+    /// of another partition than the call was made for. After a fault nothing is entered any more.
     fn enter_reply<R: Wait>(
         &mut self,
         rt: &R,
@@ -711,64 +712,13 @@ impl<'a, G: Gate + Naming> RunningOperation<'a, G> {
         if self.fault.is_some() {
             return;
         }
-        match reply.outcome {
-            Ok(place) => self.enter_served(rt, own, reply, place, answer),
-            Err(refused) => self.fault = Some(refused),
-        }
-    }
-
-    /// Enters a reply that was served, hands it to the session, and follows its move. One to a PREPARE or COMMIT under another stamp
-    /// than this is a fault, and so is one of another partition than the call was made for.
-    fn enter_served<R: Wait>(
-        &mut self,
-        rt: &R,
-        own: Stamp,
-        reply: &SeatReply<G>,
-        place: u64,
-        answer: &mut Answer,
-    )
-        requires room { 1 + spare self.old.place ≤ self.old.entries.room }
-        requires calls { HasRoom (calls_left self.old.session.running) self.old.dispatcher }
-        requires served { reply.now.outcome ≡ Ok place }
-        requires own { (reply.now.tenant ≡ self.old.name.tenant)
-            × (reply.now.seat ≡ self.old.name.seat) × (reply.now.mark ≡ self.old.mark) }
-        requires front { IsPrefix reply.now.front self.old.seen }
-        requires under_way { IsUnderWayAt
-            (operation_of self.old.name self.old.mark self.old.seen) own self.old answer.old }
-        ensures calls { HasRoom (calls_left self.new.session.running) self.new.dispatcher }
-        ensures under_way { IsUnderWayAt
-            (operation_of self.old.name self.old.mark self.new.seen) own self.new answer.new }
-        ensures took { (told : Served) → reply.now.message.value.reply ≡ Some told
-            → IsUnder own reply.now.message.value.call
-            → reply.now.message.value.partition ≡ reply.now.partition
-            → Extends (self.old.entries.items
-            ++ Entry.Took reply.now.number reply.now.partition place told
-            ∷ []) self.new.entries.items }
-        ensures room { self.old.entries.room + spare self.new.place
-            ≤ self.new.entries.room + 1 + spare self.old.place }
-        ensures replies { replies_in self.new.entries.items
-            ≤ replies_in self.old.entries.items + 1 }
-        ensures ends { EndsSo self.old.place answer.old → EndsSo self.new.place answer.new }
-        ensures entered { StillFollows self.old answer.old self.new answer.new }
-        ensures read { (sight : OperationSight) (setup : Setup) (asked : Asked)
-            (start : List Entered)
-            → IsStampOf own asked → reply.now.outcome ≡ Ok place → reply.now.tenant ≡ sight.tenant
-            → reply.now.seat ≡ sight.seat → reply.now.mark ≡ sight.mark
-            → IsPrefix reply.now.front sight.seen
-            → ReadsAt sight setup asked start self.old answer.old
-            → ReadsAt sight setup asked start self.new answer.new }
-        ensures served { (first last : ℕ) (start : List Entered) → reply.now.outcome ≡ Ok place
-            → reply.now.tenant ≡ self.old.name.tenant → reply.now.seat ≡ self.old.name.seat
-            → IsPrefix reply.now.front self.old.seen → first < reply.now.number
-            → reply.now.number ≤ last
-            → AreServed
-            (sight_of self.old.name self.old.seen) first last start self.old.entries.items
-            → AreServed
-            (sight_of self.old.name self.new.seen) first last start self.new.entries.items }
-        ensures sent { self.old.dispatcher.sent ≤ self.new.dispatcher.sent }
-        ensures counter { self.old.session.counter ≤ self.new.session.counter }
-        ensures goes_on { GoesOnAs self.old self.new }
-    {
+        let place = match reply.outcome {
+            Ok(place) => place,
+            Err(refused) => {
+                self.fault = Some(refused);
+                return;
+            }
+        };
         let message = &*reply.message;
         let Some(told) = &message.reply else {
             self.fault = Some(Fault::NoTenant);
@@ -829,10 +779,7 @@ impl<'a, G: Gate + Naming> RunningOperation<'a, G> {
             → AreServed
             (sight_of self.old.name self.new.seen) first last start self.new.entries.items }
         ensures session { self.new.session ≡ self.old.session }
-        ensures seen { IsPrefix self.old.seen self.new.seen }
-        ensures mark { self.new.mark ≡ self.old.mark }
-        ensures name { self.new.name ≡ self.old.name }
-        ensures first { self.new.first ≡ self.old.first }
+        ensures same { GoesOnAs self.old self.new }
     {
         if taken.is_last() {
             self.enter_end(taken, answer);
@@ -972,8 +919,7 @@ impl<'a, G: Gate + Naming> RunningOperation<'a, G> {
             (waiting_of self.old.session.running) ∥₁ }
         ensures room { (calls : ℕ) → HasRoom (1 + calls) self.old.dispatcher
             → HasRoom calls self.new.dispatcher }
-        ensures counted { self.new.dispatcher.sent ≡ self.old.dispatcher.sent + 1 }
-        ensures parts { self.new.dispatcher.parts ≡ self.old.dispatcher.parts }
+        ensures one { StagesOne self.old self.new }
         ensures staged { (setup : Setup) (asked : Asked) (taken : List Sent) (running : Running)
             → self.old.session.running ≡ Some running → RunningStands setup asked taken running
             → IsStagedNext self.old.name self.old.dispatcher.parts
@@ -982,7 +928,6 @@ impl<'a, G: Gate + Naming> RunningOperation<'a, G> {
             (map (call_message self.old.name.client self.old.session.ticket)
             (waiting_calls setup asked taken)) nth)
             self.old.dispatcher.calls.items self.new.dispatcher.calls.items }
-        ensures rest { OnlySends self.old self.new }
     {
         let dispatcher = &mut self.dispatcher;
         let mut message = dispatcher.pool.take(commits);
@@ -1058,8 +1003,7 @@ impl<'a, G: Gate + Naming> RunningOperation<'a, G> {
             (ending (moved taken.now self.old.readings.value)) }
         ensures room { (calls : ℕ) → HasRoom (1 + calls) self.old.dispatcher
             → HasRoom calls self.new.dispatcher }
-        ensures counted { self.new.dispatcher.sent ≡ self.old.dispatcher.sent + 1 }
-        ensures parts { self.new.dispatcher.parts ≡ self.old.dispatcher.parts }
+        ensures one { StagesOne self.old self.new }
         ensures staged { (told : List Shown)
             → IsStagedNext self.old.name self.old.dispatcher.parts
             (self.old.first + 1 + self.old.dispatcher.sent)
@@ -1068,7 +1012,6 @@ impl<'a, G: Gate + Naming> RunningOperation<'a, G> {
             (ending
             (moved taken.now told))) nth)
             self.old.dispatcher.calls.items self.new.dispatcher.calls.items }
-        ensures rest { OnlySends self.old self.new }
     {
         let dispatcher = &mut self.dispatcher;
         let mut message = dispatcher.pool.take(false);
@@ -1084,14 +1027,12 @@ impl<'a, G: Gate + Naming> RunningOperation<'a, G> {
         ensures room { (calls : ℕ) → HasPlaces (1 + calls) self.old.dispatcher
             → HasPlaces calls self.new.dispatcher }
         ensures pool { self.new.dispatcher.pool ≡ self.old.dispatcher.pool }
-        ensures counted { self.new.dispatcher.sent ≡ self.old.dispatcher.sent + 1 }
-        ensures parts { self.new.dispatcher.parts ≡ self.old.dispatcher.parts }
+        ensures one { StagesOne self.old self.new }
         ensures staged { IsStagedNext self.old.name self.old.dispatcher.parts
             (self.old.first + 1 + self.old.dispatcher.sent)
             (Some
             (without_reply message.value))
             self.old.dispatcher.calls.items self.new.dispatcher.calls.items }
-        ensures rest { OnlySends self.old self.new }
     {
         let number = self.first + 1 + self.dispatcher.sent() as u64;
         self.dispatcher

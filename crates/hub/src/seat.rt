@@ -171,8 +171,8 @@ impl<'a, G: Gate + Naming> Seat<'a, G> {
     /// Writes the items, and returns when all calls were answered.
     ///
     /// Where the seat was stopped it answers 19, where its calls are used up 26, and where room for the operation was
-    /// refused 30: nothing has changed then. 10, 25 and 30 of a worker stop the seat. Each other answer stands in the
-    /// transcript, after the entry that this began and among the replies to its calls. Each reply is that of its place in the
+    /// refused 30: nothing has changed then. 10, 25 and 30 of a worker stop the seat. Each other answer stands among the
+    /// seat's entries, behind the one that this began and among the replies to its calls. Each reply is that of its place in the
     /// tenant's journal at its partition, to a call of this operation: one whose number is above those sent before.
     ///
     /// That it is done is the writer's answer to replies that this operation entered, whatever they are, each given to just the

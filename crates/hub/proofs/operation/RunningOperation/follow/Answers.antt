@@ -3,6 +3,7 @@ use mathlib.Core.List.{IsPrefix}
 use Rattle.history.proofs.Lists.{prefix_join, prefix_of_itself}
 use Rattle.tenant_sessions.specs.CallsLeft.{calls_left, calls_sent, calls_waiting}
 use Rattle.tenant_sessions.specs.Moves.{moved}
+use Rattle.hub.specs.Operating.{GoesOnAs}
 use Rattle.hub.specs.Rooms.{HasRoom}
 use Rattle.hub.specs.Replies.{AreServed}
 use Rattle.hub.specs.Sights.{sight_of}
@@ -92,21 +93,39 @@ returns-else-sends-clause-counted g c =
       | else-sends-via-else-sends w ↦ subst P (sym w.self-is) (omega arith)
     ]
 
--- and what is seen goes on
-pub returns-else-sends-clause-seen : goal.returns-else-sends-clause-seen
-returns-else-sends-clause-seen g c =
+-- and it goes on
+pub returns-else-sends-clause-same : goal.returns-else-sends-clause-same
+returns-else-sends-clause-same g c =
     let before = c.args.self.now in
-    let P : RunningOperation g.row.G.Denot g.G.Naming → Type 0 = λ o. IsPrefix before.seen o.seen in
+    let P : RunningOperation g.row.G.Denot g.G.Naming → Type 0 = λ o. GoesOnAs before o in
     elim c.else-sends.branch [
-      | else-sends-via-then-sends+else-not-send_asked w ↦ subst P (sym w.self-is) w.send_asked.ensures.seen
-      | else-sends-via-else-sends w ↦ subst P (sym w.self-is) (prefix_of_itself before.seen)
+      | else-sends-via-then-sends+else-not-send_asked w ↦
+          let rest = w.send_asked.ensures.rest in
+          subst P (sym w.self-is) (record { name = rest.0; first = rest.3; seen = w.send_asked.ensures.seen; mark = rest.7 })
+      | else-sends-via-else-sends w ↦ subst P (sym w.self-is) (record { name = refl; first = refl; seen = prefix_of_itself before.seen; mark = refl })
     ]
 
-pub returns-then-not-send_ending-clause-seen : goal.returns-then-not-send_ending-clause-seen
-returns-then-not-send_ending-clause-seen g c = prefix_join _ _ _ (prefix_is _ _ (sym c.enter_end.ensures.only.seen)) c.send_ending.ensures.seen
+pub returns-then-not-send_ending-clause-same : goal.returns-then-not-send_ending-clause-same
+returns-then-not-send_ending-clause-same g c =
+    let only = c.enter_end.ensures.only in
+    let rest = c.send_ending.ensures.rest in
+    record {
+      name = rest.0 ∙ only.name;
+      first = rest.3 ∙ only.first;
+      seen = prefix_join _ _ _ (prefix_is _ _ (sym only.seen)) c.send_ending.ensures.seen;
+      mark = rest.7 ∙ only.mark;
+    }
 
-pub returns-else-not-send_ending-clause-seen : goal.returns-else-not-send_ending-clause-seen
-returns-else-not-send_ending-clause-seen g c = prefix_join _ _ _ (prefix_is _ _ (sym c.enter_end.ensures.only.seen)) c.send_ending.ensures.seen
+pub returns-else-not-send_ending-clause-same : goal.returns-else-not-send_ending-clause-same
+returns-else-not-send_ending-clause-same g c =
+    let only = c.enter_end.ensures.only in
+    let rest = c.send_ending.ensures.rest in
+    record {
+      name = rest.0 ∙ only.name;
+      first = rest.3 ∙ only.first;
+      seen = prefix_join _ _ _ (prefix_is _ _ (sym only.seen)) c.send_ending.ensures.seen;
+      mark = rest.7 ∙ only.mark;
+    }
 
 -- by which each reply so far stands
 pub returns-then-not-send_asked-clause-served : goal.returns-then-not-send_asked-clause-served
@@ -144,13 +163,3 @@ returns-else-not-send_ending-clause-served g c first last start are =
     let now = c.send_ending.new.self in
     let later = served-later (sight_of name ended.seen) (sight_of name now.seen) first last start ended.entries.items (record { tenant = refl; seat = refl; seen = c.send_ending.ensures.seen }) (c.enter_end.ensures.served first last start are) in
     served-same (sight_of name now.seen) (sight_of name now.seen) first first last last start ended.entries.items now.entries.items refl refl (omega arith) (ap (λ e. e.items) c.send_ending.ensures.rest.2) later
-
--- within the same operation
-pub returns-else-sends-clause-mark : goal.returns-else-sends-clause-mark
-returns-else-sends-clause-mark g c =
-    let before = c.args.self.now in
-    let P : RunningOperation g.row.G.Denot g.G.Naming → Type 0 = λ o. o.mark ≡ before.mark in
-    elim c.else-sends.branch [
-      | else-sends-via-then-sends+else-not-send_asked w ↦ subst P (sym w.self-is) w.send_asked.ensures.rest.7
-      | else-sends-via-else-sends w ↦ subst P (sym w.self-is) refl
-    ]

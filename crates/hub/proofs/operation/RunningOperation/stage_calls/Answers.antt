@@ -34,7 +34,7 @@ stage_call-requires-clause-puts g c =
 pub loop-nth-preserved : goal.loop-nth-preserved
 loop-nth-preserved g c =
     let so_far = c.loop-nth.invariant in
-    let rest = c.stage_call.ensures.rest in
+    let rest = c.stage_call.ensures.one.rest in
     record {
       name = rest.0 ∙ so_far.name;
       session = rest.1 ∙ so_far.session;
@@ -45,8 +45,8 @@ loop-nth-preserved g c =
       readings = rest.6 ∙ so_far.readings;
       seen = rest.7 ∙ so_far.seen;
       mark = rest.8 ∙ so_far.mark;
-      sent = omega (arith, c.stage_call.ensures.counted, so_far.sent);
-      parts = c.stage_call.ensures.parts ∙ so_far.parts;
+      sent = omega (arith, c.stage_call.ensures.one.counted, so_far.sent);
+      parts = c.stage_call.ensures.one.parts ∙ so_far.parts;
       staged = λ setup asked taken running is stands.
           let before = c.args.self.now in
           let now = c.loop-nth.self in

@@ -1,4 +1,4 @@
-use Rattle.std.proofs.Common.{◌≡◌, ℕ, List, Some, refl, sym, ap, arith, subst}
+use Rattle.std.proofs.Common.{◌≡◌, ℕ, List, Ok, Some, refl, sym, ap, arith, subst}
 use Rattle.std.proofs.Math.Logic.{∥∥₁_map, ∥∥₁_map₂}
 use Rattle.plain_store.specs.History.{Intent as Asked}
 use Rattle.history.specs.declared.entry.HistoryEntry.{HistoryEntry}
@@ -20,7 +20,7 @@ use Rattle.hub.proofs.Given.{came-taken, prefix_is, served-same, served-took, si
 use Rattle.hub.specs.Sights.{operation_of, sight_of}
 use Rattle.hub.specs.Replies.{IsUnder, IsOf, IsStampOf}
 use Rattle.hub.proofs.Replies.{reads-served, under-asked}
-use Rattle.hub.proofs.operation.RunningOperation.enter_served.Goals as goal
+use Rattle.hub.proofs.operation.RunningOperation.enter_reply.Goals as goal
 
 pub returns-clause-entered : goal.returns-clause-entered
 returns-clause-entered g c start follows =
@@ -29,14 +29,15 @@ returns-clause-entered g c start follows =
     (follows-same start _ _ c.push_took.new.self.entries.items c.push_took.ensures.took (follows-took start _ c.args.self.now.entries.items _ refl refl follows)))
 
 pub returns-clause-read : goal.returns-clause-read
-returns-clause-read g c name setup asked start stamped is its own marked pre reads =
+returns-clause-read g c name setup asked start stamped its own marked pre reads =
     let reply = c.args.reply.now in
+    let is : reply.outcome ≡ Ok c.in-Ok.place = cc in
     let has : reply.message.value.reply ≡ Some c.in-Some.told = cc in
     let under : IsUnder c.args.own c.deref-message.result.now.call = c.is_under.ensures.0 c.if-not-is_under.false in
     let of : IsOf asked reply.message.value.call = under-asked c.args.own asked _ stamped (subst (λ (m : Message). IsUnder c.args.own m.call) c.deref-message.ensures under) in
     let at : reply.message.value.partition ≡ reply.partition = subst (λ (m : Message). m.partition ≡ reply.partition) c.deref-message.ensures c.if-message-reply.false in
     let enters = λ (m : Message) (same : IsTakenFor c.deref-message.result.now m).
-    came-taken name reply.front reply.mark asked reply.partition reply.tenant reply.seat reply.number c.args.place reply.message.value m reply.outcome _ pre is has its own marked reply.came of at
+    came-taken name reply.front reply.mark asked reply.partition reply.tenant reply.seat reply.number c.in-Ok.place reply.message.value m reply.outcome _ pre is has its own marked reply.came of at
     (subst (λ (from : Message). IsTakenFor from m) c.deref-message.ensures same) in
     let served = reads-served name setup asked start c.args.self.now.entries.items c.push_took.new.self.entries.items c.args.self.now.session c.push_took.new.self.session c.move_into.new.self c.args.self.now.place c.push_took.new.self.place c.args.answer.now _ _ _ _ _ _
     c.push_took.ensures.took c.push_took.ensures.only.session c.push_took.ensures.place enters c.move_into.ensures.shown reads in
@@ -46,18 +47,19 @@ returns-clause-read g c name setup asked start stamped is its own marked pre rea
 pub returns-clause-under_way : goal.returns-clause-under_way
 returns-clause-under_way g c =
     let before = c.args.self.now in
-    let seen = prefix_join _ _ _ (prefix_is _ _ (sym c.push_took.ensures.only.seen)) c.follow.ensures.seen in
+    let seen = prefix_join _ _ _ (prefix_is _ _ (sym c.push_took.ensures.only.seen)) c.follow.ensures.same.seen in
     let now = operation_of before.name before.mark c.follow.new.self.seen in
     ∥∥₁_map c.requires.under_way
     (under_way_on (operation_of before.name before.mark before.seen) now c.args.own _ _ _ _ _ _ (record { tenant = refl; seat = refl; mark = refl; seen = seen })
     (λ setup asked start stamped reads.
-    returns-clause-read g c now setup asked start stamped c.requires.served c.requires.own.0 c.requires.own.1 c.requires.own.2 (prefix_join _ _ _ c.requires.front seen) reads))
+    returns-clause-read g c now setup asked start stamped c.requires.own.0 c.requires.own.1 c.requires.own.2 (prefix_join _ _ _ c.requires.front seen) reads))
 
 -- where the move is that the put is decided, it may be
 pub follow-requires-clause-decided : goal.follow-requires-clause-decided
 follow-requires-clause-decided g c stamp is =
     let before = c.args.self.now in
     let reply = c.args.reply.now in
+    let is-served : reply.outcome ≡ Ok c.in-Ok.place = cc in
     let kept = c.push_took.new.self in
     let sight = operation_of before.name before.mark before.seen in
     let has : reply.message.value.reply ≡ Some c.in-Some.told = cc in
@@ -65,26 +67,27 @@ follow-requires-clause-decided g c stamp is =
     let under_own : IsUnder c.args.own reply.message.value.call = subst (λ (m : Message). IsUnder c.args.own m.call) c.deref-message.ensures under in
     let at : reply.message.value.partition ≡ reply.partition = subst (λ (m : Message). m.partition ≡ reply.partition) c.deref-message.ensures c.if-message-reply.false in
     let enters = λ (asked : Asked) (stamped : IsStampOf c.args.own asked) (m : Message) (same : IsTakenFor c.deref-message.result.now m).
-    came-taken sight reply.front reply.mark asked reply.partition reply.tenant reply.seat reply.number c.args.place reply.message.value m reply.outcome _ c.requires.front c.requires.served has c.requires.own.0 c.requires.own.1 c.requires.own.2 reply.came
+    came-taken sight reply.front reply.mark asked reply.partition reply.tenant reply.seat reply.number c.in-Ok.place reply.message.value m reply.outcome _ c.requires.front is-served has c.requires.own.0 c.requires.own.1 c.requires.own.2 reply.came
     (under-asked c.args.own asked _ stamped under_own) at (subst (λ (from : Message). IsTakenFor from m) c.deref-message.ensures same) in
     let Q : ClientSession → Type 0 = λ s. IsUnderWay sight c.args.own before.entries.items s.running (told_by before.place c.args.answer.now) in
     let P : ℕ → Type 0 = λ t. MayBeDecided before.seen t stamp in
     let R : List HistoryEntry → Type 0 = λ l. MayBeDecided l kept.name.tenant stamp in
     ∥∥₁_map₂ c.requires.under_way before.legal (λ u legal.
     subst R (sym c.push_took.ensures.only.seen) (subst P (sym (ap (λ (n : SeatName). n.tenant) c.push_took.ensures.only.name))
-    (under_way_decided sight c.args.own before.entries.items kept.session.running _ _ c.deref-message.result.now _ (Took reply.number reply.partition c.args.place c.in-Some.told) stamp legal enters c.move_into.ensures.shown (ap (λ k. moved k c.move_into.new.readings) is)
+    (under_way_decided sight c.args.own before.entries.items kept.session.running _ _ c.deref-message.result.now _ (Took reply.number reply.partition c.in-Ok.place c.in-Some.told) stamp legal enters c.move_into.ensures.shown (ap (λ k. moved k c.move_into.new.readings) is)
     (subst Q (sym c.push_took.ensures.only.session) u))))
 
 pub returns-clause-served : goal.returns-clause-served
-returns-clause-served g c first last start is its own pre behind up_to are =
+returns-clause-served g c first last start its own pre behind up_to are =
     let reply = c.args.reply.now in
+    let is : reply.outcome ≡ Ok c.in-Ok.place = cc in
     let before = sight_of c.args.self.now.name c.args.self.now.seen in
     let between = sight_of c.push_took.new.self.name c.push_took.new.self.seen in
     let has : reply.message.value.reply ≡ Some c.in-Some.told = cc in
     served-same (sight_of c.push_took.new.self.name c.follow.new.self.seen) (sight_of c.args.self.now.name c.follow.new.self.seen) first first last last start c.follow.new.self.entries.items c.follow.new.self.entries.items
     (sights _ _ _ _ (sym c.push_took.ensures.only.name) refl) refl (omega arith) refl
     (c.follow.ensures.served first last start
-    (served-took between before reply.front reply.mark first last start c.args.self.now.entries.items c.push_took.new.self.entries.items reply.partition reply.tenant reply.seat reply.number c.args.place reply.message.value reply.outcome _
+    (served-took between before reply.front reply.mark first last start c.args.self.now.entries.items c.push_took.new.self.entries.items reply.partition reply.tenant reply.seat reply.number c.in-Ok.place reply.message.value reply.outcome _
     pre c.push_took.ensures.took (sights _ _ _ _ c.push_took.ensures.only.name c.push_took.ensures.only.seen) is has its own behind up_to reply.came are))
 
 pub returns-clause-counter : goal.returns-clause-counter
