@@ -3,6 +3,7 @@ ghost use Rattle.std.specs.Prelude.{◌≡◌, ℕ, ◌<◌, ◌≤◌, List, le
 ghost use Rattle.stamps.specs.Key.{IsKey};
 ghost use Rattle.stamps.specs.Limits.{max_keys};
 ghost use Rattle.stamps.specs.Tag.{IsTag};
+ghost use Rattle.stamps.specs.Value.{IsValue};
 ghost use Rattle.packed.specs.Bodies.{packed_body, record_in, IsPackedBody, IsFront};
 ghost use Rattle.packed.specs.Packing.{IsStoreRecord};
 ghost use Rattle.packed.specs.Reading.{text_at, key_at, tag_at, value_at, writes_of, writes_at};
@@ -26,7 +27,7 @@ pub fn pack_body(bytes: &mut [u8], version: &Record) -> usize
 }
 
 /// The record of a body, of which the stamp is known. It checks no byte. Other bytes may stand behind the body. Where they are as many as a
-/// key has at most, each key and tag is copied at its full width.
+/// value has at most, each part is copied at its full width.
 #[inline(always)]
 pub fn body_record(bytes: &[u8], stamp: Stamp) -> Record
     requires { (len : ℕ) × IsPackedBody stamp (take len bytes.now) }
@@ -41,7 +42,7 @@ pub fn body_record(bytes: &[u8], stamp: Stamp) -> Record
 }
 
 /// Writes the record of a body, of which the stamp is known, over another record, part by part. It checks no byte. Other bytes may stand
-/// behind the body. Where they are as many as a key has at most, each key and tag is copied at its full width.
+/// behind the body. Where they are as many as a value has at most, each part is copied at its full width.
 pub fn unpack_body(bytes: &[u8], stamp: Stamp, place: &mut Record)
     requires { (len : ℕ) × IsPackedBody stamp (take len bytes.now) }
     ensures { (len : ℕ) → IsPackedBody stamp (take len bytes.now)
@@ -163,6 +164,16 @@ fn short_tag(text: &[u8]) -> Tag
     Tag::of_stored(text)
 }
 
+// A value that stands near the end of the bytes.
+#[cold]
+#[inline(never)]
+fn short_value(text: &[u8]) -> Value
+    requires { IsValue text.now }
+    ensures { result ≡ text.now }
+{
+    Value::of_stored(text)
+}
+
 // The value at the front, and the bytes behind it.
 #[inline(always)]
 fn stored_value(bytes: &[u8]) -> (Value, &[u8])
@@ -170,7 +181,10 @@ fn stored_value(bytes: &[u8]) -> (Value, &[u8])
     ensures { Some (result.0, result.1.now) ≡ value_at bytes.now }
 {
     let (text, rest) = stored_text(bytes);
-    (Value::of_stored(text), rest)
+    match wide_text(bytes) {
+        Some(front) => (Value::of_front(front, text.len()), rest),
+        None => (short_value(text), rest),
+    }
 }
 
 // The write set at the end.

@@ -1,5 +1,5 @@
 -- The first bytes of an array, and zeros behind them, by a mask of ones and zeros.
-use Rattle.std.proofs.Common.{◌≡◌, ℕ, zero, suc, ◌+◌, ◌-◌, ◌%◌, ◌<◌, ◌≤◌, List, [], ◌∷◌, ◌++◌, length, take, drop, get_or, replicate, bit_and, refl, sym, ap, ◌∙◌, append_assoc, length-take-le, arith}
+use Rattle.std.proofs.Common.{◌≡◌, ℕ, zero, suc, ◌+◌, ◌-◌, ◌%◌, ◌<◌, ◌≤◌, List, [], ◌∷◌, ◌++◌, length, take, drop, get_or, replicate, bit_and, refl, sym, ap, ◌∙◌, append_assoc, append-nil, length-take-le, length-drop, take_all, arith}
 use Rattle.std.specs.Int.Bits.{and_zero_r}
 use Rattle.std.proofs.lemmas.Grind.{and_numeral}
 use Rattle.std.proofs.lemmas.List.{take_at, drop_at, length-replicate, replicate-append-replicate, take-replicate}
@@ -48,3 +48,35 @@ mask_at most len n fits small =
     ∙ ap (take n) (drop_at (replicate (most - len) 255) (replicate len 255 ++ zeros) (most - len) (length-replicate (most - len) 255))
     ∙ ap (λ m. take m (replicate len 255 ++ zeros)) count ∙ take-append-add (replicate len 255) zeros (n - len)
     ∙ ap (λ xs. replicate len 255 ++ xs) (take-replicate (n - len) most 0 (omega (arith, small)))
+
+half : (n : ℕ) (xs : List ℕ) → length xs ≡ n + n → take n (take n (drop n xs)) ≡ drop n xs
+half n xs long =
+    let rest : take n (drop n xs) ≡ drop n xs = take_all n (drop n xs) (omega (arith, long, length-drop n xs)) in
+    ap (take n) rest ∙ rest
+
+-- what is made of pairs
+module _ (f : ℕ → ℕ → ℕ) where
+  no_pairs : (xs : List ℕ) → zip2 f xs [] ≡ []
+  no_pairs [] = refl
+  no_pairs (x ∷ xs) = refl
+
+  as_many : (xs ys : List ℕ) → length xs ≡ length ys → length (zip2 f xs ys) ≡ length xs
+  as_many [] ys same = refl
+  as_many (x ∷ xs) [] same = absurd (omega (arith, same))
+  as_many (x ∷ xs) (y ∷ ys) same = ap suc (as_many xs ys (omega (arith, same)))
+
+  split : (n : ℕ) (xs ys : List ℕ) → zip2 f (take n xs) (take n ys) ++ zip2 f (drop n xs) (drop n ys) ≡ zip2 f xs ys
+  split zero xs ys = refl
+  split (suc n) [] ys = refl
+  split (suc n) (x ∷ xs) [] = no_pairs (drop n xs)
+  split (suc n) (x ∷ xs) (y ∷ ys) = λ i. f x y ∷ split n xs ys i
+
+  -- it is made half by half
+  pub both_halves : (n : ℕ) (xs ys : List ℕ) → length xs ≡ n + n → length ys ≡ n + n
+      → take (n + n) (zip2 f (take n xs) (take n ys) ++ (zip2 f (take n (take n (drop n xs))) (take n (take n (drop n ys))) ++ [])) ≡ zip2 f xs ys
+  both_halves n xs ys long same =
+      let first = zip2 f (take n xs) (take n ys) in
+      ap (λ (rest : List ℕ). take (n + n) (first ++ rest)) (append-nil _)
+      ∙ (λ i. take (n + n) (first ++ zip2 f (half n xs long i) (half n ys same i)))
+      ∙ ap (take (n + n)) (split n xs ys)
+      ∙ take_all (n + n) (zip2 f xs ys) (omega (arith, long, same, as_many xs ys (long ∙ sym same)))

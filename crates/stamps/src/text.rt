@@ -5,7 +5,7 @@ ghost use Rattle.std.specs.Ordering.{nat_cmp};
 ghost use Rattle.std.specs.Cmp.{partial_equiv_from_equiv};
 ghost use Rattle.std.specs.Str.{IsUtf8};
 ghost use Rattle.std.specs.Cmp.Lexicographic.{pointwise, slice_cmp, nat_list_eq_equiv, nat_list_cmp_total, texts_po, texts_ties};
-ghost use Rattle.stamps.specs.Limits.{max_key_len};
+ghost use Rattle.stamps.specs.Limits.{max_value_len};
 ghost use Rattle.stamps.specs.Text.{is_name_byte, is_visible_byte};
 
 use crate::limits;
@@ -14,7 +14,7 @@ use std::marker::Model;
 use std::{fmt, str};
 
 /// How many bytes a mask has at most.
-const MASK_LEN: usize = limits::MAX_KEY_LEN;
+const MASK_LEN: usize = limits::MAX_VALUE_LEN;
 
 /// As many bytes of 255 as a mask has at most, and as many zeros.
 static ONES_AND_ZEROS: [[u8; MASK_LEN]; 2] = [[255; MASK_LEN], [0; MASK_LEN]];
@@ -157,7 +157,7 @@ impl<const N: usize> fmt::Debug for Text<N> {
 #[inline(always)]
 pub(crate) fn front_mask<const N: usize>(len: usize) -> &'static [u8; N]
     requires fits { len ≤ N }
-    requires small { N ≤ max_key_len }
+    requires small { N ≤ max_value_len }
     ensures { result.now ≡ replicate len 255 ++ replicate (N - len) 0 }
 {
     ONES_AND_ZEROS.as_flattened()[MASK_LEN - len..]

@@ -1,5 +1,5 @@
 //! Values.
-ghost use Rattle.std.specs.Prelude.{◌≡◌, ◌↔◌, IsSome, IfSome, ◌≤◌, length, take};
+ghost use Rattle.std.specs.Prelude.{◌≡◌, ◌↔◌, IsSome, IfSome, ◌≤◌, ◌-◌, length, take, drop, replicate};
 ghost use Rattle.stamps.specs.Limits.{max_value_len};
 ghost use Rattle.stamps.specs.Value.{IsValue};
 
@@ -7,6 +7,7 @@ use crate::limits;
 use crate::text::{self, Text};
 use std::fmt;
 use std::marker::Model;
+use std::simd::u8x64;
 
 /// What an item holds: 0 to 128 visible ASCII bytes, from `!` (0x21) to `~` (0x7E). A contract sees a value as its
 /// bytes.
@@ -57,6 +58,19 @@ impl Value {
         }
     }
 
+    /// The value of the first `len` bytes of an array, which are known to be one's. It checks none of them. Other bytes may stand behind
+    /// them.
+    #[inline(always)]
+    pub fn of_front(front: &[u8; Value::MAX_LEN], len: usize) -> Value
+        requires valid { IsValue (take len front.now) }
+        requires fits { len ≤ max_value_len }
+        ensures { result ≡ take len front.now }
+    {
+        Value {
+            text: Text::of_padded(kept_front(front, len), len),
+        }
+    }
+
     /// Its bytes, and zeros behind them: 128 bytes in all.
     pub fn padded(&self) -> &[u8; Value::MAX_LEN]
         ensures bytes { take (length self.now) result.now ≡ self.now }
@@ -90,4 +104,18 @@ impl fmt::Display for Value {
     fn fmt<W: fmt::Write>(&self, f: &mut fmt::Formatter<W>) -> fmt::Result {
         fmt::Display::fmt(self.text.as_str(), f)
     }
+}
+
+/// The first `len` bytes of an array, and zeros behind them. Whole vectors are copied, half of the bytes in each.
+#[inline(always)]
+fn kept_front(front: &[u8; Value::MAX_LEN], len: usize) -> [u8; Value::MAX_LEN]
+    requires fits { len ≤ max_value_len }
+    ensures bytes { take len result ≡ take len front.now }
+    ensures zeros { drop len result ≡ replicate (max_value_len - len) 0 }
+{
+    let mask: &[u8; Value::MAX_LEN] = text::front_mask(len);
+    let low = u8x64::from_slice(front) & u8x64::from_slice(mask);
+    let high = u8x64::from_slice(&front[u8x64::LEN..]) & u8x64::from_slice(&mask[u8x64::LEN..]);
+    let halves = [low.to_array(), high.to_array()];
+    *halves.as_flattened().first_chunk().unwrap()
 }
