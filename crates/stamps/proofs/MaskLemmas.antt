@@ -1,6 +1,8 @@
 -- The first bytes of an array, and zeros behind them, by a mask of ones and zeros.
-use Rattle.std.proofs.Common.{◌≡◌, ℕ, zero, suc, ◌+◌, ◌-◌, ◌%◌, ◌<◌, ◌≤◌, List, [], ◌∷◌, ◌++◌, length, take, drop, get_or, replicate, bit_and, refl, sym, ap, ◌∙◌, append_assoc, append-nil, length-take-le, length-drop, take_all, arith}
+use Rattle.std.proofs.Common.{◌≡◌, ℕ, zero, suc, ◌+◌, ◌-◌, ◌%◌, ◌<◌, ◌≤◌, List, [], ◌∷◌, ◌++◌, length, take, drop, get_or, replicate, bit_and, Option, Some, refl, sym, ap, subst, ◌∙◌, append_assoc, append-nil, length-take-le, length-drop, take_all, arith}
+use Rattle.std.specs.Array.{IsFirstChunk}
 use Rattle.std.specs.Int.Bits.{and_zero_r}
+use Rattle.std.specs.Option.{MatchOption}
 use Rattle.std.proofs.lemmas.Grind.{and_numeral}
 use Rattle.std.proofs.lemmas.List.{take_at, drop_at, length-replicate, replicate-append-replicate, take-replicate}
 use Rattle.std.proofs.Math.Seq.{take-append-add}
@@ -53,6 +55,11 @@ half : (n : ℕ) (xs : List ℕ) → length xs ≡ n + n → take n (take n (dro
 half n xs long =
     let rest : take n (drop n xs) ≡ drop n xs = take_all n (drop n xs) (omega (arith, long, length-drop n xs)) in
     ap (take n) rest ∙ rest
+
+-- the first chunk that was found
+pub chunk_is : {B : Type 0} (now : B → List ℕ) (found : Option B) (x : B) (xs : List ℕ) (n : ℕ) (None : Type 0) → found ≡ Some x
+    → MatchOption found None (λ y. IsFirstChunk xs (now y) n) → now x ≡ take n xs
+chunk_is now found x xs n None is cases = (subst (λ o. MatchOption o None (λ y. IsFirstChunk xs (now y) n)) is cases).same
 
 -- what is made of pairs
 module _ (f : ℕ → ℕ → ℕ) where

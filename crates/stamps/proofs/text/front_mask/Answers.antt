@@ -1,15 +1,8 @@
-use Rattle.std.proofs.Common.{◌≡◌, ℕ, ◌-◌, List, ◌++◌, length, take, drop, replicate, Option, Some, subst, ap, ◌∙◌}
+use Rattle.std.proofs.Common.{◌≡◌, ℕ, ◌-◌, List, ◌++◌, length, take, drop, replicate, ap, ◌∙◌}
 use Rattle.std.proofs.lemmas.List.{take_rest}
-use Rattle.std.specs.Array.{IsFirstChunk}
-use Rattle.std.specs.Option.{MatchOption}
 use Rattle.stamps.specs.Limits.{max_value_len}
-use Rattle.stamps.proofs.MaskLemmas.{mask_at}
+use Rattle.stamps.proofs.MaskLemmas.{chunk_is, mask_at}
 use Rattle.stamps.proofs.text.front_mask.Goals as goal
-
--- the first chunk that was found
-chunk_is : {B : Type 0} (now : B → List ℕ) (found : Option B) (x : B) (xs : List ℕ) (n : ℕ) (None : Type 0) → found ≡ Some x
-    → MatchOption found None (λ y. IsFirstChunk xs (now y) n) → now x ≡ take n xs
-chunk_is now found x xs n None is cases = (subst (λ o. MatchOption o None (λ y. IsFirstChunk xs (now y) n)) is cases).same
 
 pub returns : goal.returns
 returns g c =

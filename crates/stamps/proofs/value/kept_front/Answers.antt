@@ -1,15 +1,8 @@
-use Rattle.std.proofs.Common.{rules, ◌≡◌, ℕ, List, [], ◌++◌, Option, Some, take, drop, bit_and, arith, subst, ap, ◌∙◌}
-use Rattle.std.specs.Array.{IsFirstChunk}
-use Rattle.std.specs.Option.{MatchOption}
+use Rattle.std.proofs.Common.{rules, ◌≡◌, [], ◌++◌, take, drop, bit_and, ap, ◌∙◌}
 use Rattle.stamps.specs.Limits.{max_value_len}
-use Rattle.stamps.proofs.MaskLemmas.{kept_front, kept_zeros, both_halves}
+use Rattle.stamps.proofs.MaskLemmas.{chunk_is, kept_front, kept_zeros, both_halves}
 use Rattle.stamps.proofs.value.kept_front.Goals as goal
 use lib.Lanes.{zip2}
-
--- the first chunk that was found
-chunk_is : {B : Type 0} (now : B → List ℕ) (found : Option B) (x : B) (xs : List ℕ) (n : ℕ) (None : Type 0) → found ≡ Some x
-    → MatchOption found None (λ y. IsFirstChunk xs (now y) n) → now x ≡ take n xs
-chunk_is now found x xs n None is cases = (subst (λ o. MatchOption o None (λ y. IsFirstChunk xs (now y) n)) is cases).same
 
 whole : (c : goal.After-result-1) → c.unwrap.result.now ≡ zip2 bit_and c.args.front.now c.front_mask-mask.result.now
 whole c =

@@ -1,6 +1,5 @@
-use Rattle.std.proofs.Common.{rules, arith, sym, subst, ◌∙◌}
+use Rattle.std.proofs.Common.{sym, subst, ◌∙◌}
 use Rattle.stamps.specs.Value.{IsValue}
-use Rattle.stamps.specs.Limits.{max_value_len}
 use Rattle.stamps.proofs.value.Value.of_front.Goals as goal
 
 pub invariant_of-result : goal.invariant_of-result
