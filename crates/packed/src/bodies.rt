@@ -52,8 +52,7 @@ pub fn unpack_body(bytes: &[u8], stamp: Stamp, place: &mut Record)
     place.key = key;
     let (tag, rest) = stored_tag(rest);
     place.tag = tag;
-    let (value, rest) = stored_value(rest);
-    place.value = value;
+    let rest = unpack_value(rest, &mut place.value);
     place.stamp = stamp;
     unpack_writes(rest, &mut place.writes);
 }
@@ -185,6 +184,30 @@ fn stored_value(bytes: &[u8]) -> (Value, &[u8])
         Some(front) => (Value::of_front(front, text.len()), rest),
         None => (short_value(text), rest),
     }
+}
+
+// Writes the value at the front over another one, and answers the bytes behind it.
+#[inline(always)]
+fn unpack_value<'a>(bytes: &'a [u8], place: &mut Value) -> &'a [u8]
+    requires { IsSome (value_at bytes.now) }
+    ensures { Some (place.new, result.now) ≡ value_at bytes.now }
+{
+    let (text, rest) = stored_text(bytes);
+    match wide_text(bytes) {
+        Some(front) => *place = Value::of_front(front, text.len()),
+        None => unpack_short(text, place),
+    }
+    rest
+}
+
+// Writes a value that stands near the end of the bytes over another one.
+#[cold]
+#[inline(never)]
+fn unpack_short(text: &[u8], place: &mut Value)
+    requires { IsValue text.now }
+    ensures { place.new ≡ text.now }
+{
+    *place = Value::of_stored(text);
 }
 
 // The write set at the end.

@@ -20,8 +20,8 @@ stored_tag-tag-requires c =
     let key = after_key body.0 more body.1 c.args.bytes.now c.stored_key-key.result.0 c.stored_key-key.result.1.now (body_first body.0 c.args.bytes.now len body.3) c.stored_key-key.ensures in
     tag_there body.0 more body.1 c.stored_key-key.result.1.now key.1
 
-pub stored_value-value-requires : goal.stored_value-value-requires
-stored_value-value-requires c =
+pub unpack_value-rest-requires : goal.unpack_value-rest-requires
+unpack_value-rest-requires c =
     let len = c.requires.0 in
     let body = c.requires.1 in
     let more = drop len c.args.bytes.now in
@@ -36,14 +36,14 @@ unpack_writes-requires c =
     let more = drop len c.args.bytes.now in
     let key = after_key body.0 more body.1 c.args.bytes.now c.stored_key-key.result.0 c.stored_key-key.result.1.now (body_first body.0 c.args.bytes.now len body.3) c.stored_key-key.ensures in
     let tag = after_tag body.0 more body.1 c.stored_key-key.result.1.now c.stored_tag-tag.result.0 c.stored_tag-tag.result.1.now key.1 c.stored_tag-tag.ensures in
-    let value = after_value body.0 more body.1 c.stored_tag-tag.result.1.now c.stored_value-value.result.0 c.stored_value-value.result.1.now tag.1 c.stored_value-value.ensures in
-    writes_there body.0 more body.1 c.stored_value-value.result.1.now value.1
+    let value = after_value body.0 more body.1 c.stored_tag-tag.result.1.now c.unpack_value-rest.new.place c.unpack_value-rest.result.now tag.1 c.unpack_value-rest.ensures in
+    writes_there body.0 more body.1 c.unpack_value-rest.result.now value.1
 
 -- the parts that were read are those of the record
 parts : (c : After-unpack_writes) (len : ℕ) (body : IsPackedBody c.args.stamp (take len c.args.bytes.now)) → ◌≡◌ {A = Record} (record {
   key = c.stored_key-key.result.0;
   tag = c.stored_tag-tag.result.0;
-  value = c.stored_value-value.result.0;
+  value = c.unpack_value-rest.new.place;
   stamp = c.args.stamp;
   writes = c.unpack_writes.new.place;
 }) body.0
@@ -51,8 +51,8 @@ parts c len body =
     let more = drop len c.args.bytes.now in
     let key = after_key body.0 more body.1 c.args.bytes.now c.stored_key-key.result.0 c.stored_key-key.result.1.now (body_first body.0 c.args.bytes.now len body.3) c.stored_key-key.ensures in
     let tag = after_tag body.0 more body.1 c.stored_key-key.result.1.now c.stored_tag-tag.result.0 c.stored_tag-tag.result.1.now key.1 c.stored_tag-tag.ensures in
-    let value = after_value body.0 more body.1 c.stored_tag-tag.result.1.now c.stored_value-value.result.0 c.stored_value-value.result.1.now tag.1 c.stored_value-value.ensures in
-    let writes = after_writes body.0 more body.1 c.stored_value-value.result.1.now c.unpack_writes.new.place c.unpack_writes.ensures.0 value.1 c.unpack_writes.ensures.1 in
+    let value = after_value body.0 more body.1 c.stored_tag-tag.result.1.now c.unpack_value-rest.new.place c.unpack_value-rest.result.now tag.1 c.unpack_value-rest.ensures in
+    let writes = after_writes body.0 more body.1 c.unpack_value-rest.result.now c.unpack_writes.new.place c.unpack_writes.ensures.0 value.1 c.unpack_writes.ensures.1 in
     λ i. record {
       key = key.0 i;
       tag = tag.0 i;
