@@ -1,5 +1,5 @@
 //! The places of calls that have no reply taken.
-ghost use Rattle.std.specs.Prelude.{◌≡◌, ◌<◌, ◌≤◌, drop, length, min, slice_set, take};
+ghost use Rattle.std.specs.Prelude.{◌≡◌, ◌<◌, ◌≤◌, drop, length, min, slice_get, slice_set, take};
 ghost use Rattle.stamps.specs.Limits.{max_parts};
 ghost use Rattle.plain_store.specs.Finding.{below};
 
@@ -66,6 +66,16 @@ impl PendingSet {
         ensures few { length result.now ≤ max_parts }
     {
         &self.places.as_slice()[self.from..]
+    }
+
+    /// The place at an index, if there is one.
+    pub(crate) fn get(&self, nth: u32) -> Option<u8>
+        ensures { result ≡ slice_get self.now nth }
+    {
+        self.places
+            .as_slice()
+            .get(self.from + nth as usize)
+            .copied()
     }
 
     /// Writes over the place at an index.

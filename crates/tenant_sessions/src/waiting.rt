@@ -44,8 +44,8 @@ fn is_first_answered(places: &PendingSet, part: &CallBatch, parts: u32, message:
     ensures { result ≡ option_map_or (is_answered_at (batch_calls parts part.now) message.now)
         (slice_get places.now 0) false }
 {
-    match places.as_slice().get(0) {
-        Some(place) => part.is_answered_at(parts, usize::from(*place), message),
+    match places.get(0) {
+        Some(place) => part.is_answered_at(parts, usize::from(place), message),
         None => false,
     }
 }
@@ -228,11 +228,10 @@ impl Waiting {
     pub(crate) fn call_into(&self, nth: u32, message: &mut Message) -> bool
         ensures { PutsCall self.now nth result message.old message.new }
     {
-        let Some(place) = self.places.as_slice().get(nth as usize) else {
+        let Some(place) = self.places.get(nth) else {
             return false;
         };
-        self.part
-            .call_into(self.parts, usize::from(*place), message)
+        self.part.call_into(self.parts, usize::from(place), message)
     }
 
     /// Waits no more for the call whose place the message's reply takes.
