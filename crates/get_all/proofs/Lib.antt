@@ -1,4 +1,5 @@
 pub mod CallsLeft
+pub mod CountUnshown
 pub mod SlotFacts
 pub mod Orderly
 pub mod Whole

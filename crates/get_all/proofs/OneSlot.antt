@@ -9,7 +9,8 @@ use Rattle.stamps.specs.Record.{Record}
 use Rattle.plain_store.specs.Words.{Key}
 use Rattle.plain_store.specs.Rounds.{some_or}
 use Rattle.plain_store.proofs.Stamps.{key_is}
-use Rattle.get_all.specs.ReadProgress.{AreApart, slot_for, with_first, awaits_first}
+use Rattle.get_all.specs.ReadProgress.{AreApart, count_unshown, slot_for, with_first, awaits_first}
+use Rattle.get_all.proofs.CountUnshown.{one_fewer}
 use Rattle.get_all.specs.declared.read_progress.KeyProgress.{KeyProgress}
 
 -- f changes no element but one
@@ -51,6 +52,21 @@ module _ (key : Key) (slots : List KeyProgress) (at : ℕ) (found : position (aw
 
   place_waits : (d : KeyProgress) → awaits_first key (get_or slots at d) ≡ true
   place_waits d = (position-Some (awaits_first key) slots at d found).1
+
+  -- of one key fewer nothing was shown
+  pub one_less : (shown : Option Record) (new : List KeyProgress)
+      → ((slot : KeyProgress) → slot ≡ get_or slots at slot → new ≡ set slots at (record slot { first = Some shown }))
+      → count_unshown slots ≡ suc (count_unshown new)
+  one_less shown new put =
+      let slot = get_or slots at (slot_for key) in
+      let within = place_within (slot_for key) in
+      let is : slot ≡ get_or slots at slot = get_or_default slots at (slot_for key) slot within in
+      let waits = (and_parts (bytes_eq slot.key key) (not (is_some slot.first)) (place_waits (slot_for key))).1 in
+      one_fewer slots at slot shown within is (is_nothing (is_some slot.first) waits) ∙ ap (λ zs. suc (count_unshown zs)) (sym (put slot is))
+    where
+      is_nothing : (b : Bool) → not b ≡ true → b ≡ false
+      is_nothing true none = cc
+      is_nothing false none = refl
 
   pub one_slot : (shown : Option Record) (new : List KeyProgress) → AreApart slots
       → ((slot : KeyProgress) → slot ≡ get_or slots at slot → new ≡ set slots at (record slot { first = Some shown }))

@@ -283,7 +283,7 @@ module _ (keys : List Key) (taken : List Message) (message : Message) where
 
 -- ---- tests and answers
 
-lt_test : (m n : ℕ) (b : Bool) → is_lt (nat_cmp m n) ≡ b → nat_lt m n ≡ b
+pub lt_test : (m n : ℕ) (b : Bool) → is_lt (nat_cmp m n) ≡ b → nat_lt m n ≡ b
 lt_test m n b is = go (nat_lt m n) (m == n) is
   where
     go : (c d : Bool) → is_lt (cond c Less (cond d Equal Greater)) ≡ b → c ≡ b

@@ -1,5 +1,5 @@
 -- The keys of a read, what was shown of them, and what follows from it.
-use Rattle.std.specs.Prelude.{◌≢◌, List, AllPairs, Bool, false, ◌&&◌, ◌||◌, ◌==◌, nat_lt, cond, not, map, filter, Option, Some, None}
+use Rattle.std.specs.Prelude.{◌≢◌, ℕ, suc, List, [], ◌∷◌, AllPairs, Bool, false, ◌&&◌, ◌||◌, ◌==◌, nat_lt, cond, not, map, filter, Option, Some, None}
 use Rattle.std.specs.Prelude.{is_some, bytes_eq}
 use Rattle.std.specs.List.{list_all}
 use Rattle.stamps.specs.Record.{Record}
@@ -37,6 +37,11 @@ with_second key version slot = record {
 
 abbrev pub has_first : KeyProgress → Bool
 has_first slot = is_some slot.first
+
+-- of how many keys round one showed nothing
+abbrev pub count_unshown : List KeyProgress → ℕ
+count_unshown [] = 0
+count_unshown (slot ∷ slots) = cond (is_some slot.first) (count_unshown slots) (suc (count_unshown slots))
 
 abbrev pub awaits_first : Key → KeyProgress → Bool
 awaits_first key slot = bytes_eq slot.key key && not (is_some slot.first)

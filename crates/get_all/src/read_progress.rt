@@ -1,8 +1,9 @@
 //! The keys of a read, and the replies that counted.
-ghost use Rattle.std.specs.Prelude.{◌≡◌, true, false, ◌<◌, ◌≤◌, ◌+◌, ◌++◌, ◌∷◌, length, map, max, cond, nat_lt, option_copied, slice_index_or, slice_set, position, take, drop, Some};
+ghost use Rattle.std.specs.Prelude.{◌≡◌, true, false, ◌&&◌, ◌<◌, ◌≤◌, ◌+◌, ◌++◌, ◌∷◌, length, map, max, cond, nat_lt, option_copied, slice_index_or, slice_set, position, take, drop, Some};
 ghost use Rattle.std.specs.List.{list_any, list_all};
 ghost use Rattle.stamps.specs.Key.{IsTransactionKeys};
 ghost use Rattle.stamps.specs.Limits.{max_keys};
+ghost use Rattle.stamps.specs.Stamp.{greatest_by};
 ghost use Rattle.plain_store.specs.Rounds.{stamp_for, stamp_seen, reading_of, flat};
 ghost use Rattle.get_all.specs.declared.read_progress.KeyProgress.{KeyProgress};
 ghost use Rattle.get_all.specs.ReadProgress.{slot_for, with_first, with_second, awaits_first, has_first, first_shows, is_late_by, needed_by, awaits_second, is_answered_by, late_by, readings_by};
@@ -208,13 +209,6 @@ impl KeyProgressList {
         self.slots[..self.len][at].put_first(shown);
     }
 
-    /// Whether round one showed something of each key.
-    fn are_shown(&self) -> bool
-        ensures { result ≡ list_all has_first self.now }
-    {
-        self.as_slice().iter().all(|slot| slot.first.is_some())
-    }
-
     /// Whether round one showed a later transaction than the one that it showed of this slot's key, which wrote the key.
     fn is_late(&self, slot: &KeyProgress) -> bool
         ensures { result ≡ is_late_by self.now slot.now }
@@ -223,11 +217,21 @@ impl KeyProgressList {
         outdate(self.as_slice(), &slot.key, stamp)
     }
 
-    /// Whether some key is late.
+    /// Whether some key is late. One whose stamp is the greatest that was shown never is.
     fn are_late(&self) -> bool
         ensures { result ≡ list_any (is_late_by self.now) self.now }
     {
-        self.as_slice().iter().any(|slot| self.is_late(slot))
+        self.are_late_below(newest(self.as_slice()))
+    }
+
+    /// Whether some key is late, of those whose stamp is below this one.
+    fn are_late_below(&self, newest: Stamp) -> bool
+        ensures { result ≡ list_any (λ slot. nat_lt (stamp_seen slot.first) newest
+            && is_late_by self.now slot) self.now }
+    {
+        self.as_slice()
+            .iter()
+            .any(|slot| slot.first_stamp() < newest && self.is_late(slot))
     }
 
     /// Whether it is known that no key is late: they are looked through once all are shown.
@@ -249,6 +253,8 @@ impl KeyProgressList {
 #[derive(Drop)]
 pub(crate) struct ReadProgress {
     slots: KeyProgressList,
+    /// Of how many keys round one showed nothing.
+    unshown: usize,
     /// It is known that no key is late.
     is_current: bool,
 }
@@ -261,11 +267,11 @@ impl Model for ReadProgress {
 
     ghost Value = { List KeyProgress };
 
-    ghost use Rattle.get_all.specs.ReadProgress.{is_late_by, AreApart};
+    ghost use Rattle.get_all.specs.ReadProgress.{is_late_by, AreApart, count_unshown};
 
     ghost view = { λ s. s.slots };
 
-    ghost invariant = { λ s. (0 < length s.slots) × (length s.slots ≤ max_keys) × (s.is_current ≡ true → list_any (is_late_by s.slots) s.slots ≡ false) × AreApart s.slots };
+    ghost invariant = { λ s. (0 < length s.slots) × (length s.slots ≤ max_keys) × (s.is_current ≡ true → list_any (is_late_by s.slots) s.slots ≡ false) × AreApart s.slots × (s.unshown ≡ count_unshown s.slots) };
 }
 
 impl ReadProgress {
@@ -280,6 +286,7 @@ impl ReadProgress {
         slots.reset(keys);
         ReadProgress {
             slots,
+            unshown: keys.len(),
             is_current: false,
         }
     }
@@ -291,6 +298,7 @@ impl ReadProgress {
     {
         self.is_current = false;
         self.slots.reset(keys);
+        self.unshown = keys.len();
     }
 
     fn as_slice(&self) -> &[KeyProgress]
@@ -326,7 +334,7 @@ impl ReadProgress {
     pub(crate) fn are_shown(&self) -> bool
         ensures { result ≡ list_all has_first self.now }
     {
-        self.slots.are_shown()
+        self.unshown == 0
     }
 
     /// The greatest stamp that round one showed of a transaction that wrote the key.
@@ -376,7 +384,8 @@ impl ReadProgress {
         ensures shown { result ≡ list_all has_first self.new }
     {
         self.slots.put_first(at, shown);
-        let are_shown = self.slots.are_shown();
+        self.unshown -= 1;
+        let are_shown = self.unshown == 0;
         self.is_current = self.slots.are_current(are_shown);
         are_shown
     }
@@ -445,6 +454,20 @@ fn outdate(slots: &[KeyProgress], key: &Key, stamp: Stamp) -> bool
         ≡ list_any (λ slot. nat_lt stamp (stamp_for key.now slot.first)) slots.now }
 {
     slots.iter().any(|slot| slot.outdates(key, stamp))
+}
+
+/// The greatest stamp that round one showed.
+fn newest(slots: &[KeyProgress]) -> Stamp
+    ensures { result ≡ greatest_by (λ slot. stamp_seen slot.first) slots.now }
+{
+    let mut newest = Stamp::ZERO;
+    for slot in slots {
+        let stamp = slot.first_stamp();
+        if newest < stamp {
+            newest = stamp;
+        }
+    }
+    newest
 }
 
 /// Has each slot take what round two showed of the key.

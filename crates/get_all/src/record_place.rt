@@ -127,13 +127,6 @@ impl FirstShown {
         }
     }
 
-    /// Whether anything was shown.
-    pub(crate) fn is_some(&self) -> bool
-        ensures { result ≡ is_some self.now }
-    {
-        self.is_told
-    }
-
     /// Whether nothing was shown yet.
     pub(crate) fn is_none(&self) -> bool
         ensures { is_some self.now ≡ not result }

@@ -1,6 +1,7 @@
 use Rattle.std.proofs.Common.{◌≡◌, ◌∙◌, length, ap, sym, subst, arith}
 use Rattle.std.proofs.lemmas.List.{length-map}
-use Rattle.get_all.specs.ReadProgress.{AreApart, slot_for}
+use Rattle.get_all.specs.ReadProgress.{AreApart, count_unshown, slot_for}
+use Rattle.get_all.proofs.CountUnshown.{each_unshown}
 use Rattle.get_all.proofs.OneSlot.{new_apart}
 use Rattle.get_all.proofs.read_progress.ReadProgress.reset.Goals as goal
 
@@ -13,4 +14,5 @@ invariant_of-self c =
       omega (arith, c.requires.at_most, as_long),
       λ current. cc,
       subst AreApart (sym made) (new_apart keys c.requires.distinct),
+      sym (ap count_unshown made ∙ each_unshown keys),
     )
