@@ -129,7 +129,8 @@ impl Lines {
 /// However a stream is cut, and whenever its lines are asked for: the lines that [`Lines::next_line`] hands out are
 /// those of the stream, in its order, and none is left out.
 pub fn lines_come_in_order()
-    ensures { (transfers : List Transfer) (held : List ℕ) → AreTransfers [] transfers held → AreInOrder transfers held }
+    ensures { (transfers : List Transfer) (held : List ℕ) → AreTransfers [] transfers held
+        → AreInOrder transfers held }
 {}
 
 // The beginning of a line takes what of the piece belongs to that line. The result says what the bytes are then,

@@ -28,7 +28,8 @@ pub fn read_step_line(alloc: Global, names: &[Name], line: &[u8]) -> Result<Step
     ensures found { IfOk result (λ step. AsksFor names.now line.now step.tenant step.act) }
     // What is spelled so is read, unless there is no memory for a list.
     ensures only { (number : ℕ) (act : Act) → AsksFor names.now line.now number act
-        → (result ≡ Ok (record { tenant = number; act = act })) ⊎ ((result ≡ Err OutOfMemory) × HasList act) }
+        → (result ≡ Ok (record { tenant = number; act = act }))
+        ⊎ ((result ≡ Err OutOfMemory) × HasList act) }
     ensures error { IfErr result (Refuses names.now line.now) }
     ensures no_tenant { AsksStranger names.now line.now → result ≡ Err NoTenant }
     ensures bad_line { AsksNothing line.now → result ≡ Err BadLine }
@@ -182,7 +183,8 @@ pub(crate) fn read_each<T: Word>(
     alloc: Global,
     text: Option<&[u8]>,
 ) -> Option<Result<Vec<T>, AllocError>>
-    ensures { FindsList (λ list. list.items) (each_at T.at (parts_in space (option_map (λ t. t.now) text.entry))) result }
+    ensures { FindsList (λ list. list.items)
+        (each_at T.at (parts_in space (option_map (λ t. t.now) text.entry))) result }
 {
     let mut list = Vec::new(alloc);
     let mut kept = Ok(());

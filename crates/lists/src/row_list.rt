@@ -98,7 +98,8 @@ impl<T> RowList<T> {
     pub fn binary_search_by<F: FnMut(&T) -> Ordering>(&self, mut compare: F) -> Result<usize, usize>
         requires { F.IsAlwaysCallable compare }
         ensures bound { IsSearchInRange result (length self.now.items) }
-        ensures position { (ord : T → Ordering) → ComputesKey F.FnMut ord compare → IsBinarySearchResult ord self.now.items result }
+        ensures position { (ord : T → Ordering) → ComputesKey F.FnMut ord compare
+            → IsBinarySearchResult ord self.now.items result }
     {
         let mut low = 0;
         let mut high = self.len();

@@ -19,7 +19,8 @@ use stamps::{Key, Record, Stamp};
 #[inline(always)]
 pub(crate) fn lay(bytes: &mut [u8], at: usize, source: &[u8])
     requires { at + length source.now ≤ length bytes.old }
-    ensures { (len : ℕ) → len ≤ length source.now → take (at + len) bytes.new ≡ take at bytes.old ++ take len source.now }
+    ensures { (len : ℕ) → len ≤ length source.now → take (at + len) bytes.new ≡ take at bytes.old
+        ++ take len source.now }
 {
     bytes[at..at + source.len()].copy_from_slice(source);
 }

@@ -131,7 +131,8 @@ impl PackedList {
     /// Puts an entry at the end that is a byte and then a packed record, without a copy of either. It takes up to
     /// `1 + MAX_RECORD_BYTES`. At `Err` the entries are as they were.
     pub fn push_record(&mut self, mark: u8, version: &Record) -> Result<(), AllocError>
-        ensures ok { OnOk result (self.new.items ≡ self.old.items ++ (mark ∷ packed_record version.now) ∷ []) }
+        ensures ok { OnOk result (self.new.items ≡ self.old.items
+            ++ (mark ∷ packed_record version.now) ∷ []) }
         ensures stored { OnOk result (IsStoreRecord version.now) }
         ensures err { OnErr result (self.new.items ≡ self.old.items) }
     {
@@ -159,8 +160,10 @@ impl PackedList {
         count: usize,
     ) -> Result<(), AllocError>
         requires { from + count ≤ length other.now.items }
-        ensures ok { OnOk result (self.new.items ≡ self.old.items ++ take count (drop from other.now.items)) }
-        ensures some { (many : ℕ) × (self.new.items ≡ self.old.items ++ take many (drop from other.now.items)) }
+        ensures ok { OnOk result (self.new.items ≡ self.old.items
+            ++ take count (drop from other.now.items)) }
+        ensures some { (many : ℕ)
+            × (self.new.items ≡ self.old.items ++ take many (drop from other.now.items)) }
     {
         let _few = other.len();
         for nth in 0..count {
@@ -173,7 +176,8 @@ impl PackedList {
     pub fn has_part(&self, at: usize, other: &PackedList, from: usize, count: usize) -> bool
         requires own { at + count ≤ length self.now.items }
         requires others { from + count ≤ length other.now.items }
-        ensures { IsTrue result ↔ (take count (drop at self.now.items) ≡ take count (drop from other.now.items)) }
+        ensures { IsTrue result
+            ↔ (take count (drop at self.now.items) ≡ take count (drop from other.now.items)) }
     {
         let _few = (self.len(), other.len());
         for nth in 0..count {
@@ -248,7 +252,8 @@ fn append(bytes: &mut Buffer, ends: &mut Vec<usize>, piece: &[u8])
     requires place { vec_len ends.old < vec_capacity ends.old }
     requires room { length bytes.old.items + length piece.now ≤ bytes.old.capacity }
     ensures cut { IsCut 0 ends.new.items (length bytes.new.items) }
-    ensures items { pieces bytes.new.items 0 ends.new.items ≡ pieces bytes.old.items 0 ends.old.items ++ piece.now ∷ [] }
+    ensures items { pieces bytes.new.items 0 ends.new.items
+        ≡ pieces bytes.old.items 0 ends.old.items ++ piece.now ∷ [] }
     ensures ends { vec_len ends.new ≡ vec_len ends.old + 1 }
     ensures bytes { length bytes.new.items ≡ length bytes.old.items + length piece.now }
     ensures places { vec_capacity ends.old ≤ vec_capacity ends.new }
@@ -264,7 +269,8 @@ fn append_packed<E: PackEntry>(bytes: &mut Buffer, ends: &mut Vec<usize>, entry:
     requires place { vec_len ends.old < vec_capacity ends.old }
     requires room { length bytes.old.items + E.most_bytes entry.now ≤ bytes.old.capacity }
     ensures cut { IsCut 0 ends.new.items (length bytes.new.items) }
-    ensures items { pieces bytes.new.items 0 ends.new.items ≡ pieces bytes.old.items 0 ends.old.items ++ E.packed_as entry.now ∷ [] }
+    ensures items { pieces bytes.new.items 0 ends.new.items
+        ≡ pieces bytes.old.items 0 ends.old.items ++ E.packed_as entry.now ∷ [] }
     ensures stored { E.is_stored entry.now }
     ensures ends { vec_len ends.new ≡ vec_len ends.old + 1 }
     ensures bytes { length bytes.new.items ≤ length bytes.old.items + E.most_bytes entry.now }
@@ -281,7 +287,8 @@ fn append_record(bytes: &mut Buffer, ends: &mut Vec<usize>, mark: u8, version: &
     requires place { vec_len ends.old < vec_capacity ends.old }
     requires room { length bytes.old.items + (1 + max_record_bytes) ≤ bytes.old.capacity }
     ensures cut { IsCut 0 ends.new.items (length bytes.new.items) }
-    ensures items { pieces bytes.new.items 0 ends.new.items ≡ pieces bytes.old.items 0 ends.old.items ++ (mark ∷ packed_record version.now) ∷ [] }
+    ensures items { pieces bytes.new.items 0 ends.new.items
+        ≡ pieces bytes.old.items 0 ends.old.items ++ (mark ∷ packed_record version.now) ∷ [] }
     ensures stored { IsStoreRecord version.now }
 {
     bytes.push_reserved(mark);

@@ -69,7 +69,8 @@ fn items_of(
     count: u64,
     bytes: &[u8],
 ) -> Result<Option<(Vec<Item>, &[u8])>, AllocError>
-    ensures { IfOk result (λ found. option_map (λ p. (p.0.items, p.1.now)) found ≡ many_at item_at count bytes.now) }
+    ensures { IfOk result (λ found. option_map (λ p. (p.0.items, p.1.now)) found
+        ≡ many_at item_at count bytes.now) }
 {
     let mut items = Vec::new(alloc);
     let mut rest = bytes;
@@ -86,7 +87,8 @@ fn items_of(
 
 #[tactic(auto, unfolding(crate::specs::PackedActs::items_at))]
 fn items_at(alloc: Global, bytes: &[u8]) -> Result<Option<(Vec<Item>, &[u8])>, AllocError>
-    ensures { IfOk result (λ found. option_map (λ p. (p.0.items, p.1.now)) found ≡ items_at bytes.now) }
+    ensures { IfOk result (λ found. option_map (λ p. (p.0.items, p.1.now)) found
+        ≡ items_at bytes.now) }
 {
     let Some((count, rest)) = read_number(bytes) else {
         return Ok(None);
@@ -96,7 +98,8 @@ fn items_at(alloc: Global, bytes: &[u8]) -> Result<Option<(Vec<Item>, &[u8])>, A
 
 // So many keys.
 fn keys_of(alloc: Global, count: u64, bytes: &[u8]) -> Result<Option<(Vec<Key>, &[u8])>, AllocError>
-    ensures { IfOk result (λ found. option_map (λ p. (p.0.items, p.1.now)) found ≡ many_at key_at count bytes.now) }
+    ensures { IfOk result (λ found. option_map (λ p. (p.0.items, p.1.now)) found
+        ≡ many_at key_at count bytes.now) }
 {
     let mut keys = Vec::new(alloc);
     let mut rest = bytes;
@@ -113,7 +116,8 @@ fn keys_of(alloc: Global, count: u64, bytes: &[u8]) -> Result<Option<(Vec<Key>, 
 
 #[tactic(auto, unfolding(crate::specs::PackedActs::keys_at))]
 fn keys_at(alloc: Global, bytes: &[u8]) -> Result<Option<(Vec<Key>, &[u8])>, AllocError>
-    ensures { IfOk result (λ found. option_map (λ p. (p.0.items, p.1.now)) found ≡ keys_at bytes.now) }
+    ensures { IfOk result (λ found. option_map (λ p. (p.0.items, p.1.now)) found
+        ≡ keys_at bytes.now) }
 {
     let Some((count, rest)) = read_number(bytes) else {
         return Ok(None);
@@ -264,7 +268,8 @@ fn small_act_by(form: u8, bytes: &[u8]) -> Option<(Act, &[u8])>
 // The parts of this form.
 #[tactic(auto, unfolding(crate::specs::PackedActs::act_by))]
 fn act_by(alloc: Global, form: u8, bytes: &[u8]) -> Result<Option<(Act, &[u8])>, AllocError>
-    ensures { IfOk result (λ found. option_map (λ p. (p.0, p.1.now)) found ≡ act_by form bytes.now) }
+    ensures { IfOk result (λ found. option_map (λ p. (p.0, p.1.now)) found
+        ≡ act_by form bytes.now) }
 {
     match form {
         1 => put_at(alloc, bytes),
@@ -285,8 +290,10 @@ fn act_at(alloc: Global, bytes: &[u8]) -> Result<Option<(Act, &[u8])>, AllocErro
 
 /// The act at the front. Where the bytes begin with a packed act, it is that one.
 pub fn read_act(alloc: Global, bytes: &[u8]) -> Result<Option<(Act, &[u8])>, AllocError>
-    ensures exact { IfOk result (λ found. option_map (λ p. (p.0, p.1.now)) found ≡ act_at bytes.now) }
-    ensures again { IfOk result (λ found. IsReadAgain packed_act IsStoreAct (option_map (λ p. (p.0, p.1.now)) found) bytes.now) }
+    ensures exact { IfOk result (λ found. option_map (λ p. (p.0, p.1.now)) found
+        ≡ act_at bytes.now) }
+    ensures again { IfOk result (λ found. IsReadAgain packed_act IsStoreAct
+        (option_map (λ p. (p.0, p.1.now)) found) bytes.now) }
 {
     act_at(alloc, bytes)
 }

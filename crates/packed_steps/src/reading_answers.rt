@@ -373,7 +373,8 @@ fn answer_at(bytes: &[u8]) -> Option<(Answer, &[u8])>
 /// The answer at the front. Where the bytes begin with a packed answer, it is that one.
 pub fn read_answer(bytes: &[u8]) -> Option<(Answer, &[u8])>
     ensures exact { option_map (λ p. (p.0, p.1.now)) result ≡ answer_at bytes.now }
-    ensures again { IsReadAgain packed_answer IsStoreAnswer (option_map (λ p. (p.0, p.1.now)) result) bytes.now }
+    ensures again { IsReadAgain packed_answer IsStoreAnswer
+        (option_map (λ p. (p.0, p.1.now)) result) bytes.now }
 {
     answer_at(bytes)
 }

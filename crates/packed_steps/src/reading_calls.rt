@@ -131,7 +131,8 @@ fn call_at(bytes: &[u8]) -> Option<(Call, &[u8])>
 /// The call at the front. Where the bytes begin with a packed call, it is that one.
 pub fn read_call(bytes: &[u8]) -> Option<(Call, &[u8])>
     ensures exact { option_map (λ p. (p.0, p.1.now)) result ≡ call_at bytes.now }
-    ensures again { IsReadAgain packed_call IsStoreCall (option_map (λ p. (p.0, p.1.now)) result) bytes.now }
+    ensures again { IsReadAgain packed_call IsStoreCall
+        (option_map (λ p. (p.0, p.1.now)) result) bytes.now }
 {
     call_at(bytes)
 }

@@ -152,7 +152,8 @@ fn reply_at(bytes: &[u8]) -> Option<(Reply, &[u8])>
 /// The reply at the front. Where the bytes begin with a packed reply, it is that one.
 pub fn read_reply(bytes: &[u8]) -> Option<(Reply, &[u8])>
     ensures exact { option_map (λ p. (p.0, p.1.now)) result ≡ reply_at bytes.now }
-    ensures again { IsReadAgain packed_reply IsStoreReply (option_map (λ p. (p.0, p.1.now)) result) bytes.now }
+    ensures again { IsReadAgain packed_reply IsStoreReply
+        (option_map (λ p. (p.0, p.1.now)) result) bytes.now }
 {
     reply_at(bytes)
 }

@@ -16,7 +16,8 @@ pub fn reads_are_atomic()
 /// Whatever the steps are, no version that was asked for is unknown, no write clashes, no DISCARD finds all
 /// marks used, no reply is inconsistent, and no writer is answered that its stamp was discarded.
 pub fn no_answer_is_false()
-    ensures { (setup : Setup) (steps : List Act) → EachStep (λ history act answer. IsFalse answer → ⊥) setup steps }
+    ensures { (setup : Setup) (steps : List Act)
+        → EachStep (λ history act answer. IsFalse answer → ⊥) setup steps }
 {}
 
 /// Whatever the steps are, who begins to read after a transaction was done reads nothing older at the keys

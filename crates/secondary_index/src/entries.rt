@@ -51,11 +51,14 @@ pub(crate) fn put(entries: &mut RowList<TaggedKey>, entry: TaggedKey) -> Option<
     requires room { IsTrue (map.contains_key (tags_of entries.old.items) entry.key)
         ⊎ (length entries.old.items < entries.old.room) }
     ensures order { IsInOrder key_cmp entry_row entries.new.items }
-    ensures tags { tags_of entries.new.items ≡ map.insert (tags_of entries.old.items) entry.key entry.tag }
+    ensures tags { tags_of entries.new.items
+        ≡ map.insert (tags_of entries.old.items) entry.key entry.tag }
     ensures old { result ≡ map.get (tags_of entries.old.items) entry.key }
-    ensures len { length entries.new.items ≡ (if is_some result then length entries.old.items else length entries.old.items + 1) }
+    ensures len { length entries.new.items
+        ≡ (if is_some result then length entries.old.items else length entries.old.items + 1) }
     ensures room { entries.new.room ≡ entries.old.room }
-    ensures tagged { count_by is_tagged_entry entries.new.items + (if bytes_eq (unwrap_or result []) [] then 0 else 1)
+    ensures tagged { count_by is_tagged_entry entries.new.items
+        + (if bytes_eq (unwrap_or result []) [] then 0 else 1)
         ≡ count_by is_tagged_entry entries.old.items + (if bytes_eq entry.tag [] then 0 else 1) }
 {
     match search(entries, &entry.key) {

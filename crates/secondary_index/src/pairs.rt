@@ -50,7 +50,8 @@ pub(crate) fn put_in(pairs: &mut RowList<Pair>, key: &Key, tag: Tag)
     ensures order { IsInOrder pair_cmp pair_row pairs.new.items }
     ensures members { (p : Member) → has_pair pairs.new.items p
         ≡ (has_pair pairs.old.items p || (is_tagged p.tag tag && bytes_eq p.key key.now)) }
-    ensures len { length pairs.new.items ≡ length pairs.old.items + (if bytes_eq tag [] then 0 else 1) }
+    ensures len { length pairs.new.items
+        ≡ length pairs.old.items + (if bytes_eq tag [] then 0 else 1) }
     ensures room { pairs.new.room ≡ pairs.old.room }
 {
     if tag.as_bytes().is_empty() {
@@ -66,7 +67,8 @@ pub(crate) fn put_in(pairs: &mut RowList<Pair>, key: &Key, tag: Tag)
 pub(crate) fn under(pairs: &RowList<Pair>, tag: &Tag) -> (usize, usize)
     requires { IsInOrder pair_cmp pair_row pairs.now.items }
     ensures within { result.0 + result.1 ≤ length pairs.now.items }
-    ensures pairs { take result.1 (drop result.0 pairs.now.items) ≡ filter (λ p. bytes_eq p.tag tag.now) pairs.now.items }
+    ensures pairs { take result.1 (drop result.0 pairs.now.items)
+        ≡ filter (λ p. bytes_eq p.tag tag.now) pairs.now.items }
 {
     let first = pairs.partition_point(|pair| pair.tag < *tag);
     let end = pairs.partition_point(|pair| pair.tag <= *tag);
@@ -85,7 +87,8 @@ pub(crate) fn copy_keys(
     requires short { length pairs.now.items < 2 ^ 32 }
     requires room { count ≤ length keys.old }
     requires few { visits.old + count ≤ 2 ^ 62 }
-    ensures keys { take count keys.new ≡ map (λ p. p.key) (take count (drop first pairs.now.items)) }
+    ensures keys { take count keys.new
+        ≡ map (λ p. p.key) (take count (drop first pairs.now.items)) }
     ensures visits { visits.new ≡ visits.old + count }
 {
     for index in 0..count {

@@ -86,7 +86,8 @@ impl TagIndex {
     /// of those that carry tags between the two.
     pub fn set(&mut self, key: &Key, tag: Tag)
         requires { HasPlace self.old key.now }
-        ensures value { self.new ≡ record { room = self.old.room; tags = map.insert self.old.tags key.now tag } }
+        ensures value { self.new
+            ≡ record { room = self.old.room; tags = map.insert self.old.tags key.now tag } }
         ensures law { (settings : List Setting) → IsIndexOf self.old.tags settings
             → IsIndexOf self.new.tags (record { key = key.now; tag = tag } ∷ settings) }
     {
@@ -102,7 +103,8 @@ impl TagIndex {
     /// the tag already and stands where it did, it looks at that place alone.
     pub fn set_numbered(&mut self, number: u32, key: &Key, tag: Tag)
         requires { HasPlace self.old key.now }
-        ensures value { self.new ≡ record { room = self.old.room; tags = map.insert self.old.tags key.now tag } }
+        ensures value { self.new
+            ≡ record { room = self.old.room; tags = map.insert self.old.tags key.now tag } }
         ensures law { (settings : List Setting) → IsIndexOf self.old.tags settings
             → IsIndexOf self.new.tags (record { key = key.now; tag = tag } ∷ settings) }
     {

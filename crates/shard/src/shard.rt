@@ -516,7 +516,8 @@ fn serve_message<G: Gate, J: Naming>(
     requires inside { G.is_inside _gate.now _partition _nth }
     requires may { ∥ MayServe evidence.old book.old.partition tenant message.old.call ∥₁ }
     ensures takes { TakesCall book.old.journals book.old.accounts book.new.accounts tenant
-        caller.seat caller.number message.old.call (λ place. place) (λ _. message.new.reply) result }
+        caller.seat caller.number message.old.call (λ place. place)
+        (λ _. message.new.reply) result }
     ensures refuses { RefusesSo book.old.accounts tenant caller.seat caller.number result }
     ensures served { IfOk result
         (λ place.

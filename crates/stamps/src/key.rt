@@ -77,7 +77,8 @@ impl Key {
     /// Its bytes, and zeros behind them: `MAX_KEY_LEN` bytes in all.
     pub fn padded(&self) -> &[u8; Key::MAX_LEN]
         ensures bytes { take (length self.now) result.now ≡ self.now }
-        ensures zeros { drop (length self.now) result.now ≡ replicate (max_key_len - length self.now) 0 }
+        ensures zeros { drop (length self.now) result.now
+            ≡ replicate (max_key_len - length self.now) 0 }
         ensures fits { length result.now ≤ max_key_len }
     {
         self.text.padded()

@@ -49,7 +49,8 @@ impl Record {
     /// The record of these parts. `None` where the stamp is `0.0`, or the key is not in the write set.
     pub fn new(key: Key, tag: Tag, value: Value, stamp: Stamp, writes: WriteSet) -> Option<Record>
         ensures exact { IsSome result ↔ (0 < stamp) × Contains writes key }
-        ensures value { IfSome result (λ r. r ≡ record { key = key; tag = tag; value = value; stamp = stamp; writes = writes }) }
+        ensures value { IfSome result (λ r. r
+            ≡ record { key = key; tag = tag; value = value; stamp = stamp; writes = writes }) }
     {
         if stamp == Stamp::ZERO || !writes.contains(&key) {
             return None;

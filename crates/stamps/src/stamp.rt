@@ -145,7 +145,8 @@ impl Ord for Stamp {
     fn cmp(&self, other: &Stamp) -> Ordering
         ensures as_numbers { result ≡ nat_cmp self.now other.now }
         ensures by_counter_then_client { result ≡ ordering_then
-            (nat_cmp (counter_of self.now) (counter_of other.now)) (nat_cmp (client_of self.now) (client_of other.now)) }
+            (nat_cmp (counter_of self.now) (counter_of other.now))
+            (nat_cmp (client_of self.now) (client_of other.now)) }
     {
         self.number.cmp(&other.number)
     }

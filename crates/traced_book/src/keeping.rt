@@ -84,7 +84,8 @@ impl Keeping {
             → places account < 2 ^ 63 }
 
         ensures takes { TakesCall (has_journals self.old) (accounts_in self.old)
-            (accounts_in self.new) tenant caller.seat caller.number call.now (λ place. place) (λ _. reply.new) result }
+            (accounts_in self.new) tenant caller.seat caller.number call.now (λ place. place)
+            (λ _. reply.new) result }
         ensures journals { has_journals self.new ≡ has_journals self.old }
         ensures admitted { OnOk result (A.admits admission.old admission.new) }
         ensures refused { OnErr result ((admission.new ≡ admission.old)

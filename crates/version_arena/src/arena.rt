@@ -93,8 +93,10 @@ impl<T> Arena<T> {
     /// Where all cells are live it hands the value back as an `Err`, and the arena stays as it was.
     pub fn put(&mut self, value: T, next: Option<Slot>) -> Result<Slot, T>
         // The cell was free, and no other changes.
-        ensures was_free { IfOk result (λ slot. (slot < length self.old) × (entry self.old slot ≡ None)) }
-        ensures put { IfOk result (λ slot. self.new ≡ slice_set self.old slot (Some (value, next))) }
+        ensures was_free { IfOk result (λ slot. (slot < length self.old)
+            × (entry self.old slot ≡ None)) }
+        ensures put { IfOk result (λ slot. self.new
+            ≡ slice_set self.old slot (Some (value, next))) }
 
         // It is refused only where each cell is live.
         ensures full { OnErr result (live_count self.old ≡ length self.old) }

@@ -33,7 +33,8 @@ impl<C, A: Allocator> RawCells<C, A> {
     /// Asks the allocator for a block of empty places.
     pub(crate) fn allocate(alloc: &A, len: usize) -> Result<RawCells<C, A>, AllocError>
         requires { FitsInBlock C.row len }
-        ensures { IfOk result (λ places. (places.held ≡ replicate len None) × (places.alloc ≡ alloc.now)) }
+        ensures { IfOk result (λ places. (places.held ≡ replicate len None)
+            × (places.alloc ≡ alloc.now)) }
     {
         match alloc.allocate(len * size_of::<C>(), align_of::<C>()) {
             Ok(block) => Ok(RawCells {
