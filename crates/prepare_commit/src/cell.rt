@@ -328,8 +328,8 @@ impl Cell {
     /// Each item then stands under the tag of its latest committed version: one of which a version of this stamp became
     /// the latest has moved.
     ///
-    /// It finds the versions of the stamp by a binary search, and visits them alone. To move an item it reads the
-    /// slot of its chain's latest committed version, and shifts the index where the tag is another one.
+    /// It finds the versions of the stamp among the last few listed, or by a binary search, and visits them alone. To move an item it
+    /// reads the slot of its chain's latest committed version, where any item has a tag, and shifts the index where the tag is another one.
     pub fn commit(&mut self, block: &mut Block, stamp: Stamp) -> u32
         requires { LiesIn block.old self.old }
         ensures served { IsServed block.old self.old block.new self.new
@@ -341,7 +341,7 @@ impl Cell {
         self.commit_counted(block, stamp, &mut Visits::new())
     }
 
-    /// What `commit` does, and the versions that are looked at, the probes of a binary search excepted, are counted in
+    /// What `commit` does, and the versions that are looked at, but for those by which it finds the first, are counted in
     /// `visits`: as many as are answered. What is done in the tag index is not counted. At most 2^61 were counted before.
     pub fn commit_counted(&mut self, block: &mut Block, stamp: Stamp, visits: &mut Visits) -> u32
         requires lies { LiesIn block.old self.old }
@@ -373,7 +373,7 @@ impl Cell {
     ///   client's mark is raised to the stamp. Committed versions and entries stay, and each item stands under the same
     ///   tag as before.
     ///
-    /// It finds the versions of the stamp by a binary search, and searches for it in the chain of each. Where it gave up
+    /// It finds the versions of the stamp as `commit` does, and searches for it in the chain of each. Where it gave up
     /// any, it visits them once more and shifts the listed versions of greater stamps.
     #[cold]
     #[inline(never)]

@@ -208,7 +208,7 @@ impl Versions {
     }
 
     /// Gives up the versions of a stamp that are not committed, answers how many they were, and notes the chains of all versions of the
-    /// stamp. It finds these by a binary search, reads in which chain each stands, and visits them, each counted in `visits`; where one is
+    /// stamp. It finds these as `commit` does, reads in which chain each stands, and visits them, each counted in `visits`; where one is
     /// not committed, it also searches for the stamp in its chain. Where it gave up any, it visits them once more and shifts the listed
     /// versions of greater stamps. Where no sweep followed a cut, it sweeps first.
     pub(crate) fn discard(

@@ -72,7 +72,7 @@ impl KeptList {
         }
     }
 
-    /// Where the versions of a stamp begin and end, found by a binary search in each list.
+    /// Where the versions of a stamp begin and end, found in each list among its last few or by a binary search.
     pub(crate) fn places(&self, stamp: Stamp) -> (usize, usize)
         ensures ordered { result.0 ≤ result.1 }
         ensures within { result.1 ≤ length self.now.kept }
