@@ -176,6 +176,9 @@ module _ (cells : HeadCells) (all : List (List ℕ)) (slot : ℕ) (head : Head) 
       pub len_shown : head.len ≡ length (packed_body n.version.prepared)
       len_shown = len_at ∙ ap (λ (n : Node). length (packed_body n.version.prepared)) shown
 
+      pub tag_len_shown : head.tag_len ≡ length n.version.prepared.tag
+      tag_len_shown = its.tag ∙ ap (λ (n : Node). length n.version.prepared.tag) node_shown
+
 -- ---- the front of a record
 
 take_within : (len whole : ℕ) (bytes : List ℕ) → len ≤ whole → take len (take whole bytes) ≡ take len bytes
@@ -233,11 +236,12 @@ module _ (cells : HeadCells) (all new : List (List ℕ)) (slot : ℕ) (head : He
 
 -- so many bytes of a slot are those of a buffer, which are the body of a record
 pub body_put : (stamp : ℕ) (head : Head) (bytes body : List ℕ) (len : ℕ) → head.len ≡ len → head.stamp ≡ stamp → take len bytes ≡ take len body → IsPackedBody stamp (take len body) → len ≤ length bytes → len ≤ max_body_bytes
-    → IsStored head bytes
-body_put stamp head bytes body len same of there packed long few = record {
+    → head.tag_len ≡ length (record_of head bytes).tag → IsStored head bytes
+body_put stamp head bytes body len same of there packed long few tag = record {
   packed = subst (λ s. IsPackedBody s (take head.len bytes)) (sym of) (subst (IsPackedBody stamp) (sym (ap (λ n. take n bytes) same ∙ there)) packed);
   there = omega (arith, same, long);
   few = omega (arith, same, few);
+  tag = tag;
 }
 
 pub body_read : (stamp : ℕ) (head : Head) (bytes body : List ℕ) (len : ℕ) (prepared : Record) → head.len ≡ len → head.stamp ≡ stamp → take len bytes ≡ take len body → record_in stamp (take len body) ≡ prepared
@@ -247,13 +251,13 @@ body_read stamp head bytes body len prepared same of there read = ap (λ s. reco
 -- ---- a version that is marked
 
 pub mark_stays : (cells : HeadCells) (all : List (List ℕ)) (slot : ℕ) (head : Head) (next : Option ℕ) → entry cells slot ≡ Some (head, next) → AreStored cells all
-    → AreStored (set cells slot (Some (record { stamp = head.stamp; tenant = head.tenant; chain = head.chain; len = head.len; committed = true }, next))) all
+    → AreStored (set cells slot (Some (record { stamp = head.stamp; tenant = head.tenant; chain = head.chain; len = head.len; tag_len = head.tag_len; committed = true }, next))) all
 mark_stays cells all slot head next there are =
     let its = stored_at cells all slot head next there are in
-    write_stored cells all are slot (live_within cells slot (head, next) there) _ (record { packed = its.packed; there = its.there; few = its.few })
+    write_stored cells all are slot (live_within cells slot (head, next) there) _ (record { packed = its.packed; there = its.there; few = its.few; tag = its.tag })
 
 pub marked_at : (cells : HeadCells) (all : List (List ℕ)) (slot : ℕ) (head : Head) → entry cells slot ≡ Some (head, next_beside cells slot)
-    → IsMarkedAt (stored_cells cells all) (stored_cells (set cells slot (Some (record { stamp = head.stamp; tenant = head.tenant; chain = head.chain; len = head.len; committed = true }, next_beside cells slot))) all) slot
+    → IsMarkedAt (stored_cells cells all) (stored_cells (set cells slot (Some (record { stamp = head.stamp; tenant = head.tenant; chain = head.chain; len = head.len; tag_len = head.tag_len; committed = true }, next_beside cells slot))) all) slot
 marked_at cells all slot head there =
     let next = stored_next cells all slot in
     record {

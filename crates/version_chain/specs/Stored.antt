@@ -38,11 +38,12 @@ stored_cells [] all = []
 stored_cells (cell ∷ cells) [] = stored_cell cell [] ∷ stored_cells cells []
 stored_cells (cell ∷ cells) (bytes ∷ all) = stored_cell cell bytes ∷ stored_cells cells all
 
--- the bytes of the head's record are there, and are those of a record of its stamp
+-- the bytes of the head's record are there, and are those of a record of its stamp, whose tag has the length that the head says
 pub record IsStored (head : Head) (bytes : List ℕ) : Type 0 where
   pub packed : IsPackedBody head.stamp (body_of head bytes)
   pub there : head.len ≤ length bytes
   pub few : head.len ≤ max_body_bytes
+  pub tag : head.tag_len ≡ length (record_of head bytes).tag
 
 abbrev pub IsStoredIn : Option (Head × Option ℕ) → List ℕ → Type 0
 IsStoredIn None bytes = Unit {0}

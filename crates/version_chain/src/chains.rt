@@ -120,6 +120,7 @@ impl Chains {
 
     // The last slot of a chain that is within a bound, and the slot after it. It visits the versions of the chain down to
     // there, or, where these are many, some of them beside the listed versions from the bound up to the next one of the chain.
+    #[inline(always)]
     fn seek_within(&self, block: &Block, chain: u32, bound: &Bound) -> (Option<Slot>, Option<Slot>)
         requires { HasChain block.now self.now chain }
         ensures { IsPlace block.now self.now chain (least_of bound.now) result.0 result.1 }
@@ -310,6 +311,7 @@ impl Chains {
     }
 
     // Puts a version between two slots that stand one after the other, and lists it.
+    #[inline(always)]
     fn enter(
         &mut self,
         block: &mut Block,
@@ -690,6 +692,7 @@ impl Chains {
     }
 
     // Takes the version at `here`, which stands after `last`, out of its chain and frees its cell.
+    #[inline(always)]
     fn unlink(&mut self, block: &mut Block, chain: u32, last: Option<Slot>, here: Slot)
         requires chain { HasChain block.old self.old chain }
         requires place { (stamp : ℕ) × IsPlace block.old self.old chain stamp last (Some here) }

@@ -6,7 +6,7 @@ ghost use Rattle.version_chain.specs.declared.version.Version.{Version};
 ghost use Rattle.version_chain.specs.Chain.{IsMarkedAt};
 
 use crate::stored::StoredNode;
-use crate::version::{Head, stamp_of};
+use crate::version::{Head, stamp_of, tag_len_of};
 use packed::{BODY_ROOM, pack_body};
 use stamps::Record;
 use std::alloc::{AllocError, Global};
@@ -84,6 +84,7 @@ impl Block {
             tenant,
             chain,
             len: len as u16,
+            tag_len: tag_len_of(prepared),
             committed,
         };
         let Ok(slot) = self.heads.put(head, next) else {

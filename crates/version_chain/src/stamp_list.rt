@@ -92,6 +92,9 @@ impl StampList {
     pub(crate) fn has(&self, stamp: Stamp) -> bool
         ensures { IsTrue result ↔ (0 < count_at stamp self.now.kept) }
     {
+        if self.kept.is_empty() {
+            return false;
+        }
         let (first, end) = self.places(stamp);
         first < end
     }
@@ -351,5 +354,9 @@ fn insert_within<T: Drop>(list: &mut Vec<T>, index: usize, value: T)
     ensures len { vec_len list.new ≡ vec_len list.old + 1 }
     ensures capacity { vec_capacity list.old ≤ vec_capacity list.new }
 {
+    if index == list.len() {
+        list.push_reserved(value);
+        return;
+    }
     let _ = list.insert(index, value);
 }

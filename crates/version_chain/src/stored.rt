@@ -154,6 +154,14 @@ impl<'b> StoredNode<'b> {
         front_tag(&front[..len])
     }
 
+    /// How many bytes the tag has. Only the version's head is read.
+    fn tag_len(&self) -> usize
+        ensures { result ≡ length self.now.version.prepared.tag }
+    {
+        let block = self.block;
+        usize::from(block.heads.get(self.slot).tag_len)
+    }
+
     /// The name of the item, and the tag under which it is found. They are read at once.
     fn key_and_tag(&self) -> (Key, Tag)
         ensures { (result.0 ≡ self.now.version.prepared.key)
@@ -267,6 +275,13 @@ impl<'b> StoredRecord<'b> {
         ensures { result ≡ self.now.tag }
     {
         self.node.tag()
+    }
+
+    /// How many bytes the tag has. It reads none of them, nor of the key and the value.
+    pub fn tag_len(&self) -> usize
+        ensures { result ≡ length self.now.tag }
+    {
+        self.node.tag_len()
     }
 
     /// The name of the item, and the tag under which it is found, or the empty one. They are read at once.

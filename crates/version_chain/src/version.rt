@@ -1,5 +1,5 @@
 // What a cell of a chain holds.
-ghost use Rattle.std.specs.Prelude.{◌≡◌, nat_lt};
+ghost use Rattle.std.specs.Prelude.{◌≡◌, nat_lt, length};
 ghost use Rattle.version_chain.specs.Place.{least_of};
 
 use stamps::{Record, Stamp};
@@ -17,6 +17,13 @@ pub(crate) fn stamp_of(prepared: &Record) -> Stamp
     ensures { result ≡ prepared.now.stamp }
 {
     prepared.stamp
+}
+
+// How many bytes the tag of a record has.
+pub(crate) fn tag_len_of(prepared: &Record) -> u8
+    ensures { result ≡ length prepared.now.tag }
+{
+    prepared.tag.len() as u8
 }
 
 /// Which stamps are looked for: those from one on, or those above one.
@@ -50,6 +57,8 @@ pub(crate) struct Head {
     pub(crate) chain: u32,
     /// How many bytes the record has without its stamp, `MAX_BODY_BYTES` at most.
     pub(crate) len: u16,
+    /// How many bytes the record's tag has, `Tag::MAX_LEN` at most.
+    pub(crate) tag_len: u8,
     /// Whether the version is marked as committed.
     pub(crate) committed: bool,
 }

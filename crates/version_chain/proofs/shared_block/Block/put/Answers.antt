@@ -1,4 +1,5 @@
-use Rattle.std.proofs.Common.{◌≡◌, length, Some, None, slice_set, refl, ap, subst, ◌∙◌, arith}
+use Rattle.std.proofs.Common.{◌≡◌, length, Some, None, slice_set, refl, sym, ap, subst, ◌∙◌, arith}
+use Rattle.stamps.specs.Record.{Record}
 use Rattle.version_arena.specs.Arena.{entry, live_count}
 use Rattle.version_arena.specs.SlotBytes.{bytes_at}
 use Rattle.version_chain.specs.declared.version.Head.{Head}
@@ -28,15 +29,17 @@ returns-clause-was_free c =
     )
 
 abbrev head : (c : After-put-2) → Head
-head c = record { stamp = c.stamp_of.result; tenant = c.args.tenant; chain = c.args.chain; len = c.pack_body-len.result; committed = c.args.committed }
+head c = record { stamp = c.stamp_of.result; tenant = c.args.tenant; chain = c.args.chain; len = c.pack_body-len.result; tag_len = c.tag_len_of.result; committed = c.args.committed }
 
 pub invariant_of-self : goal.invariant_of-self
 invariant_of-self c =
     let at = (goal.at.invariant_of-self c).After-put-2 in
     let put = c.put-2.ensures in
-    let packed = c.pack_body-len.ensures in (
+    let packed = c.pack_body-len.ensures in
+    let read = body_read c.args.prepared.now.stamp (head at) (bytes_at c.put-2.new.self c.in-Ok.slot) c.pack_body-len.new.bytes c.pack_body-len.result c.args.prepared.now refl c.stamp_of.ensures put.put packed.read in (
       rw c.in-Ok.ensures.put (put_stays c.self.inside.heads c.self.inside.bodies c.put-2.new.self c.in-Ok.slot (head at) c.args.next c.in-Ok.ensures.was_free.0 c.self.invariant.0 put.others
-          (body_put c.args.prepared.now.stamp (head at) (bytes_at c.put-2.new.self c.in-Ok.slot) c.pack_body-len.new.bytes c.pack_body-len.result refl c.stamp_of.ensures put.put packed.body put.long packed.few)),
+          (body_put c.args.prepared.now.stamp (head at) (bytes_at c.put-2.new.self c.in-Ok.slot) c.pack_body-len.new.bytes c.pack_body-len.result refl c.stamp_of.ensures put.put packed.body put.long packed.few
+          (c.tag_len_of.ensures ∙ ap (λ (r : Record). length r.tag) (sym read)))),
       c.pack_body-len.auto.bytes ∙ c.self.invariant.1,
     )
 
