@@ -110,6 +110,7 @@ impl Chains {
     }
 
     // The last slot whose stamp is not below this one, and the slot after it.
+    #[inline(always)]
     fn seek(&self, block: &Block, chain: u32, stamp: Stamp) -> (Option<Slot>, Option<Slot>)
         requires { HasChain block.now self.now chain }
         ensures { IsPlace block.now self.now chain stamp result.0 result.1 }
@@ -336,6 +337,7 @@ impl Chains {
     }
 
     // Puts a version between two slots that stand one after the other, and answers its own slot.
+    #[inline(always)]
     fn link(
         &mut self,
         block: &mut Block,
@@ -717,6 +719,7 @@ impl Chains {
 
     // The slot of the latest committed version of a chain, once the version at `here` is gone from it. It visits these
     // two, and where they are one, those below it down to the next that is committed.
+    #[inline(always)]
     fn latest_without(&self, block: &Block, chain: u32, here: Slot) -> Option<Slot>
         requires chain { HasChain block.now self.now chain }
         requires place { (stamp : ℕ) × (last : Option ℕ)

@@ -58,6 +58,7 @@ impl KeptList {
 
     /// Puts in a version, for which there is room. It shifts those of greater stamps in one of the two lists: in the main one
     /// where this has a version of the stamp, or a full list of late ones is to be merged into it.
+    #[inline(always)]
     pub(crate) fn insert(&mut self, stamp: Stamp, slot: Slot)
         requires { length self.old.kept < self.old.room }
         ensures room { self.new.room ≡ self.old.room }

@@ -58,6 +58,7 @@ impl StampList {
     }
 
     /// Puts in a version, for which there is room. It shifts those of greater stamps, and looks for its place where there are any.
+    #[inline(always)]
     pub(crate) fn insert(&mut self, stamp: Stamp, slot: Slot)
         requires { length self.old.kept < self.old.room }
         ensures room { self.new.room ≡ self.old.room }
