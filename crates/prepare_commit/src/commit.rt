@@ -114,7 +114,7 @@ fn move_item(index: &mut TagIndex, chain: u32, latest: &StoredRecord)
       tags = insert index.old.tags latest.now.key latest.now.tag;
     } }
 {
-    if !index.has_tags() && latest.tag().len() == 0 {
+    if !index.has_tags() && latest.tag_len() == 0 {
         return;
     }
     let (key, tag) = latest.key_and_tag();

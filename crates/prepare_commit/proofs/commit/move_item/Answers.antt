@@ -14,10 +14,10 @@ untagged : (tags : Tags) (key tag : List ℕ) → fin.contains_key tags key ≡ 
 untagged tags key [] known none empty = insert-same tags key [] (has_none (fin.get tags key) known none)
 untagged tags key (x ∷ rest) known none empty = absurd (omega (arith, empty))
 
-pub returns-then-len-eq0 : goal.returns-then-len-eq0
-returns-then-len-eq0 c i =
+pub returns-then-tag_len-eq0 : goal.returns-then-tag_len-eq0
+returns-then-tag_len-eq0 c i =
     let latest = c.args.latest.now in
     record {
       room = c.args.index.now.room;
-      tags = sym (untagged c.args.index.now.tags latest.key latest.tag c.requires (c.has_tags.ensures c.if-not-has_tags.true latest.key) (sym (ap length c.tag.ensures) ∙ sym c.len.ensures.count ∙ c.if-len-eq0.true)) i;
+      tags = sym (untagged c.args.index.now.tags latest.key latest.tag c.requires (c.has_tags.ensures c.if-not-has_tags.true latest.key) (sym c.tag_len.ensures ∙ c.if-tag_len-eq0.true)) i;
     }
