@@ -186,6 +186,7 @@ impl KeptList {
 }
 
 // Merges the late versions into the main list where no more of them fit.
+#[inline(always)]
 fn make_room(main: &mut StampList, late: &mut StampList)
     requires apart { AreApart main.old.kept late.old.kept }
     requires room { length main.old.kept + length late.old.kept ≤ main.old.room }

@@ -64,6 +64,7 @@ impl Block {
 
     /// Puts a version of a record into a free cell, of which there is one, before the version in the slot `next`. It answers the
     /// cell's slot.
+    #[inline(always)]
     pub(crate) fn put(
         &mut self,
         tenant: u32,

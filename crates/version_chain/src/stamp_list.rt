@@ -110,6 +110,8 @@ impl StampList {
 
     /// Takes all versions of another list, for which there is room. It visits those, and shifts the versions of greater
     /// stamps than the least of them once.
+    #[cold]
+    #[inline(never)]
     pub(crate) fn take_all(&mut self, other: &mut StampList)
         requires { length self.old.kept + length other.old.kept ≤ self.old.room }
         ensures room { self.new.room ≡ self.old.room }
@@ -348,6 +350,7 @@ fn append_within(list: &mut Vec<Kept>, added: &[Kept])
 }
 
 // Inserts a value where there is room for it, which takes no memory.
+#[inline(always)]
 fn insert_within<T: Drop>(list: &mut Vec<T>, index: usize, value: T)
     requires within { index ≤ vec_len list.old }
     requires room { vec_len list.old < vec_capacity list.old }
