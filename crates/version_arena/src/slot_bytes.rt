@@ -145,9 +145,7 @@ fn piece_of(source: &[u8], at: usize) -> [u8; PIECE_BYTES]
     requires { at + 64 ≤ length source.now }
     ensures { result ≡ take 64 (drop at source.now) }
 {
-    let mut piece = [0; PIECE_BYTES];
-    piece.copy_from_slice(&source[at..at + PIECE_BYTES]);
-    piece
+    *source[at..].first_chunk().unwrap()
 }
 
 // Copies a piece to a place of a buffer.
@@ -157,5 +155,17 @@ fn lay_piece(out: &mut [u8], at: usize, piece: &[u8; PIECE_BYTES])
     ensures laid { take (at + 64) out.new ≡ take at out.old ++ piece.now }
     ensures whole { length piece.now ≡ 64 }
 {
-    out[at..at + PIECE_BYTES].copy_from_slice(piece);
+    overwrite(&mut out[at..at + PIECE_BYTES], piece);
+}
+
+// Copies a piece over bytes that are as many.
+#[inline(always)]
+fn overwrite(place: &mut [u8], piece: &[u8; PIECE_BYTES])
+    requires { length place.old ≡ 64 }
+    ensures { place.new ≡ piece.now }
+{
+    let Some(array) = place.as_mut_array() else {
+        unreachable!()
+    };
+    *array = *piece;
 }
