@@ -25,6 +25,28 @@ pub(crate) fn lay(bytes: &mut [u8], at: usize, source: &[u8])
     bytes[at..at + source.len()].copy_from_slice(source);
 }
 
+/// A whole array. Of what is written, any first part may count.
+#[inline(always)]
+fn lay_array<const N: usize>(bytes: &mut [u8], at: usize, all: &[u8; N])
+    requires { at + N ≤ length bytes.old }
+    ensures { (len : ℕ) → len ≤ length all.now → take (at + len) bytes.new ≡ take at bytes.old
+        ++ take len all.now }
+{
+    overwrite(&mut bytes[at..at + N], all);
+}
+
+/// A whole array over bytes that are as many.
+#[inline(always)]
+fn overwrite<const N: usize>(place: &mut [u8], all: &[u8; N])
+    requires { length place.old ≡ N }
+    ensures { place.new ≡ all.now }
+{
+    let Some(array) = place.as_mut_array() else {
+        unreachable!()
+    };
+    *array = *all;
+}
+
 /// The first `len` bytes of an array, behind their number.
 #[inline(always)]
 pub(crate) fn lay_text<const N: usize>(
@@ -40,7 +62,7 @@ pub(crate) fn lay_text<const N: usize>(
     ensures end { result ≡ at + 1 + len }
 {
     lay(bytes, at, &[len as u8]);
-    lay(bytes, at + 1, all);
+    lay_array(bytes, at + 1, all);
     at + 1 + len
 }
 
@@ -68,6 +90,7 @@ fn lay_stamp(bytes: &mut [u8], at: usize, stamp: Stamp) -> usize
 }
 
 /// A transaction's keys behind their count. They take up to `MAX_KEYS_BYTES`.
+#[inline(always)]
 pub(crate) fn lay_keys(bytes: &mut [u8], at: usize, keys: &[Key]) -> usize
     requires many { length keys.now ≤ max_keys }
     requires room { at + max_keys_bytes ≤ length bytes.old }
