@@ -6,4 +6,4 @@ mod write_progress;
 mod writer;
 
 pub use partitions::Partitions;
-pub use writer::{WriteMove, Writer, write_set_of};
+pub use writer::{WriteMove, Writer, put_write_set, write_set_of};

@@ -29,9 +29,11 @@ impl ItemProgress {
         requires { IsParts parts }
         ensures { result ≡ place_for parts key.now }
     {
+        // First its home, so that the key is copied once.
+        let home = stamps::home(key, parts);
         ItemProgress {
             key: *key,
-            home: stamps::home(key, parts),
+            home,
             is_prepared: false,
             is_committed: false,
         }

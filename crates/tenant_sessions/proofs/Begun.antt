@@ -1,5 +1,5 @@
 -- Transactions that may begin: for `Sessions::begin_put`, `begin_get` and `begin_find`, and `ClientSession::begin_put`.
-use Rattle.std.proofs.Common.{◌≡◌, ℕ, ◌+◌, List, [], true, false, refl, sym, ap, ◌∙◌, subst, cond, length, Option, Some, None, is_some}
+use Rattle.std.proofs.Common.{◌≡◌, ℕ, ◌+◌, List, [], Bool, true, false, refl, sym, ap, ◌∙◌, subst, cond, length, Option, Some, None, is_some}
 use Rattle.std.specs.Prelude.{Result, Ok, Err, IfOk, nat_le}
 use Rattle.stamps.specs.Bounds.{IsClient, IsParts}
 use Rattle.stamps.specs.Stamp.{stamp}
@@ -91,11 +91,22 @@ pub ok_told : {X : Type 0} (P Q R : X → Type 0) → ((x : X) → P x → Q x �
 ok_told P Q R so (Ok x) p q = so x p q
 ok_told P Q R so (Err refusal) p q = tt
 
+-- one of two refusals
+abbrev first_of : Bool → Refusal → Refusal → Result (Unit {0}) Refusal
+first_of b refusal other = cond b (Err refusal) (Err other)
+
+one_error : (b : Bool) (refusal other : Refusal) → first_of b refusal other ≡ Err (cond b refusal other)
+one_error true refusal other = refl
+one_error false refusal other = refl
+
 -- ---- the tests of a write that an idle session begins
 
 module _ (held : ClientSession) (idle : test_idle held ≡ is_passed) where
   is_idle : (held.is_open ≡ true) × (is_some held.running ≡ false)
   is_idle = let o = is_opened held.is_open _ idle in (o.0, (passes (is_some held.running) Busy is_passed o.1).0)
+
+  pub none_held : held.running ≡ None
+  none_held = none_runs held.running is_idle.1
 
   pub bad_put : (items : List Item) → are_bad (keys_written items) ≡ true → test_put held items ≡ Err BadItems
   bad_put items bad =
@@ -104,6 +115,11 @@ module _ (held : ClientSession) (idle : test_idle held ≡ is_passed) where
   pub used_put : (items : List Item) → are_bad (keys_written items) ≡ false → nat_le counter_limit held.counter ≡ true → test_put held items ≡ Err StampsUsed
   used_put items good used =
       (λ i. cond (is_idle.0 i) (cond (is_idle.1 i) (Err Busy) (cond (good i) (Err BadItems) (cond (used i) (Err StampsUsed) is_passed))) (Err Stopped))
+
+  pub spent_put : (items : List Item) → nat_le counter_limit held.counter ≡ true → test_put held items ≡ Err (cond (are_bad (keys_written items)) BadItems StampsUsed)
+  spent_put items used =
+      (λ i. cond (is_idle.0 i) (cond (is_idle.1 i) (Err Busy) (cond (are_bad (keys_written items)) (Err BadItems) (cond (used i) (Err StampsUsed) is_passed))) (Err Stopped))
+      ∙ one_error (are_bad (keys_written items)) BadItems StampsUsed
 
   pub passes_put : (items : List Item) → are_bad (keys_written items) ≡ false → nat_le counter_limit held.counter ≡ false → test_put held items ≡ is_passed
   passes_put items good fits =

@@ -1,5 +1,5 @@
 -- What a transaction that has just begun waits for: for `Running::begin`.
-use Rattle.std.proofs.Common.{◌≡◌, ℕ, zero, suc, ◌<◌, ◌≤◌, List, [], ◌∷◌, false, ◌&&◌, ◌||◌, not, map, filter, ap, sym, ◌∙◌, refl, cond, arith, length, None}
+use Rattle.std.proofs.Common.{◌≡◌, ℕ, zero, suc, ◌<◌, ◌≤◌, List, [], ◌∷◌, Bool, true, false, ◌&&◌, ◌||◌, not, map, filter, ap, sym, ◌∙◌, refl, cond, arith, length, None}
 use Rattle.std.specs.Prelude.{IsTrue, nat_lt}
 use Rattle.std.specs.List.{list_all}
 use Rattle.std.proofs.lemmas.List.{length-map}
@@ -9,7 +9,7 @@ use Rattle.stamps.specs.Limits.{max_keys, max_found, max_parts}
 use Rattle.plain_store.specs.Words.{Record, Item, Key, Tag, Stamp, Setup, home}
 use Rattle.plain_store.specs.declared.calls.Call.TheVariants.{Prepare, Get, Found}
 use Rattle.plain_store.specs.declared.message.Message.{Message}
-use Rattle.plain_store.proofs.BadKeys.{transaction_keys}
+use Rattle.plain_store.proofs.BadKeys.{transaction_keys, good_keys, bad_keys}
 use Rattle.plain_store.specs.Finding.{below, found_calls, all_found, total_found, all_keys_found}
 use Rattle.plain_store.specs.History.{Intent, Writes, Gets, Finds}
 use Rattle.plain_store.specs.Moves.{calls_of, is_answered}
@@ -29,6 +29,11 @@ use Rattle.get_all.proofs.New.{not_ended as not_read}
 use Rattle.tenant_sessions.specs.Running.{is_past, waiting_calls, IsWriting, IsReading, IsFinding}
 use Rattle.tenant_sessions.proofs.Placed.{length-below}
 use Rattle.tenant_sessions.proofs.Taking.{filter_whole, not_both}
+
+-- a test that exactly the keys of a transaction pass
+pub passes_good : (keys : List Key) (b : Bool) → (b ≡ true → IsTransactionKeys keys) → (IsTransactionKeys keys → b ≡ true) → b ≡ not (are_bad keys)
+passes_good keys true some whole = sym (ap not (good_keys keys (some refl)))
+passes_good keys false some whole = sym (ap not (bad_keys keys (λ good. let t = whole good in cc)))
 
 -- before any reply it waits for all calls of its part
 pub waits_first : (setup : Setup) (request : Intent) (calls : List Outgoing) → calls_of setup (is_past request []) request [] ≡ calls → waiting_calls setup request [] ≡ calls

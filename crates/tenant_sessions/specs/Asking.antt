@@ -1,10 +1,8 @@
 -- What the calls that begin a transaction, put a call and take a reply ask for, and what they promise.
-use Rattle.std.specs.Prelude.{◌≡◌, ◌≢◌, ℕ, ◌+◌, ◌<◌, ◌≤◌, Bool, true, false, is_some, List, []}
+use Rattle.std.specs.Prelude.{◌≡◌, ◌≢◌, ℕ, ◌+◌, ◌≤◌, Bool, true, false, is_some, List, []}
 use Rattle.std.specs.Prelude.{Some, None, Result, Ok, Err, IfOk, IfErr, OnOk, OnErr, IsSome}
 use Rattle.std.specs.Prelude.{cond, length, slice_get}
-use Rattle.stamps.specs.Key.{IsTransactionKeys, sorted_keys}
 use Rattle.stamps.specs.Limits.{max_parts}
-use Rattle.stamps.specs.declared.record.Item.{Item}
 use Rattle.plain_store.specs.declared.answer.Answer.TheVariants.{Refused}
 use Rattle.plain_store.specs.declared.message.Message.{Message}
 use Rattle.plain_store.specs.declared.reading.Reading.{Reading}
@@ -12,8 +10,8 @@ use Rattle.plain_store.specs.declared.refusal.Refusal.{Refusal}
 use Rattle.plain_store.specs.declared.step.Act.{Act}
 use Rattle.plain_store.specs.History.{History, Intent, message_at, moment}
 use Rattle.plain_store.specs.Run.{moment_of, rows_are_used}
-use Rattle.plain_store.specs.Words.{Key, Setup}
-use Rattle.plain_store.specs.Writing.{Outgoing, keys_written}
+use Rattle.plain_store.specs.Words.{Setup}
+use Rattle.plain_store.specs.Writing.{Outgoing}
 use Rattle.tenant_sessions.specs.declared.begin.Begin.{Begin}
 use Rattle.tenant_sessions.specs.declared.moves.MoveKind.{MoveKind}
 use Rattle.tenant_sessions.specs.declared.moves.MoveKind.TheVariants.{Ignored}
@@ -29,14 +27,6 @@ use Rattle.tenant_sessions.specs.Running.{IsReplyTo, RunningStands, is_reply_of}
 use Rattle.tenant_sessions.specs.Sessions.{IsBegin, IsBeginOf, IsRun, IsTaken, StandsFor}
 use Rattle.tenant_sessions.specs.Sending.{SendsSo, waiting_of}
 use Rattle.tenant_sessions.specs.Showing.{IsShown, Shows}
-
--- ---- what they ask for
-
--- a write of these items may begin: its stamp was drawn, its keys may be those of a transaction, and this is its write set
-pub record MayWrite (stamp : ℕ) (items : List Item) (set : List Key) : Type 0 where
-  pub written : 0 < stamp
-  pub keys : IsTransactionKeys (keys_written items)
-  pub writes : set ≡ sorted_keys (keys_written items)
 
 -- ---- what they promise
 

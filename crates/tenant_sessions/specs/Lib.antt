@@ -8,7 +8,7 @@ pub mod Showing
 pub mod Offering
 pub mod CallsLeft
 pub mod Begins
-pub mod ReadBegun
+pub mod Runs
 pub mod Sessions
 pub mod Asking
 pub mod Sending

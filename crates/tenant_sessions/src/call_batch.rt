@@ -1,10 +1,11 @@
 //! The parts of transactions: the calls that are sent at once.
-ghost use Rattle.std.specs.Prelude.{◌≡◌, ◌<◌, ◌≤◌, false, length, map, slice_get};
+ghost use Rattle.std.specs.Prelude.{◌≡◌, ◌<◌, ◌≤◌, ◌↔◌, true, false, length, map, slice_get, IsTrue};
 ghost use Rattle.std.specs.Option.{option_map_or};
 ghost use Rattle.stamps.specs.Bounds.{IsParts};
 ghost use Rattle.stamps.specs.Limits.{max_keys};
-ghost use Rattle.tenant_sessions.specs.Asking.{MayWrite, PutsCall};
-ghost use Rattle.plain_store.specs.Writing.{record_for};
+ghost use Rattle.stamps.specs.Key.{IsTransactionKeys};
+ghost use Rattle.tenant_sessions.specs.Asking.{PutsCall};
+ghost use Rattle.plain_store.specs.Writing.{keys_written, record_for};
 ghost use Rattle.tenant_sessions.specs.Parts.{Prepares, Commits, First, Second, Founds, reads_first, reads_second, is_commit_message, searches};
 
 use crate::write_records::WriteRecords;
@@ -219,13 +220,15 @@ impl CallBatch {
         }
     }
 
-    /// Makes of it the PREPAREs of these items under this stamp. The write set is that of the items.
-    pub(crate) fn prepare(&mut self, stamp: Stamp, items: &[Item], writes: &WriteSet)
-        requires { MayWrite stamp items.now writes.now }
-        ensures { self.new ≡ Prepares (map (record_for stamp items.now) items.now) }
+    /// Makes of it the PREPAREs of these items under this stamp, and says whether it could: a write may have them.
+    pub(crate) fn prepare(&mut self, stamp: Stamp, items: &[Item]) -> bool
+        requires { 0 < stamp }
+        ensures exact { IsTrue result ↔ IsTransactionKeys (keys_written items.now) }
+        ensures made { result ≡ true
+            → self.new ≡ Prepares (map (record_for stamp items.now) items.now) }
     {
-        self.versions.reset(stamp, items, writes);
         self.kind = BatchKind::Preparing;
+        self.versions.reset(stamp, items)
     }
 
     /// Makes of it the COMMITs of this stamp at these partitions.

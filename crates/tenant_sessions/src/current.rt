@@ -1,14 +1,13 @@
 //! The transaction of a client that runs, if one does.
 ghost use Rattle.std.specs.Prelude.{◌≡◌, ◌<◌};
 ghost use Rattle.stamps.specs.Bounds.{IsParts};
-ghost use Rattle.tenant_sessions.specs.Asking.{MayWrite};
-ghost use Rattle.tenant_sessions.specs.ReadBegun.{RunsRead};
+ghost use Rattle.tenant_sessions.specs.Runs.{RunsRead, RunsWrite};
 
 use crate::MoveKind;
 use crate::begin::Beginning;
 use crate::running::Running;
 use plain_store::{Message, OutOfMemory, Readings};
-use stamps::{Item, Key, Stamp, Tag, WriteSet};
+use stamps::{Item, Key, Stamp, Tag};
 use std::alloc::Global;
 use std::marker::Model;
 
@@ -93,17 +92,19 @@ impl Current {
         self.is_running = true;
     }
 
-    /// Begins a write of these items under this stamp, in a store of so many partitions (1 to `MAX_PARTS`). The write set is that of the
-    /// items.
-    pub(crate) fn begin_put(&mut self, stamp: Stamp, items: &[Item], writes: &WriteSet, parts: u32)
-        requires write { MayWrite stamp items.now writes.now }
+    /// Begins a write of these items under this stamp, in a store of so many partitions (1 to `MAX_PARTS`), and says whether it
+    /// could: a write may have them. Else none runs.
+    pub(crate) fn begin_put(&mut self, stamp: Stamp, items: &[Item], parts: u32) -> bool
+        requires written { 0 < stamp }
         requires parts { IsParts parts }
-        ensures { (setup : Setup) → setup.partitions ≡ parts
-            → IsSome self.new
-            × IfSome self.new (λ running. Starts setup (Writes stamp items.now) running) }
+        ensures { RunsWrite parts stamp items.now result self.new }
     {
-        self.running.begin_put(stamp, items, writes, parts);
+        if !self.running.begin_put(stamp, items, parts) {
+            self.is_running = false;
+            return false;
+        }
         self.is_running = true;
+        true
     }
 
     /// Begins a read of these keys, in a store of so many partitions (1 to `MAX_PARTS`), and says whether it could: a read may have

@@ -2,7 +2,6 @@
 ghost use Rattle.std.specs.Prelude.{◌≡◌, ◌<◌};
 ghost use Rattle.stamps.specs.Bounds.{IsParts};
 ghost use Rattle.stamps.specs.Limits.{max_parts};
-ghost use Rattle.tenant_sessions.specs.Asking.{MayWrite};
 
 use crate::MoveKind;
 use crate::begin::Beginning;
@@ -13,7 +12,7 @@ use crate::waiting::Waiting;
 use get_all::{Reader, TagSearch};
 use plain_store::{Message, Readings};
 use put_all::Writer;
-use stamps::{Item, Key, Stamp, Tag, WriteSet};
+use stamps::{Item, Key, Stamp, Tag};
 use std::marker::Model;
 
 /// What runs.
@@ -61,6 +60,7 @@ impl Running {
     ghost use Rattle.plain_store.specs.declared.message.Message.{Message as Sent};
     ghost use Rattle.plain_store.specs.History.{Intent, Writes, Gets, Finds};
     ghost use Rattle.plain_store.specs.Words.{Key, Setup};
+    ghost use Rattle.plain_store.specs.Writing.{keys_written};
     ghost use Rattle.tenant_sessions.specs.Held.{IsTested, request_begun};
     ghost use Rattle.tenant_sessions.specs.CallsLeft.{calls_sent, machine_left};
     ghost use Rattle.tenant_sessions.specs.Moves.{moved};
@@ -91,7 +91,9 @@ impl Running {
             → Starts setup (request_begun kind.now) self.new }
     {
         match kind {
-            Beginning::Put(stamp, items, writes) => self.begin_put(*stamp, items, writes, parts),
+            Beginning::Put(stamp, items, _) => {
+                self.begin_put(*stamp, items, parts);
+            }
             Beginning::Get(keys) => {
                 self.begin_get(keys, parts);
             }
@@ -99,18 +101,23 @@ impl Running {
         }
     }
 
-    /// Makes of it a write of these items under this stamp, which took no reply yet. The write set is that of the items.
-    pub(crate) fn begin_put(&mut self, stamp: Stamp, items: &[Item], writes: &WriteSet, parts: u32)
-        requires write { MayWrite stamp items.now writes.now }
+    /// Makes of it a write of these items under this stamp, which took no reply yet, and says whether it could: a write may have
+    /// them.
+    pub(crate) fn begin_put(&mut self, stamp: Stamp, items: &[Item], parts: u32) -> bool
+        requires written { 0 < stamp }
         requires parts { IsParts parts }
-        ensures { (setup : Setup) → setup.partitions ≡ parts
-            → Starts setup (Writes stamp items.now) self.new }
+        ensures { (result ≡ not (are_bad (keys_written items.now)))
+            × ((setup : Setup) → setup.partitions ≡ parts → MayBegin (Writes stamp items.now)
+            → Starts setup (Writes stamp items.now) self.new) }
     {
+        if !self.waiting.prepare(stamp, items, parts) {
+            return false;
+        }
         self.writer.reset(stamp, items, parts);
         self.kind = TransactionKind::Put;
         self.stamp = stamp;
-        self.waiting.prepare(stamp, items, writes, parts);
         self.parts = parts;
+        true
     }
 
     /// Makes of it a read of these keys, which took no reply yet, and says whether it could: a read may have them.

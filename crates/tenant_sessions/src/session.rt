@@ -1,9 +1,10 @@
 //! One client's session.
-ghost use Rattle.std.specs.Prelude.{◌≡◌, ◌+◌, ◌<◌, ◌≤◌, true, nat_le, not, length, IfSome, is_none};
+ghost use Rattle.std.specs.Prelude.{◌≡◌, ◌+◌, ◌<◌, ◌≤◌, true, nat_le, not, length, IfSome, is_none, if◌then◌else◌};
 ghost use Rattle.stamps.specs.Limits.{max_keys, max_parts, max_counter};
 ghost use Rattle.stamps.specs.Stamp.{stamp};
 ghost use Rattle.plain_store.specs.History.{counter_in};
 ghost use Rattle.plain_store.specs.Run.{are_bad, counter_limit};
+ghost use Rattle.plain_store.specs.Writing.{keys_written};
 
 use crate::MoveKind;
 use crate::begin::{Begin, Beginning};
@@ -43,6 +44,18 @@ fn next_stamp(counter: Counter, client: Client) -> Option<Stamp>
     ensures used { is_none result ≡ nat_le counter_limit counter }
 {
     Stamp::new(counter.get() + 1, client.get())
+}
+
+/// Why a write of these items does not begin where no stamp is left.
+#[cold]
+#[inline(never)]
+fn unstamped(items: &[Item]) -> Refusal
+    ensures { result ≡ (if are_bad (keys_written items.now) then Refusal.BadItems else Refusal.StampsUsed) }
+{
+    match put_all::write_set_of(items) {
+        Some(_) => Refusal::StampsUsed,
+        None => Refusal::BadItems,
+    }
 }
 
 /// The counter of the stamp that a reply reports, 0 where it reports none.
@@ -197,15 +210,13 @@ impl ClientSession {
         if let Err(refusal) = self.test_idle() {
             return Err(refusal);
         }
-        let made = put_all::write_set_of(items);
-        let Some(writes) = &made else {
-            return Err(Refusal::BadItems);
-        };
         let Some(stamp) = next_stamp(self.counter, client) else {
-            return Err(Refusal::StampsUsed);
+            return Err(unstamped(items));
         };
+        if !self.running.begin_put(stamp, items, parts) {
+            return Err(Refusal::BadItems);
+        }
         self.draw(stamp.counter());
-        self.running.begin_put(stamp, items, writes, parts);
         Ok(())
     }
 

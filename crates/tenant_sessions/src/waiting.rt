@@ -1,11 +1,12 @@
 //! The calls that a transaction waits for.
-ghost use Rattle.std.specs.Prelude.{◌≡◌, ◌≢◌, ◌<◌, ◌≤◌, true, false, nat_lt, map, not, filter, length, slice_get, AllPairs};
+ghost use Rattle.std.specs.Prelude.{◌≡◌, ◌≢◌, ◌<◌, ◌≤◌, ◌↔◌, IsTrue, true, false, nat_lt, map, not, filter, length, slice_get, AllPairs};
 ghost use Rattle.std.specs.List.{filter_map, list_all};
 ghost use Rattle.std.specs.Option.{option_map_or};
 ghost use Rattle.stamps.specs.Bounds.{IsParts};
 ghost use Rattle.stamps.specs.Limits.{max_keys, max_parts};
-ghost use Rattle.tenant_sessions.specs.Asking.{Awaits, MayWrite, PutsCall};
-ghost use Rattle.plain_store.specs.Writing.{record_for};
+ghost use Rattle.stamps.specs.Key.{IsTransactionKeys};
+ghost use Rattle.tenant_sessions.specs.Asking.{Awaits, PutsCall};
+ghost use Rattle.plain_store.specs.Writing.{keys_written, record_for};
 ghost use Rattle.tenant_sessions.specs.Parts.{Prepares, Commits, First, Second, Founds, AnswersOne, batch_calls, is_answered_at};
 
 use crate::call_batch::CallBatch;
@@ -13,7 +14,7 @@ use crate::pending_set::PendingSet;
 use get_all::LateKeys;
 use plain_store::Message;
 use put_all::Partitions;
-use stamps::{Item, Key, Stamp, Tag, WriteSet};
+use stamps::{Item, Key, Stamp, Tag};
 use std::marker::Model;
 
 /// Keeps of these places those of calls whose place the message's reply does not take. Where `are_apart` says that the reply
@@ -149,21 +150,25 @@ impl Waiting {
         }
     }
 
-    /// Makes of them the PREPAREs of these items under this stamp, in a store of so many partitions; and so do the four below.
-    pub(crate) fn prepare(&mut self, stamp: Stamp, items: &[Item], writes: &WriteSet, parts: u32)
-        requires write { MayWrite stamp items.now writes.now }
+    /// Makes of them the PREPAREs of these items under this stamp, in a store of so many partitions, and says whether it could: a
+    /// write may have them.
+    pub(crate) fn prepare(&mut self, stamp: Stamp, items: &[Item], parts: u32) -> bool
+        requires written { 0 < stamp }
         requires parts { IsParts parts }
-        ensures { length (batch_calls parts (Prepares (map (record_for stamp items.now) items.now)))
+        ensures exact { IsTrue result ↔ IsTransactionKeys (keys_written items.now) }
+        ensures made { result ≡ true
+            → length (batch_calls parts (Prepares (map (record_for stamp items.now) items.now)))
             ≤ max_parts → self.new
             ≡ batch_calls parts (Prepares (map (record_for stamp items.now) items.now)) }
     {
-        self.part.prepare(stamp, items, writes);
+        let is_made = self.part.prepare(stamp, items);
         fill_all(&mut self.places, &self.part, parts);
         self.parts = parts;
-        self.are_apart = true;
+        self.are_apart = is_made;
+        is_made
     }
 
-    /// The COMMITs of this stamp at these partitions.
+    /// Makes of them the COMMITs of this stamp at these partitions; and so do the three below.
     pub(crate) fn commit(&mut self, stamp: Stamp, partitions: Partitions, parts: u32)
         requires parts { IsParts parts }
         ensures awaits { Awaits (batch_calls parts (Commits stamp partitions))

@@ -1,9 +1,10 @@
 //! The records of a write.
-ghost use Rattle.std.specs.Prelude.{◌≡◌, ◌<◌, ◌≤◌, false, length, map, slice_get, take, Contains};
+ghost use Rattle.std.specs.Prelude.{◌≡◌, ◌<◌, ◌≤◌, ◌↔◌, true, false, length, map, slice_get, take, Contains, IsTrue};
 ghost use Rattle.std.specs.Option.{option_map_or};
 ghost use Rattle.stamps.specs.Bounds.{IsParts};
-ghost use Rattle.tenant_sessions.specs.Asking.{MayWrite, PutsCall};
-ghost use Rattle.plain_store.specs.Writing.{record_for};
+ghost use Rattle.stamps.specs.Key.{IsTransactionKeys};
+ghost use Rattle.tenant_sessions.specs.Asking.{PutsCall};
+ghost use Rattle.plain_store.specs.Writing.{keys_written, record_for};
 ghost use Rattle.tenant_sessions.specs.Parts.{prepares, record_of};
 
 use plain_store::{Call, Message};
@@ -64,16 +65,22 @@ impl WriteRecords {
         }
     }
 
-    /// Makes of them the records of these items under this stamp, with the write set of their keys.
-    pub(crate) fn reset(&mut self, stamp: Stamp, items: &[Item], writes: &WriteSet)
-        requires { MayWrite stamp items.now writes.now }
-        ensures { self.new ≡ map (record_for stamp items.now) items.now }
+    /// Makes of them the records of these items under this stamp, with the write set of their keys, and says whether there is
+    /// one.
+    pub(crate) fn reset(&mut self, stamp: Stamp, items: &[Item]) -> bool
+        requires { 0 < stamp }
+        ensures exact { IsTrue result ↔ IsTransactionKeys (keys_written items.now) }
+        ensures made { result ≡ true → self.new ≡ map (record_for stamp items.now) items.now }
     {
+        self.len = 0;
+        if !put_all::put_write_set(items, &mut self.writes) {
+            return false;
+        }
         let used = &mut self.items[..items.len()];
         used.copy_from_slice(items);
         self.stamp = stamp;
-        self.writes = *writes;
         self.len = items.len() as u8;
+        true
     }
 
     /// How many records there are.

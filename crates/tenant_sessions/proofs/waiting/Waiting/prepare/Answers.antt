@@ -8,5 +8,7 @@ invariant_of-self c = (
   c.requires.parts,
   c.fill_all.ensures.within,
   c.fill_all.ensures.once,
-  λ _. subst (λ part. AreApart (batch_calls c.args.parts part)) (sym c.prepare.ensures) (prepares_apart c.args.parts c.args.stamp c.args.items.now c.requires.write.keys.distinct),
+  λ yes.
+      subst (λ part. AreApart (batch_calls c.args.parts part)) (sym (c.prepare-is_made.ensures.made yes))
+      (prepares_apart c.args.parts c.args.stamp c.args.items.now (c.prepare-is_made.ensures.exact.0 yes).distinct),
 )
