@@ -11,11 +11,11 @@ use lists::SmallList;
 use stamps::{Item, Key, limits};
 use std::marker::Model;
 
-/// An item of a write: where it is at home, and what was answered of it.
+/// An item of a write: where it is at home, in a byte, and what was answered of it.
 #[derive(Clone, Copy)]
 pub(crate) struct ItemProgress {
     pub(crate) key: Key,
-    pub(crate) home: u32,
+    pub(crate) home: u8,
     /// Its PREPARE was answered Prepared.
     pub(crate) is_prepared: bool,
     /// The COMMIT at its home was answered.
@@ -29,11 +29,9 @@ impl ItemProgress {
         requires { IsParts parts }
         ensures { result ≡ place_for parts key.now }
     {
-        // First its home, so that the key is copied once.
-        let home = stamps::home(key, parts);
         ItemProgress {
             key: *key,
-            home,
+            home: stamps::home(key, parts) as u8,
             is_prepared: false,
             is_committed: false,
         }
@@ -57,11 +55,18 @@ impl ItemProgress {
         !self.is_prepared && self.key == *key
     }
 
+    /// Whether it is at home at this partition.
+    fn is_at(&self, partition: u32) -> bool
+        ensures { result ≡ is_at partition self.now }
+    {
+        u32::from(self.home) == partition
+    }
+
     /// Whether an answered COMMIT of this partition is the first.
     fn awaits_committed(&self, partition: u32) -> bool
         ensures { result ≡ awaits_committed partition self.now }
     {
-        self.home == partition && !self.is_committed
+        self.is_at(partition) && !self.is_committed
     }
 }
 
@@ -179,7 +184,7 @@ impl WriteProgress {
     pub(crate) fn are_at(&self, partition: u32) -> bool
         ensures { result ≡ list_any (is_at partition) self.now }
     {
-        self.as_slice().iter().any(|place| place.home == partition)
+        self.as_slice().iter().any(|place| place.is_at(partition))
     }
 
     pub(crate) fn are_prepared(&self) -> bool

@@ -2,7 +2,6 @@
 ghost use Rattle.std.specs.Prelude.{◌≡◌, ◌+◌, ◌<◌, ◌≤◌, true, nat_le, not, length, IfSome, is_none, if◌then◌else◌};
 ghost use Rattle.stamps.specs.Limits.{max_keys, max_parts, max_counter};
 ghost use Rattle.stamps.specs.Stamp.{stamp};
-ghost use Rattle.plain_store.specs.History.{counter_in};
 ghost use Rattle.plain_store.specs.Run.{are_bad, counter_limit};
 ghost use Rattle.plain_store.specs.Writing.{keys_written};
 
@@ -58,22 +57,10 @@ fn unstamped(items: &[Item]) -> Refusal
     }
 }
 
-/// The counter of the stamp that a reply reports, 0 where it reports none.
-fn counter_told(reply: &Option<Reply>) -> u64
-    ensures value { result ≡ counter_in reply.now }
-    ensures in_range { result ≤ max_counter }
-{
-    match reply {
-        Some(Reply::Get(ReadReply::Version(version))) => version.stamp.counter(),
-        Some(Reply::Get(ReadReply::Collected(floor))) => floor.counter(),
-        _ => 0,
-    }
-}
-
 impl ClientSession {
     ghost use Rattle.std.specs.Prelude.{◌≡◌, ◌+◌, ◌≤◌, max, nat_lt, true, false, List, length, map, slice_get, Some, None, Ok, Err, IfOk, IfErr, if◌then◌else◌};
     ghost use Rattle.plain_store.specs.declared.message.Message.{Message as Sent};
-    ghost use Rattle.plain_store.specs.History.{Intent, Writes, Gets, Finds};
+    ghost use Rattle.plain_store.specs.History.{Intent, Writes, Gets, Finds, counter_in};
     ghost use Rattle.plain_store.specs.Run.{call_message};
     ghost use Rattle.plain_store.specs.Words.{Key, Setup};
     ghost use Rattle.stamps.specs.Bounds.{IsParts};
@@ -289,7 +276,7 @@ impl ClientSession {
         if kind.is_last() {
             self.running.forget();
         }
-        self.raise(counter_told(&message.reply));
+        self.raise_by(&message.reply);
     }
 
     /// How many calls of its transaction are sent again, up to `MAX_PARTS`: those that no reply was taken to. 0 where none is running.
@@ -392,6 +379,18 @@ impl ClientSession {
         place.client = client;
         place.ticket = self.ticket;
         true
+    }
+
+    /// Raises the counter to that of the stamp that a reply reports, if it reports one that is above it.
+    fn raise_by(&mut self, reply: &Option<Reply>)
+        ensures { self.new
+            ≡ record self.old { counter = max (counter_in reply.now) self.old.counter } }
+    {
+        match reply {
+            Some(Reply::Get(ReadReply::Version(version))) => self.raise(version.stamp.counter()),
+            Some(Reply::Get(ReadReply::Collected(floor))) => self.raise(floor.counter()),
+            _ => {}
+        }
     }
 
     /// Raises the counter to the one that was seen, if that is above it.

@@ -26,7 +26,7 @@ returns c = record {
       let P : Option Running → Type 0 = λ o. Shows setup request taken message move (λ replies. IsShown setup request replies o) in
       let after : Option Running = c.take.new.self in
       let shown : P after = c.take.ensures.shown setup request taken has in
-      let raised = ap (λ (s : ClientSession). s.running) c.raise.ensures in
+      let raised = ap (λ (s : ClientSession). s.running) c.raise_by.ensures in
       elim c.if-is_last.branch [
         | then-is_last w ↦ subst P (sym (raised ∙ ap (λ (s : ClientSession). s.running) w.self-is ∙ w.forget.ensures))
             (shows_so setup request taken message move (λ replies. IsShown setup request replies after) (λ replies. IsShown setup request replies None) (λ replies is. tt) shown)
@@ -36,7 +36,7 @@ returns c = record {
   sent =
       let move = moved c.take.new.kind c.take.new.readings in
       let P : Option Running → Type 0 = λ o. SendsSo move (waiting_of o) in
-      let raised = ap (λ (s : ClientSession). s.running) c.raise.ensures in
+      let raised = ap (λ (s : ClientSession). s.running) c.raise_by.ensures in
       elim c.if-is_last.branch [
         | then-is_last w ↦ subst P (sym (raised ∙ ap (λ (s : ClientSession). s.running) w.self-is ∙ w.forget.ensures)) (sends_none move)
         | else-is_last w ↦ subst P (sym (raised ∙ ap (λ (s : ClientSession). s.running) w.self-is)) c.take.ensures.sent
