@@ -55,7 +55,7 @@ impl ItemProgress {
         !self.is_prepared && self.key == *key
     }
 
-    /// Whether it is at home at this partition.
+    /// Whether this partition is its home.
     fn is_at(&self, partition: u32) -> bool
         ensures { result ≡ is_at partition self.now }
     {

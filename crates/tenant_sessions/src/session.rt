@@ -49,7 +49,8 @@ fn next_stamp(counter: Counter, client: Client) -> Option<Stamp>
 #[cold]
 #[inline(never)]
 fn unstamped(items: &[Item]) -> Refusal
-    ensures { result ≡ (if are_bad (keys_written items.now) then Refusal.BadItems else Refusal.StampsUsed) }
+    ensures { result ≡ (if are_bad (keys_written items.now)
+        then Refusal.BadItems else Refusal.StampsUsed) }
 {
     match put_all::write_set_of(items) {
         Some(_) => Refusal::StampsUsed,
