@@ -20,4 +20,4 @@ mod tally;
 
 pub use count_lines::push_count;
 pub use loading::run_load;
-pub use store::{close_store, open_hub};
+pub use store::{NamedClosed, NamedEndings, close_store, open_hub};

@@ -142,7 +142,7 @@ fn run_new<
     match run_seats(rt, alloc, &hub, tenants, seats, orders) {
         Ok(kept) => {
             let (closed, _seen) = close_store(rt, hub, kept);
-            Ok(closed)
+            Ok(closed.into_closed())
         }
         Err(fault) => {
             let _ = hub.close(rt, Vec::new(alloc));

@@ -1,7 +1,7 @@
 -- What a server told of itself: for `tell_port`, `serve_and_settle`, `serve_and_check` and `serve_unrecorded`.
 use Rattle.std.proofs.Common.{◌≡◌, ℕ, ◌<◌, ◌^◌, ◌⊎◌, ◌&&◌, Bool, true, false, List, [], ◌++◌, length, slice_get, take, Option, Some, None, Result, Ok, Err, refl, sym, ap, subst, inl, inr, arith, ◌∙◌}
 use Rattle.std.specs.Prelude.{IsTrue, codes, if◌then◌else◌, nat_eq, nat_lt}
-use Rattle.std.specs.Io.KnownBytes.{Appends}
+use Rattle.std.specs.Io.KnownBytes.{Appends, Keeps}
 use Rattle.std.proofs.lemmas.Bool.{eq-eqb, ne_eqb}
 use Rattle.std.proofs.KnownBytes.{Appends-nil, Appends-trans, Keeps-refl}
 use Rattle.std.proofs.Math.Seq.{take-length}
@@ -12,7 +12,7 @@ use Rattle.closed_store.specs.declared.closed.Closed.{Closed}
 use Rattle.line_runs.specs.Statuses.{status_of}
 use Rattle.workload.specs.Amounts.{AreAmounts, IsAmountOf, TellsAmounts, judged_line}
 use Rattle.workload.specs.declared.judged_lines.Amount.{Amount}
-use Rattle.workload.specs.Serving.{ComesBehind, EndsAfter, HasChecked, HasListened, HasServed, IsFaultBefore, TellsPortFirst, TellsPortFor, greater_fault, is_told, listening_line}
+use Rattle.workload.specs.Serving.{ComesBehind, EndsAfter, HasChecked, HasClosed, HasListened, HasServed, HasServedOf, IsFaultBefore, TellsPortFirst, TellsPortFor, greater_fault, is_told, listening_line}
 use Rattle.workload.specs.TenantLines.{TellsLines}
 use Rattle.workload.proofs.ToldLines.{same_lines}
 use Rattle.load.specs.Stores.{IsClosed}
@@ -39,17 +39,18 @@ both_not : {A : Type 0} → ◌≡◌ {A = Bool} false true → A
 both_not bad = absurd cc
 
 -- a server told its port, closed its store, and told the verdicts, and of how much they are where that is asked for
-pub closed_on : (counts : Bool) (view : ConfigView) (names : List (List ℕ)) (old between behind new : Option (List ℕ)) (closed : Closed) (told came ended : Result (Unit {0}) ProgramFault)
-    → HasListened old between (Ok tt) → IsClosed view closed → (view.epoch ≡ 0 → TellsVerdicts closed names between behind told)
+pub closed_on : (IsMeant : Closed → Type 0) (counts : Bool) (view : ConfigView) (names : List (List ℕ)) (old between behind new : Option (List ℕ)) (closed : Closed) (told came ended : Result (Unit {0}) ProgramFault)
+    → HasListened old between (Ok tt) → IsClosed view closed → IsMeant closed ⊎ ((told ≡ Err OutOfMemory) × Keeps between behind) → (view.epoch ≡ 0 → TellsVerdicts closed names between behind told)
     → (0 < view.epoch → HasChecked view closed names between behind told) → ComesBehind (is_told told && counts) (TellsAmounts (nat_eq view.epoch 0) closed names) behind new told came
-    → EndsAfter came ended → HasServed false counts view names old new ended
-closed_on counts view names old between behind new closed told came (Ok done) listened opened verdicts checks amounts ends = record {
+    → EndsAfter came ended → HasServedOf IsMeant false counts view names old new ended
+closed_on IsMeant counts view names old between behind new closed told came (Ok done) listened opened meant verdicts checks amounts ends = record {
   between = between;
   listened = listened;
   closed = closed;
   opened = opened;
   behind = behind;
   told = told;
+  meant = meant;
   verdicts = λ recorded. verdicts;
   checks = λ recorded. checks;
   served = λ unrecorded. both_not unrecorded;
@@ -57,13 +58,14 @@ closed_on counts view names old between behind new closed told came (Ok done) li
   amounts = amounts;
   ends = ends;
 }
-closed_on counts view names old between behind new closed told came (Err fault) listened opened verdicts checks amounts ends = inr (record {
+closed_on IsMeant counts view names old between behind new closed told came (Err fault) listened opened meant verdicts checks amounts ends = inr (record {
   between = between;
   listened = listened;
   closed = closed;
   opened = opened;
   behind = behind;
   told = told;
+  meant = meant;
   verdicts = λ recorded. verdicts;
   checks = λ recorded. checks;
   served = λ unrecorded. both_not unrecorded;
@@ -73,15 +75,17 @@ closed_on counts view names old between behind new closed told came (Err fault) 
 })
 
 -- a server that records nothing told its port, closed its store, and told what it had answered
-pub closed_unrecorded : (counts : Bool) (view : ConfigView) (names : List (List ℕ)) (old between new : Option (List ℕ)) (closed : Closed) (told ended : Result (Unit {0}) ProgramFault)
-    → HasListened old between (Ok tt) → IsClosed view closed → TellsServed (length view.limits) names between new told → EndsAfter told ended → HasServed true counts view names old new ended
-closed_unrecorded counts view names old between new closed told (Ok done) listened opened served ends = record {
+pub closed_unrecorded : (IsMeant : Closed → Type 0) (counts : Bool) (view : ConfigView) (names : List (List ℕ)) (old between new : Option (List ℕ)) (closed : Closed) (told ended : Result (Unit {0}) ProgramFault)
+    → HasListened old between (Ok tt) → IsClosed view closed → IsMeant closed ⊎ ((told ≡ Err OutOfMemory) × Keeps between new) → TellsServed (length view.limits) names between new told → EndsAfter told ended
+    → HasServedOf IsMeant true counts view names old new ended
+closed_unrecorded IsMeant counts view names old between new closed told (Ok done) listened opened meant served ends = record {
   between = between;
   listened = listened;
   closed = closed;
   opened = opened;
   behind = new;
   told = told;
+  meant = meant;
   verdicts = λ recorded. not_both recorded;
   checks = λ recorded. not_both recorded;
   served = λ unrecorded. served;
@@ -89,13 +93,14 @@ closed_unrecorded counts view names old between new closed told (Ok done) listen
   amounts = (refl, refl);
   ends = ends;
 }
-closed_unrecorded counts view names old between new closed told (Err fault) listened opened served ends = inr (record {
+closed_unrecorded IsMeant counts view names old between new closed told (Err fault) listened opened meant served ends = inr (record {
   between = between;
   listened = listened;
   closed = closed;
   opened = opened;
   behind = new;
   told = told;
+  meant = meant;
   verdicts = λ recorded. not_both recorded;
   checks = λ recorded. not_both recorded;
   served = λ unrecorded. served;
@@ -105,25 +110,50 @@ closed_unrecorded counts view names old between new closed told (Err fault) list
 })
 
 -- a server that found no memory for a transcript, or for how much there was to judge, told its port and no verdict
-pub no_transcript : (counts : Bool) (view : ConfigView) (names : List (List ℕ)) (old new : Option (List ℕ)) (closed : Closed)
-    → HasListened old new (Ok tt) → IsClosed view closed → view.epoch ≡ 0 → HasServed false counts view names old new (Err OutOfMemory)
-no_transcript counts view names old new closed listened opened kept =
-    closed_on counts view names old new new new closed (Err OutOfMemory) (Err OutOfMemory) (Err OutOfMemory) listened opened
+pub no_transcript : (IsMeant : Closed → Type 0) (counts : Bool) (view : ConfigView) (names : List (List ℕ)) (old new : Option (List ℕ)) (closed : Closed)
+    → HasListened old new (Ok tt) → IsClosed view closed → view.epoch ≡ 0 → HasServedOf IsMeant false counts view names old new (Err OutOfMemory)
+no_transcript IsMeant counts view names old new closed listened opened kept =
+    closed_on IsMeant counts view names old new new new closed (Err OutOfMemory) (Err OutOfMemory) (Err OutOfMemory) listened opened (inr (refl, Keeps-refl new))
     (λ again. record { verdicts = []; few = omega arith; each = λ tenant verdict at. absurd (let bad : None ≡ Some verdict = at in cc); size = 0; written = Appends-nil new })
     (λ cut. absurd (omega (arith, kept, cut))) (refl, refl) (Ok tt, tt, refl)
 
 -- a server that could not open its store told nothing
-pub nothing_told : (unrecorded counts : Bool) (view : ConfigView) (names : List (List ℕ)) (writer : Option (List ℕ)) (fault : ProgramFault) → (fault ≡ OutOfMemory) ⊎ (fault ≡ Device)
-    → HasServed unrecorded counts view names writer writer (Err fault)
-nothing_told unrecorded counts view names writer fault (inl same) = subst (λ (f : ProgramFault). HasServed unrecorded counts view names writer writer (Err f)) (sym same) (inl (Keeps-refl writer))
-nothing_told unrecorded counts view names writer fault (inr same) =
-    subst (λ (f : ProgramFault). HasServed unrecorded counts view names writer writer (Err f)) (sym same) (inl (0, omega arith, (0, Appends-nil writer)))
+pub nothing_told : (IsMeant : Closed → Type 0) (unrecorded counts : Bool) (view : ConfigView) (names : List (List ℕ)) (writer : Option (List ℕ)) (fault : ProgramFault) → (fault ≡ OutOfMemory) ⊎ (fault ≡ Device)
+    → HasServedOf IsMeant unrecorded counts view names writer writer (Err fault)
+nothing_told IsMeant unrecorded counts view names writer fault (inl same) = subst (λ (f : ProgramFault). HasServedOf IsMeant unrecorded counts view names writer writer (Err f)) (sym same) (inl (Keeps-refl writer))
+nothing_told IsMeant unrecorded counts view names writer fault (inr same) =
+    subst (λ (f : ProgramFault). HasServedOf IsMeant unrecorded counts view names writer writer (Err f)) (sym same) (inl (0, omega arith, (0, Appends-nil writer)))
 
 -- a server whose epochs were checked told its port and nothing else, since an allocation failed
-pub no_room_to_check : (counts : Bool) (view : ConfigView) (names : List (List ℕ)) (old new : Option (List ℕ)) (closed : Closed)
-    → HasListened old new (Ok tt) → IsClosed view closed → 0 < view.epoch → HasServed false counts view names old new (Err OutOfMemory)
-no_room_to_check counts view names old new closed listened opened cut =
-    closed_on counts view names old new new new closed (Err OutOfMemory) (Err OutOfMemory) (Err OutOfMemory) listened opened (λ kept. absurd (omega (arith, kept, cut))) (λ more. inl (refl, Keeps-refl new)) (refl, refl) (Ok tt, tt, refl)
+pub no_room_to_check : (IsMeant : Closed → Type 0) (counts : Bool) (view : ConfigView) (names : List (List ℕ)) (old new : Option (List ℕ)) (closed : Closed)
+    → HasListened old new (Ok tt) → IsClosed view closed → 0 < view.epoch → HasServedOf IsMeant false counts view names old new (Err OutOfMemory)
+no_room_to_check IsMeant counts view names old new closed listened opened cut =
+    closed_on IsMeant counts view names old new new new closed (Err OutOfMemory) (Err OutOfMemory) (Err OutOfMemory) listened opened (inr (refl, Keeps-refl new)) (λ kept. absurd (omega (arith, kept, cut))) (λ more. inl (refl, Keeps-refl new)) (refl, refl) (Ok tt, tt, refl)
+
+-- what was told of the store that is meant was told of some store
+some_store : (IsMeant : Closed → Type 0) (unrecorded counts : Bool) (view : ConfigView) (names : List (List ℕ)) (old new : Option (List ℕ)) (ended : Result (Unit {0}) ProgramFault)
+    → HasClosed IsMeant unrecorded counts view names old new ended → HasClosed (λ closed. Unit {0}) unrecorded counts view names old new ended
+some_store IsMeant unrecorded counts view names old new ended its = record {
+  between = its.between;
+  listened = its.listened;
+  closed = its.closed;
+  opened = its.opened;
+  behind = its.behind;
+  told = its.told;
+  meant = inl tt;
+  verdicts = its.verdicts;
+  checks = its.checks;
+  served = its.served;
+  came = its.came;
+  amounts = its.amounts;
+  ends = its.ends;
+}
+
+pub served_some : (IsMeant : Closed → Type 0) (unrecorded counts : Bool) (view : ConfigView) (names : List (List ℕ)) (old new : Option (List ℕ)) (ended : Result (Unit {0}) ProgramFault)
+    → HasServedOf IsMeant unrecorded counts view names old new ended → HasServed unrecorded counts view names old new ended
+served_some IsMeant unrecorded counts view names old new (Ok done) its = some_store IsMeant unrecorded counts view names old new (Ok done) its
+served_some IsMeant unrecorded counts view names old new (Err fault) (inl listened) = inl listened
+served_some IsMeant unrecorded counts view names old new (Err fault) (inr its) = inr (some_store IsMeant unrecorded counts view names old new (Err fault) its)
 
 -- ---- of how much the verdicts are
 

@@ -1,5 +1,5 @@
 -- What a server reports about itself, and what one did that the words ask for.
-use Rattle.std.specs.Prelude.{◌≡◌, ◌⊎◌, ℕ, ◌<◌, ◌≤◌, ◌^◌, ◌++◌, length, List, Option, Result, Ok, Err, IfOk, IfErr, OnOk}
+use Rattle.std.specs.Prelude.{◌≡◌, ◌⊎◌, ℕ, ◌<◌, ◌≤◌, ◌^◌, ◌++◌, length, List, Option, Result, Ok, Err, OnOk, IsSomeAnd}
 use Rattle.std.specs.Prelude.{Bool, IsTrue, ◌&&◌, codes, decimal, false, true, if◌then◌else◌, map, nat_eq, nat_lt, not, take}
 use Rattle.std.specs.Io.KnownBytes.{Appends, Keeps}
 use Rattle.stamps.specs.Bounds.{IsParts}
@@ -112,7 +112,8 @@ ComesBehind false Tells old new told came = (new ≡ old) × (came ≡ told)
 -- or, where its journals were cut, those over what was left of them; or, where it records nothing, how many lines of each
 -- tenant it answered. It told them also where an allocation failed to a connection or a device failed before. Where counts are
 -- asked for and all verdicts were reported, whether yes or no, it reported behind them of how much of what the close answered they are.
-pub record HasClosed (unrecorded counts : Bool) (view : ConfigView) (names : List (List ℕ)) (old new : Option (List ℕ))
+-- What the close answered is of the store that is meant, unless an allocation failed before any of these lines.
+pub record HasClosed (IsMeant : Closed → Type 0) (unrecorded counts : Bool) (view : ConfigView) (names : List (List ℕ)) (old new : Option (List ℕ))
     (ended : Result (Unit {0}) ProgramFault) : Type 0 where
   pub between : Option (List ℕ)
   pub listened : HasListened old between (Ok tt)
@@ -120,6 +121,7 @@ pub record HasClosed (unrecorded counts : Bool) (view : ConfigView) (names : Lis
   pub opened : IsClosed view closed
   pub behind : Option (List ℕ)
   pub told : Result (Unit {0}) ProgramFault
+  pub meant : IsMeant closed ⊎ ((told ≡ Err OutOfMemory) × Keeps between behind)
   pub verdicts : unrecorded ≡ false → view.epoch ≡ 0 → TellsVerdicts closed names between behind told
   pub checks : unrecorded ≡ false → 0 < view.epoch → HasChecked view closed names between behind told
   pub served : IsTrue unrecorded → TellsServed (length view.limits) names between behind told
@@ -134,11 +136,20 @@ pub record HasClosed (unrecorded counts : Bool) (view : ConfigView) (names : Lis
 -- Where an allocation failed, it told its port at most, or its port and some verdicts: all, where it was refused to a
 -- connection alone. Where a device failed, it told a beginning of the line of its port, or its port and the verdicts:
 -- all, unless that device was the one that takes them. It ends in no other way.
+abbrev pub HasServedOf : (Closed → Type 0) → Bool → Bool → ConfigView → List (List ℕ) → Option (List ℕ) → Option (List ℕ)
+    → Result (Unit {0}) ProgramFault → Type 0
+HasServedOf IsMeant unrecorded counts view names old new (Ok done) = HasClosed IsMeant unrecorded counts view names old new (Ok done)
+HasServedOf IsMeant unrecorded counts view names old new (Err fault) =
+    HasListened old new (Err fault) ⊎ HasClosed IsMeant unrecorded counts view names old new (Err fault)
+
+-- the same of some store that was closed
 abbrev pub HasServed : Bool → Bool → ConfigView → List (List ℕ) → Option (List ℕ) → Option (List ℕ)
     → Result (Unit {0}) ProgramFault → Type 0
-HasServed unrecorded counts view names old new (Ok done) = HasClosed unrecorded counts view names old new (Ok done)
-HasServed unrecorded counts view names old new (Err fault) =
-    HasListened old new (Err fault) ⊎ HasClosed unrecorded counts view names old new (Err fault)
+HasServed unrecorded counts view names old new ended = HasServedOf (λ closed. Unit {0}) unrecorded counts view names old new ended
+
+-- the endings are of journals that this store left
+abbrev pub IsEndedBy : Option LastEpochs → Closed → Type 0
+IsEndedBy endings closed = IsSomeAnd endings (λ its. AreLeft closed.journals.items its.rows.items)
 
 -- A store of so many partitions and a tenant of these limits for each name. As many calls may wait at a partition, and
 -- it is collected after so many. It keeps journals, and one is cut after so many events, or never.

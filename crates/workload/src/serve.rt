@@ -5,7 +5,7 @@ ghost use Rattle.hub.specs.Hubs.{config_view, view_with};
 ghost use Rattle.load.specs.Stores.{DoneOrRefused};
 ghost use Rattle.workload.specs.Amounts.{judged_line};
 ghost use Rattle.workload.specs.TenantLines.{TellsLines};
-ghost use Rattle.workload.specs.Serving.{ComesBehind, IsAskedFor, IsFaultBefore, ServesAndTells, TellsOfPort, TellsPortFirst, TellsPortFor, greater_fault, is_told, listening_line};
+ghost use Rattle.workload.specs.Serving.{ComesBehind, HasServedOf, IsAskedFor, IsEndedBy, IsFaultBefore, ServesAndTells, TellsOfPort, TellsPortFirst, TellsPortFor, greater_fault, is_told, listening_line};
 ghost use Rattle.server_sessions.specs.Ports.{IsServerOf, listener_of, most_of, options_of, port_of, stays_of, tenants_of};
 
 use crate::judged_lines::{Amount, amounts_asked, tell_judged};
@@ -14,10 +14,10 @@ use command_line::{ServerOptions, VERSION};
 use hub::{Config, HubFault, Named, Naming, NewStore};
 use line_protocol::Name;
 use line_runs::{ProgramFault, write_text};
-use load::{close_store, open_hub};
+use load::{NamedClosed, NamedEndings, close_store, open_hub};
 use server_sessions::{Left, Listener, Open, OpenHub, Server, SessionOptions, serve_connections};
 use server_status::{StatusPort, Watched, serve_and_report};
-use server_verdicts::{Checking, Known, endings_of, tell_checks, tell_verdicts};
+use server_verdicts::{Checking, Known, tell_checks, tell_verdicts};
 use std::alloc::{AllocError, Global};
 use std::io::{Read, Write};
 use std::marker::Brand;
@@ -95,16 +95,89 @@ pub fn run_server<
     };
     let status = bind_status(rt, options.status)?;
     let ports = Ports { listener, status };
-    if options.unrecorded {
-        let store = NewStore::of(config).without_journals();
-        serve_unrecorded::<Brand, H, R, W>(rt, alloc, store, names, ports, options, reader, writer)
-    } else if config.epoch == 0 {
-        let store = NewStore::of(config);
-        serve_and_settle::<Brand, H, R, W>(rt, alloc, store, names, ports, options, reader, writer)
+    let store = new_store(config, options.unrecorded);
+    serve_named::<Brand, H, R, W>(rt, alloc, store, names, ports, options, reader, writer)
+}
+
+// The store to be served, which keeps journals unless it records nothing.
+fn new_store(config: Config, unrecorded: bool) -> NewStore
+    ensures config { result.config ≡ config }
+    ensures journals { result.journals ≡ not unrecorded }
+{
+    let store = NewStore::of(config);
+    if unrecorded {
+        store.without_journals()
     } else {
-        let store = NewStore::of(config);
-        serve_and_check::<Brand, H, R, W>(rt, alloc, store, names, ports, options, reader, writer)
+        store
     }
+}
+
+// Serves a store under its name: the server has that name, and so has what is closed at the end, of which the verdicts are.
+fn serve_named<
+    J: Naming + Send + Sync + Drop + 'static,
+    H: Threads + Wait + Clock + Clone + Send + Sync + Drop + 'static,
+    R: Read,
+    W: Write,
+>(
+    rt: &H,
+    alloc: Global,
+    store: NewStore,
+    names: &[Name],
+    ports: Ports,
+    options: ServerOptions,
+    reader: &mut R,
+    writer: &mut W,
+) -> Result<(), ProgramFault>
+    requires journals { store.journals ≡ not options.unrecorded }
+    requires name { store.history.seen.book ≡ J.book }
+    ensures { ServesAndTells options.unrecorded options.counts
+        (view_with store.config store.journals) names.now (TellsPortFirst (port_of ports.listener))
+        (W.contents writer.old) (W.contents writer.new) result }
+{
+    let Ports { listener, status } = ports;
+    let server = server_of(alloc, listener, names, options, store_number(rt))?;
+    let mut closed: Option<NamedClosed<J>> = None;
+    if options.unrecorded {
+        return serve_unrecorded(
+            rt,
+            alloc,
+            store,
+            names,
+            server,
+            status,
+            options,
+            reader,
+            writer,
+            &mut closed,
+        );
+    }
+    if store.config.epoch == 0 {
+        return serve_and_settle(
+            rt,
+            alloc,
+            store,
+            names,
+            server,
+            status,
+            options,
+            reader,
+            writer,
+            &mut closed,
+        );
+    }
+    let mut endings: Option<NamedEndings<J>> = None;
+    serve_and_check(
+        rt,
+        alloc,
+        store,
+        names,
+        server,
+        status,
+        options,
+        reader,
+        writer,
+        &mut endings,
+    )
 }
 
 // The port that reports how the server stands, where one is asked for.
@@ -166,7 +239,7 @@ fn plain_server_of<G: Naming>(
     }
 }
 
-// Serves a store whose journals are kept, and settles its tenants.
+// Serves a store whose journals are kept, and settles its tenants. The verdicts are of what the store of this name left, which it returns.
 fn serve_and_settle<
     J: Naming + Send + Sync + Drop + 'static,
     H: Threads + Wait + Clock + Clone + Send + Sync + Drop + 'static,
@@ -177,20 +250,23 @@ fn serve_and_settle<
     alloc: Global,
     store: NewStore,
     names: &[Name],
-    ports: Ports,
+    server: Server<Listener, Named<J, Open>, &[Name]>,
+    status: Option<StatusPort>,
     options: ServerOptions,
     reader: &mut R,
     writer: &mut W,
+    its: &mut Option<NamedClosed<J>>,
 ) -> Result<(), ProgramFault>
     requires journals { store.journals ≡ true }
     requires kept { store.config.epoch ≡ 0 }
     requires name { store.history.seen.book ≡ J.book }
-    ensures { ServesAndTells false options.counts (config_view store.config) names.now
-        (TellsPortFirst (port_of ports.listener))
-        (W.contents writer.old) (W.contents writer.new) result }
+    requires asked { IsAskedFor names.now options (tenants_of server).now (options_of server) }
+    ensures served { HasServedOf (λ closed. its.new ≡ Some closed) false options.counts
+        (config_view store.config) names.now (W.contents writer.old) (W.contents writer.new)
+        result }
+    ensures port { TellsPortFirst (port_of (listener_of server.entry)) (W.contents writer.old)
+        (W.contents writer.new) result }
 {
-    let Ports { listener, status } = ports;
-    let server = server_of(alloc, listener, names, options, store_number(rt))?;
     let hub = open_hub::<J, (), H>(rt, alloc, store, ())?;
     let reporting = Reporting {
         port: status.as_ref(),
@@ -199,13 +275,14 @@ fn serve_and_settle<
     let told = serve_all(rt, alloc, &hub, names, &server, reporting, reader, writer);
     let left = server.left();
     let before = fault_of(&left, names, options);
-    let (closed, _seen) = close_store(rt, hub, left.kept);
+    let (left_here, _seen) = close_store(rt, hub, left.kept);
     told?;
     if left.has_lost {
         return Err(ProgramFault::OutOfMemory);
     }
-    let amounts = amounts_asked(alloc, &closed, options.counts)?;
-    let verdicts = tell_verdicts(alloc, &closed, names, writer);
+    let closed = left_here.closed();
+    let amounts = amounts_asked(alloc, closed, options.counts)?;
+    let verdicts = tell_verdicts(alloc, closed, names, writer);
     let ended = tell_behind(
         alloc,
         verdicts,
@@ -215,10 +292,12 @@ fn serve_and_settle<
         names,
         writer,
     );
+    *its = Some(left_here);
     ended_after(before, ended)
 }
 
-// Serves a store whose journals are cut, has each epoch checked meanwhile, and checks the last one of each journal.
+// Serves a store whose journals are cut, has each epoch checked meanwhile, and checks the last one of each journal that the store of this
+// name left, which it returns.
 fn serve_and_check<
     J: Naming + Send + Sync + Drop + 'static,
     H: Threads + Wait + Clock + Clone + Send + Sync + Drop + 'static,
@@ -229,20 +308,23 @@ fn serve_and_check<
     alloc: Global,
     store: NewStore,
     names: &[Name],
-    ports: Ports,
+    server: Server<Listener, Named<J, Open>, &[Name]>,
+    status: Option<StatusPort>,
     options: ServerOptions,
     reader: &mut R,
     writer: &mut W,
+    its: &mut Option<NamedEndings<J>>,
 ) -> Result<(), ProgramFault>
     requires journals { store.journals ≡ true }
     requires cut { 0 < store.config.epoch }
     requires name { store.history.seen.book ≡ J.book }
-    ensures { ServesAndTells false options.counts (config_view store.config) names.now
-        (TellsPortFirst (port_of ports.listener))
-        (W.contents writer.old) (W.contents writer.new) result }
+    requires asked { IsAskedFor names.now options (tenants_of server).now (options_of server) }
+    ensures served { HasServedOf (IsEndedBy its.new) false options.counts
+        (config_view store.config) names.now (W.contents writer.old) (W.contents writer.new)
+        result }
+    ensures port { TellsPortFirst (port_of (listener_of server.entry)) (W.contents writer.old)
+        (W.contents writer.new) result }
 {
-    let Ports { listener, status } = ports;
-    let server = server_of(alloc, listener, names, options, store_number(rt))?;
     let (hub, checking) = open_checked::<J, H>(rt, alloc, store)?;
     let reporting = Reporting {
         port: status.as_ref(),
@@ -251,13 +333,12 @@ fn serve_and_check<
     let told = serve_all(rt, alloc, &hub, names, &server, reporting, reader, writer);
     let left = server.left();
     let before = fault_of(&left, names, options);
-    let (closed, _seen) = close_store(rt, hub, left.kept);
+    let (left_here, _seen) = close_store(rt, hub, left.kept);
     let known = checking.end(rt, alloc);
     told?;
-    let amounts = amounts_asked(alloc, &closed, options.counts)?;
-    let limits = closed.config.limits;
-    let endings = endings_of(alloc, limits, closed.journals, known)?;
-    let verdicts = tell_checks(alloc, &endings, names, writer);
+    let amounts = amounts_asked(alloc, left_here.closed(), options.counts)?;
+    let endings = left_here.into_endings(alloc, known)?;
+    let verdicts = tell_checks(alloc, endings.endings(), names, writer);
     let ended = tell_behind(
         alloc,
         verdicts,
@@ -267,10 +348,11 @@ fn serve_and_check<
         names,
         writer,
     );
+    *its = Some(endings);
     ended_after(before, ended)
 }
 
-// Serves a store that keeps no journals. It reports how many lines were answered.
+// Serves a store that keeps no journals. It reports how many lines were answered. It returns what the store of this name left.
 fn serve_unrecorded<
     J: Naming + Send + Sync + Drop + 'static,
     H: Threads + Wait + Clock + Clone + Send + Sync + Drop + 'static,
@@ -281,19 +363,22 @@ fn serve_unrecorded<
     alloc: Global,
     store: NewStore,
     names: &[Name],
-    ports: Ports,
+    server: Server<Listener, Named<J, Open>, &[Name]>,
+    status: Option<StatusPort>,
     options: ServerOptions,
     reader: &mut R,
     writer: &mut W,
+    its: &mut Option<NamedClosed<J>>,
 ) -> Result<(), ProgramFault>
     requires journals { store.journals ≡ false }
     requires name { store.history.seen.book ≡ J.book }
-    ensures { ServesAndTells true options.counts (view_with store.config false) names.now
-        (TellsPortFirst (port_of ports.listener))
-        (W.contents writer.old) (W.contents writer.new) result }
+    requires asked { IsAskedFor names.now options (tenants_of server).now (options_of server) }
+    ensures served { HasServedOf (λ closed. its.new ≡ Some closed) true options.counts
+        (view_with store.config false) names.now (W.contents writer.old) (W.contents writer.new)
+        result }
+    ensures port { TellsPortFirst (port_of (listener_of server.entry)) (W.contents writer.old)
+        (W.contents writer.new) result }
 {
-    let Ports { listener, status } = ports;
-    let server = server_of(alloc, listener, names, options, store_number(rt))?;
     let hub = open_hub::<J, (), H>(rt, alloc, store, ())?;
     let reporting = Reporting {
         port: status.as_ref(),
@@ -302,10 +387,11 @@ fn serve_unrecorded<
     let told = serve_all(rt, alloc, &hub, names, &server, reporting, reader, writer);
     let (left, answers) = server.left_and_answers();
     let before = fault_of(&left, names, options);
-    let (closed, _seen) = close_store(rt, hub, left.kept);
+    let (left_here, _seen) = close_store(rt, hub, left.kept);
     told?;
-    let tenants = closed.config.limits.len();
+    let tenants = left_here.closed().config.limits.len();
     let ended = tell_served(alloc, &answers, tenants, names, writer);
+    *its = Some(left_here);
     ended_after(before, ended)
 }
 

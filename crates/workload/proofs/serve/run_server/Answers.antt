@@ -5,28 +5,12 @@ use Rattle.hub.specs.Hubs.{view_with}
 use Rattle.workload.proofs.Listening.{no_port_for, nothing_told, port_is}
 use Rattle.workload.proofs.serve.run_server.Goals as goal
 
-pub returns-then-options : goal.returns-then-options
-returns-then-options g c = record {
-  served = rw c.if-options.true (search rules);
-  port =
-      port_is c.args.options.port c.in-Ok.listener (g.W.Write.contents c.args.writer.now) (g.W.Write.contents c.serve_unrecorded.new.writer) c.serve_unrecorded.result
-      c.in-Ok.ensures c.serve_unrecorded.ensures.port;
-}
-
-pub returns-then-config-eq0 : goal.returns-then-config-eq0
-returns-then-config-eq0 g c = record {
+pub returns : goal.returns
+returns g c = record {
   served = search rules;
   port =
-      port_is c.args.options.port c.in-Ok.listener (g.W.Write.contents c.args.writer.now) (g.W.Write.contents c.serve_and_settle.new.writer) c.serve_and_settle.result
-      c.in-Ok.ensures c.serve_and_settle.ensures.port;
-}
-
-pub returns-else-config-eq0 : goal.returns-else-config-eq0
-returns-else-config-eq0 g c = record {
-  served = search rules;
-  port =
-      port_is c.args.options.port c.in-Ok.listener (g.W.Write.contents c.args.writer.now) (g.W.Write.contents c.serve_and_check.new.writer) c.serve_and_check.result
-      c.in-Ok.ensures c.serve_and_check.ensures.port;
+      port_is c.args.options.port c.in-Ok.listener (g.W.Write.contents c.args.writer.now) (g.W.Write.contents c.serve_named.new.writer) c.serve_named.result
+      c.in-Ok.ensures c.serve_named.ensures.port;
 }
 
 pub returns-in_default : goal.returns-in_default
@@ -39,7 +23,7 @@ pub returns-in_err-status : goal.returns-in_err-status
 returns-in_err-status g c = record {
   served =
       let p = err_from_is_err_and c.from_residual.result c.from_residual.ensures.1 in
-      rw (p.1, p.2) (nothing_told c.args.options.unrecorded c.args.options.counts (view_with c.args.config (not c.args.options.unrecorded)) c.args.names.now (g.W.Write.contents c.args.writer.now) c.in_err-status.field-0.0 c.in_err-status.ensures);
+      rw (p.1, p.2) (nothing_told _ c.args.options.unrecorded c.args.options.counts (view_with c.args.config (not c.args.options.unrecorded)) c.args.names.now (g.W.Write.contents c.args.writer.now) c.in_err-status.field-0.0 c.in_err-status.ensures);
   port =
       let p = err_from_is_err_and c.from_residual.result c.from_residual.ensures.1 in
       rw (p.1, p.2) (no_port_for c.args.options.port (g.W.Write.contents c.args.writer.now) c.in_err-status.field-0.0 c.in_err-status.ensures);

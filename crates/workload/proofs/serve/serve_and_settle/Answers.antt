@@ -1,9 +1,10 @@
-use Rattle.std.proofs.Common.{◌∙◌, ◌&&◌, ap, arith, false, refl, rules, subst, sym, true}
+use Rattle.std.proofs.Common.{◌∙◌, ◌≡◌, ◌&&◌, Some, ap, arith, false, inl, refl, rules, subst, sym, true}
 use Rattle.std.specs.Prelude.{codes, length, nat_eq}
 use Rattle.std.proofs.lemmas.Result.{err_from_is_err_and}
 use Rattle.hub.specs.Hubs.{config_view, view_with}
-use Rattle.server_sessions.specs.Ports.{port_of}
-use Rattle.server_verdicts.specs.Verdicts.{IsVerdictOf}
+use Rattle.closed_store.specs.declared.closed.Closed.{Closed}
+use Rattle.server_sessions.specs.Ports.{listener_of, port_of}
+use Rattle.server_verdicts.specs.Verdicts.{IsVerdictOf, TellsVerdicts}
 use Rattle.load.proofs.Histories.{is_closed}
 use Rattle.workload.specs.Amounts.{AreAmounts, TellsAmounts}
 use Rattle.workload.specs.Serving.{ComesBehind, is_told}
@@ -12,7 +13,7 @@ use Rattle.workload.proofs.serve.serve_and_settle.Goals as goal
 
 pub returns : goal.returns
 returns g c =
-    let closed = c.close_store-closed.result.0 in
+    let closed = c.close_store-left_here.result.0 in
     let old = g.W.Write.contents c.args.writer.now in
     let between = g.W.Write.contents c.serve_all-told.new.writer in
     let behind = g.W.Write.contents c.tell_verdicts-verdicts.new.writer in
@@ -20,25 +21,27 @@ returns g c =
     let told = c.tell_verdicts-verdicts.result in
     let came = c.tell_behind-ended.result in
     let view = config_view c.args.store.config in
+    let verdicts : TellsVerdicts closed c.args.names.now between behind told =
+    subst (λ (its : Closed). TellsVerdicts its c.args.names.now between behind told) c.closed-closed.ensures c.tell_verdicts-verdicts.ensures in
     let amounts : ComesBehind (is_told told && c.args.options.counts) (TellsAmounts (nat_eq view.epoch 0) closed c.args.names.now) behind new told came =
-    amounts_behind (is_told told) c.args.options.counts true (nat_eq view.epoch 0) closed c.deref.result.now c.args.names.now behind new told came (is_uncut view.epoch c.requires.kept) (λ asked. subst (AreAmounts closed) (sym c.deref.ensures.value) (c.in_ok-amounts.ensures asked)) c.tell_behind-ended.ensures in
+    amounts_behind (is_told told) c.args.options.counts true (nat_eq view.epoch 0) closed c.deref.result.now c.args.names.now behind new told came (is_uncut view.epoch c.requires.kept) (λ asked. subst (AreAmounts closed) (sym c.deref.ensures.value) (subst (λ (its : Closed). AreAmounts its c.in_ok-amounts.amounts.items) c.closed-closed.ensures (c.in_ok-amounts.ensures asked))) c.tell_behind-ended.ensures in
     record {
       served =
-          closed_on c.args.options.counts view c.args.names.now old between behind new closed told came c.ended_after.result c.in_ok-told.ensures.listened
-          (is_closed view _ closed c.close_store-closed.ensures.closed (c.in_ok-hub.ensures.done ∙ ap (view_with c.args.store.config) c.requires.journals)) (λ kept. c.tell_verdicts-verdicts.ensures)
+          closed_on (λ its. Some closed ≡ Some its) c.args.options.counts view c.args.names.now old between behind new closed told came c.ended_after.result c.in_ok-told.ensures.listened
+          (is_closed view _ closed c.close_store-left_here.ensures.closed (c.in_ok-hub.ensures.done ∙ ap (view_with c.args.store.config) c.requires.journals)) (inl refl) (λ kept. verdicts)
           (λ cut. absurd (omega (arith, cut, c.requires.kept))) amounts (_, c.fault_of-before.ensures.before, c.ended_after.ensures);
       port =
-          port_then (port_of c.args.ports.listener) old between new came c.ended_after.result (rw c.in_ok-server.ensures.listener at c.in_ok-told.ensures.port)
+          port_then (port_of (listener_of c.args.server)) old between new came c.ended_after.result c.in_ok-told.ensures.port
           (text_behind (is_told told && c.args.options.counts) c.args.options.counts (nat_eq view.epoch 0) closed c.args.names.now between behind new told came refl
-          (verdicts_text (IsVerdictOf closed) (codes "settled ") (length closed.config.limits.items) c.args.names.now between behind told c.tell_verdicts-verdicts.ensures) amounts)
+          (verdicts_text (IsVerdictOf closed) (codes "settled ") (length closed.config.limits.items) c.args.names.now between behind told verdicts) amounts)
           (_, c.fault_of-before.ensures.before, c.ended_after.ensures);
     }
 
 pub returns-then-left : goal.returns-then-left
 returns-then-left g c = record {
   served =
-      no_transcript c.args.options.counts (config_view c.args.store.config) c.args.names.now (g.W.Write.contents c.args.writer.now) (g.W.Write.contents c.serve_all-told.new.writer) c.close_store-closed.result.0 c.in_ok-told.ensures.listened
-      (is_closed (config_view c.args.store.config) _ c.close_store-closed.result.0 c.close_store-closed.ensures.closed (c.in_ok-hub.ensures.done ∙ ap (view_with c.args.store.config) c.requires.journals)) c.requires.kept;
+      no_transcript _ c.args.options.counts (config_view c.args.store.config) c.args.names.now (g.W.Write.contents c.args.writer.now) (g.W.Write.contents c.serve_all-told.new.writer) c.close_store-left_here.result.0 c.in_ok-told.ensures.listened
+      (is_closed (config_view c.args.store.config) _ c.close_store-left_here.result.0 c.close_store-left_here.ensures.closed (c.in_ok-hub.ensures.done ∙ ap (view_with c.args.store.config) c.requires.journals)) c.requires.kept;
   port = search rules;
 }
 
@@ -46,19 +49,19 @@ pub returns-in_err-amounts : goal.returns-in_err-amounts
 returns-in_err-amounts g c = record {
   served =
       let p = err_from_is_err_and c.from_residual-in_err-amounts.result c.from_residual-in_err-amounts.ensures.1 in
-      rw (p.1, p.2) (no_transcript c.args.options.counts (config_view c.args.store.config) c.args.names.now (g.W.Write.contents c.args.writer.now) (g.W.Write.contents c.serve_all-told.new.writer) c.close_store-closed.result.0 c.in_ok-told.ensures.listened
-      (is_closed (config_view c.args.store.config) _ c.close_store-closed.result.0 c.close_store-closed.ensures.closed (c.in_ok-hub.ensures.done ∙ ap (view_with c.args.store.config) c.requires.journals)) c.requires.kept);
+      rw (p.1, p.2) (no_transcript _ c.args.options.counts (config_view c.args.store.config) c.args.names.now (g.W.Write.contents c.args.writer.now) (g.W.Write.contents c.serve_all-told.new.writer) c.close_store-left_here.result.0 c.in_ok-told.ensures.listened
+      (is_closed (config_view c.args.store.config) _ c.close_store-left_here.result.0 c.close_store-left_here.ensures.closed (c.in_ok-hub.ensures.done ∙ ap (view_with c.args.store.config) c.requires.journals)) c.requires.kept);
   port = search rules;
 }
 
 pub returns-in_err-hub : goal.returns-in_err-hub
 returns-in_err-hub g c = record {
   served =
-      let p = err_from_is_err_and c.from_residual-in_err-hub.result c.from_residual-in_err-hub.ensures.1 in
-      rw (p.1, p.2) (nothing_told false c.args.options.counts (config_view c.args.store.config) c.args.names.now (g.W.Write.contents c.args.writer.now) c.in_err-hub.field-0.0 c.in_err-hub.ensures.refused);
+      let p = err_from_is_err_and c.from_residual.result c.from_residual.ensures.1 in
+      rw (p.1, p.2) (nothing_told _ false c.args.options.counts (config_view c.args.store.config) c.args.names.now (g.W.Write.contents c.args.writer.now) c.in_err-hub.field-0.0 c.in_err-hub.ensures.refused);
   port =
-      let p = err_from_is_err_and c.from_residual-in_err-hub.result c.from_residual-in_err-hub.ensures.1 in
-      rw (p.1, p.2) (no_store (port_of c.args.ports.listener) (g.W.Write.contents c.args.writer.now) (g.W.Write.contents c.args.writer.now) c.in_err-hub.field-0.0 c.in_err-hub.ensures.refused);
+      let p = err_from_is_err_and c.from_residual.result c.from_residual.ensures.1 in
+      rw (p.1, p.2) (no_store (port_of (listener_of c.args.server)) (g.W.Write.contents c.args.writer.now) (g.W.Write.contents c.args.writer.now) c.in_err-hub.field-0.0 c.in_err-hub.ensures.refused);
 }
 
 pub returns-in_err-told : goal.returns-in_err-told
@@ -67,13 +70,5 @@ returns-in_err-told g c = record {
   port =
       let p = err_from_is_err_and c.from_residual-in_err-told.result c.from_residual-in_err-told.ensures.1 in
       let now = g.W.Write.contents c.serve_all-told.new.writer in
-      rw (p.1, p.2) (no_port (port_of c.args.ports.listener) (g.W.Write.contents c.args.writer.now) now now c.in_err-told.field-0.0 c.in_err-told.ensures.listened);
-}
-
-pub returns-in_err-server : goal.returns-in_err-server
-returns-in_err-server g c = record {
-  served = search rules;
-  port =
-      let p = err_from_is_err_and c.from_residual.result c.from_residual.ensures.1 in
-      rw (p.1, p.2) tt;
+      rw (p.1, p.2) (no_port (port_of (listener_of c.args.server)) (g.W.Write.contents c.args.writer.now) now now c.in_err-told.field-0.0 c.in_err-told.ensures.listened);
 }
