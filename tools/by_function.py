@@ -70,3 +70,17 @@ def prover(folder):
             words += ["-L", f"dependency={room}/{name}/out/rlib"]
     return [*words, "--antt-project", f"{kit()}/rattle/logic/antt-project.json", "--logic-built", f"{kit()}/logic_built", "--links", f"{crate}=", "--jobs", "1",
             "--incremental", f"{folder}/out/incremental"]
+
+
+def prover_over_sources(folder):
+    """The same words over the sources of the crates below, whose contracts they state: nothing below has to be proved. Only functions are proved so."""
+    crate, known = os.path.basename(folder), rows()
+    room, chain = os.path.dirname(folder), [it for it in crates_below(crate) if it != crate]
+    named = {name: known[name].partition(":")[2].split() for name in [crate, *chain]}
+    of_kit = dict.fromkeys(["std", "core", *(it for name in [crate, *chain] for it in named[name] if it not in known)])
+    words = [f"{kit()}/bin/rattle", "check", "--crate-name", crate, "src/lib.rt", "-L", f"dependency={kit()}/rlibs"]
+    for name in of_kit:
+        words += ["--extern", f"{name}={kit()}/rlibs/{name}.rlib"]
+    for name in chain:
+        words += ["--lib", f"{name}:{','.join(dict.fromkeys(['core', 'std', *named[name]]))}={room}/{name}/src/lib.rt"]
+    return [*words, "--antt-project", f"{kit()}/rattle/logic/antt-project.json", "--logic-built", f"{kit()}/logic_built", "--links", f"{crate}=", "--jobs", "1"]
