@@ -1,5 +1,5 @@
 //! workload: the programs, each over a reader and a writer.
-ghost use Rattle.std.specs.Prelude.{◌≡◌};
+ghost use Rattle.std.specs.Prelude.{◌≡◌, false, true};
 
 use hub::{Config, Hub, Named, Naming, NewStore, Transcript};
 use line_protocol::Name;
@@ -11,7 +11,10 @@ use std::net::{Net, TcpListener, TcpStream};
 use std::sync::Wait;
 use std::thread::Threads;
 use std::time::Clock;
-use workload::{run_cell, run_session, run_sim, run_words};
+use workload::{
+    Listener, Open, Server, ServerOptions, SessionOptions, StoreLeft, StoreServer, run_cell,
+    run_session, run_sim, run_words,
+};
 
 /// Room for four versions, items and clients; a collection keeps one committed version of an item.
 fn limits() -> Option<Limits> {
@@ -62,14 +65,18 @@ fn runs_session<R: Threads + Wait + Clone + Send + Drop + 'static>(
     rt: &R,
     alloc: Global,
 ) -> Option<bool> {
-    let config = Config {
+    session_in::<Brand, R>(rt, alloc, NewStore::of(config(alloc)?))
+}
+
+/// Two partitions, and a tenant.
+fn config(alloc: Global) -> Option<Config> {
+    Some(Config {
         parts: 2,
         limits: Vec::from_slice(alloc, &[limits()?]).ok()?,
         queue: 64,
         every: 64,
         epoch: 0,
-    };
-    session_in::<Brand, R>(rt, alloc, NewStore::of(config))
+    })
 }
 
 fn session_in<
@@ -87,6 +94,83 @@ fn session_in<
     let _ = hub.close(rt, Vec::new(alloc));
     let is_whole = transcript.is_some() && ended == Ok(());
     Some(is_whole && writer.as_slice() == b"ready 0\nbye\n".as_slice())
+}
+
+/// A server at a free port, which stays until its input ends, and keeps what it answers to be settled.
+fn options() -> ServerOptions
+    ensures plain { (result.strict ≡ false) × (result.newest ≡ false) }
+    ensures recorded { result.unrecorded ≡ false }
+{
+    ServerOptions {
+        port: 0,
+        sessions: 1,
+        stay: true,
+        strict: false,
+        newest: false,
+        unrecorded: false,
+        counts: false,
+        queue: 64,
+        every: 64,
+        epoch: 0,
+        status: 0,
+    }
+}
+
+/// Whether a store is served in its name, and what it left is returned.
+fn serves_store<
+    R: Threads
+        + Wait
+        + Clock
+        + Net<Listener = TcpListener, Stream = TcpStream>
+        + Clone
+        + Send
+        + Sync
+        + Drop
+        + 'static,
+>(rt: &R, alloc: Global) -> Option<bool> {
+    let names = [Name::read(b"t")?];
+    serve_in::<Brand, R>(rt, alloc, NewStore::of(config(alloc)?), &names)
+}
+
+fn serve_in<
+    J: Naming + Send + Sync + Drop + 'static,
+    R: Threads
+        + Wait
+        + Clock
+        + Net<Listener = TcpListener, Stream = TcpStream>
+        + Clone
+        + Send
+        + Sync
+        + Drop
+        + 'static,
+>(rt: &R, alloc: Global, store: NewStore, names: &[Name]) -> Option<bool>
+    requires name { store.history.seen.book ≡ J.book }
+    requires journals { store.journals ≡ true }
+{
+    let options = options();
+    let listener = Listener::bind(rt, options.port).ok()?;
+    let server: Server<Listener, Named<J, Open>, &[Name]> = Server::staying(
+        alloc,
+        listener,
+        names,
+        options.sessions,
+    ).ok()?;
+    let given = StoreServer {
+        store,
+        names,
+        server: server.with_options(SessionOptions {
+            strict: options.strict,
+            newest: options.newest,
+            store: 1,
+        }),
+        status: None,
+        options,
+    };
+    let mut reader: &[u8] = b"";
+    let mut writer: Vec<u8> = Vec::new(alloc);
+    let mut left: Option<StoreLeft<J>> = None;
+    let ended = given.serve(rt, alloc, &mut reader, &mut writer, &mut left);
+    Some(left.is_some() && ended == Ok(()) && writer.as_slice().ends_with(b"\nsettled t yes\n"))
 }
 
 /// Whether a program does what its words ask for, and reports a fault by its status and its line.
@@ -115,5 +199,6 @@ fn runs_words<
 fn workload_has_its_calls(rt: HostRuntime) {
     let yes = Some(true);
     assert!(rt; runs_cell(rt.alloc()) && runs_sim(rt.alloc()) == yes);
-    assert!(rt; runs_session(&rt, rt.alloc()) == yes && runs_words(&rt, rt.alloc()) == yes);
+    assert!(rt; runs_session(&rt, rt.alloc()) == yes && serves_store(&rt, rt.alloc()) == yes);
+    assert!(rt; runs_words(&rt, rt.alloc()) == yes);
 }

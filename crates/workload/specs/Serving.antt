@@ -1,5 +1,5 @@
 -- What a server reports about itself, and what one did that the words ask for.
-use Rattle.std.specs.Prelude.{◌≡◌, ◌⊎◌, ℕ, ◌<◌, ◌≤◌, ◌^◌, ◌++◌, length, List, Option, Result, Ok, Err, OnOk, IsSomeAnd}
+use Rattle.std.specs.Prelude.{◌≡◌, ◌⊎◌, ℕ, ◌<◌, ◌≤◌, ◌^◌, ◌++◌, length, List, Option, None, Some, Result, Ok, Err, OnOk}
 use Rattle.std.specs.Prelude.{Bool, IsTrue, ◌&&◌, codes, decimal, false, true, if◌then◌else◌, map, nat_eq, nat_lt, not, take}
 use Rattle.std.specs.Io.KnownBytes.{Appends, Keeps}
 use Rattle.stamps.specs.Bounds.{IsParts}
@@ -14,6 +14,8 @@ use Rattle.line_runs.specs.declared.fault.ProgramFault.TheVariants.{OutOfMemory,
 use Rattle.command_line.specs.declared.options.StoreOptions.{StoreOptions}
 use Rattle.command_line.specs.declared.server_options.ServerOptions.{ServerOptions}
 use Rattle.server_verdicts.specs.declared.epochs.ending.LastEpochs.{LastEpochs}
+use Rattle.workload.specs.declared.serve.StoreLeft.{StoreLeft}
+use Rattle.workload.specs.declared.serve.StoreLeft.TheVariants.{Whole, Endings}
 use Rattle.server_verdicts.specs.Judged.{AreLeft, TellsChecks}
 use Rattle.server_verdicts.specs.Verdicts.{TellsVerdicts}
 use Rattle.command_line.specs.Words.{AreTenants, AsksForServer}
@@ -147,9 +149,11 @@ abbrev pub HasServed : Bool → Bool → ConfigView → List (List ℕ) → Opti
     → Result (Unit {0}) ProgramFault → Type 0
 HasServed unrecorded counts view names old new ended = HasServedOf (λ closed. Unit {0}) unrecorded counts view names old new ended
 
--- the endings are of journals that this store left
-abbrev pub IsEndedBy : Option LastEpochs → Closed → Type 0
-IsEndedBy endings closed = IsSomeAnd endings (λ its. AreLeft closed.journals.items its.rows.items)
+-- what was left, as it is returned, is of the store that was closed: all of it, or, where journals are cut, what was left of them
+abbrev pub IsLeftIn : {J : Type 0} → Option (StoreLeft J) → Closed → Type 0
+IsLeftIn None closed = ⊥
+IsLeftIn (Some (Whole its)) closed = its ≡ closed
+IsLeftIn (Some (Endings endings)) closed = AreLeft closed.journals.items endings.rows.items
 
 -- A store of so many partitions and a tenant of these limits for each name. As many calls may wait at a partition, and
 -- it is collected after so many. It keeps journals, and one is cut after so many events, or never.

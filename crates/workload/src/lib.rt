@@ -6,9 +6,10 @@ mod serve;
 mod served_lines;
 mod words;
 
+pub use command_line::ServerOptions;
 pub use line_runs::{run_cell, run_sim};
 pub use load::run_load;
-pub use serve::run_server;
+pub use serve::{StoreLeft, StoreServer, run_server};
 pub use server_sessions::{
     Accept, KeptTranscripts, Left, Listener, Open, OpenHub, Server, SessionLeft, SessionOptions,
     SessionRun, Tenants, run_session, run_session_as, serve_connections,

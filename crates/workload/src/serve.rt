@@ -5,7 +5,7 @@ ghost use Rattle.hub.specs.Hubs.{config_view, view_with};
 ghost use Rattle.load.specs.Stores.{DoneOrRefused};
 ghost use Rattle.workload.specs.Amounts.{judged_line};
 ghost use Rattle.workload.specs.TenantLines.{TellsLines};
-ghost use Rattle.workload.specs.Serving.{ComesBehind, HasServedOf, IsAskedFor, IsEndedBy, IsFaultBefore, ServesAndTells, TellsOfPort, TellsPortFirst, TellsPortFor, greater_fault, is_told, listening_line};
+ghost use Rattle.workload.specs.Serving.{ComesBehind, HasServedOf, IsAskedFor, IsFaultBefore, IsLeftIn, ServesAndTells, TellsOfPort, TellsPortFirst, TellsPortFor, greater_fault, is_told, listening_line};
 ghost use Rattle.server_sessions.specs.Ports.{IsServerOf, listener_of, most_of, options_of, port_of, stays_of, tenants_of};
 
 use crate::judged_lines::{Amount, amounts_asked, tell_judged};
@@ -31,6 +31,33 @@ use std::time::{Clock, SystemTime, UNIX_EPOCH};
 struct Ports {
     listener: Listener,
     status: Option<StatusPort>,
+}
+
+/// A store that is not open yet, and the server that is to serve it, in its name, over tenants of these names. The server's sessions have
+/// the options that are asked for, and the store keeps journals unless it is to record nothing.
+#[derive(Drop)]
+pub struct StoreServer<'n, J: Naming>
+where
+    Named<J, Open>: Naming,
+{
+    pub store: NewStore,
+    pub names: &'n [Name],
+    pub server: Server<Listener, Named<J, Open>, &'n [Name]>,
+    /// The port that reports how the server stands, if it has one.
+    pub status: Option<StatusPort>,
+    pub options: ServerOptions,
+    pub ghost name: { store.history.seen.book ≡ J.book },
+    pub ghost asked: { IsAskedFor names.now options (tenants_of server).now (options_of server) },
+    pub ghost journals: { store.journals ≡ not options.unrecorded },
+}
+
+/// What the store of a name left. There is one such store, since a hub is opened with its history.
+#[derive(Drop)]
+pub enum StoreLeft<J: Naming> {
+    /// All that it left.
+    Whole(NamedClosed<J>),
+    /// What it left of its journals, where they are cut, with what is known of each.
+    Endings(NamedEndings<J>),
 }
 
 /// The port that reports how a server stands, if it has one, and what is known of the journals, where epochs are checked.
@@ -112,7 +139,7 @@ fn new_store(config: Config, unrecorded: bool) -> NewStore
     }
 }
 
-// Serves a store under its name: the server has that name, and so has what is closed at the end, of which the verdicts are.
+// Has a server in the name of the store serve it.
 fn serve_named<
     J: Naming + Send + Sync + Drop + 'static,
     H: Threads + Wait + Clock + Clone + Send + Sync + Drop + 'static,
@@ -136,48 +163,48 @@ fn serve_named<
 {
     let Ports { listener, status } = ports;
     let server = server_of(alloc, listener, names, options, store_number(rt))?;
-    let mut closed: Option<NamedClosed<J>> = None;
-    if options.unrecorded {
-        return serve_unrecorded(
-            rt,
-            alloc,
-            store,
-            names,
-            server,
-            status,
-            options,
-            reader,
-            writer,
-            &mut closed,
-        );
-    }
-    if store.config.epoch == 0 {
-        return serve_and_settle(
-            rt,
-            alloc,
-            store,
-            names,
-            server,
-            status,
-            options,
-            reader,
-            writer,
-            &mut closed,
-        );
-    }
-    let mut endings: Option<NamedEndings<J>> = None;
-    serve_and_check(
-        rt,
-        alloc,
+    let given = StoreServer {
         store,
         names,
         server,
         status,
         options,
-        reader,
-        writer,
-        &mut endings,
-    )
+    };
+    let mut left: Option<StoreLeft<J>> = None;
+    given.serve(rt, alloc, reader, writer, &mut left)
+}
+
+impl<J: Naming + Send + Sync + Drop + 'static> StoreServer<'_, J> {
+    /// Opens the store, has its server write the port and serve it, closes it, and writes the last lines, all as `run_server`. These are
+    /// of what the store of this name left, which is returned, unless an allocation failed before them. Whoever connects to this
+    /// server is served by that store: only a hub in its name serves the server's connections.
+    pub fn serve<
+        H: Threads + Wait + Clock + Clone + Send + Sync + Drop + 'static,
+        R: Read,
+        W: Write,
+    >(
+        self,
+        rt: &H,
+        alloc: Global,
+        reader: &mut R,
+        writer: &mut W,
+        left: &mut Option<StoreLeft<J>>,
+    ) -> Result<(), ProgramFault>
+        ensures served { HasServedOf (IsLeftIn left.new) self.entry.options.unrecorded
+            self.entry.options.counts
+            (view_with self.entry.store.config self.entry.store.journals) self.entry.names.now
+            (W.contents writer.old) (W.contents writer.new) result }
+        ensures port { TellsPortFirst (port_of (listener_of self.entry.server))
+            (W.contents writer.old) (W.contents writer.new) result }
+    {
+        if self.options.unrecorded {
+            return serve_unrecorded(rt, alloc, self, reader, writer, left);
+        }
+        if self.store.config.epoch == 0 {
+            return serve_and_settle(rt, alloc, self, reader, writer, left);
+        }
+        serve_and_check(rt, alloc, self, reader, writer, left)
+    }
 }
 
 // The port that reports how the server stands, where one is asked for.
@@ -239,7 +266,7 @@ fn plain_server_of<G: Naming>(
     }
 }
 
-// Serves a store whose journals are kept, and settles its tenants. The verdicts are of what the store of this name left, which it returns.
+// Serves a store whose journals are kept, and settles its tenants.
 fn serve_and_settle<
     J: Naming + Send + Sync + Drop + 'static,
     H: Threads + Wait + Clock + Clone + Send + Sync + Drop + 'static,
@@ -248,25 +275,26 @@ fn serve_and_settle<
 >(
     rt: &H,
     alloc: Global,
-    store: NewStore,
-    names: &[Name],
-    server: Server<Listener, Named<J, Open>, &[Name]>,
-    status: Option<StatusPort>,
-    options: ServerOptions,
+    given: StoreServer<'_, J>,
     reader: &mut R,
     writer: &mut W,
-    its: &mut Option<NamedClosed<J>>,
+    its: &mut Option<StoreLeft<J>>,
 ) -> Result<(), ProgramFault>
-    requires journals { store.journals ≡ true }
-    requires kept { store.config.epoch ≡ 0 }
-    requires name { store.history.seen.book ≡ J.book }
-    requires asked { IsAskedFor names.now options (tenants_of server).now (options_of server) }
-    ensures served { HasServedOf (λ closed. its.new ≡ Some closed) false options.counts
-        (config_view store.config) names.now (W.contents writer.old) (W.contents writer.new)
-        result }
-    ensures port { TellsPortFirst (port_of (listener_of server.entry)) (W.contents writer.old)
+    requires recorded { given.options.unrecorded ≡ false }
+    requires kept { given.store.config.epoch ≡ 0 }
+    ensures served { HasServedOf (IsLeftIn its.new) false given.entry.options.counts
+        (config_view given.entry.store.config) given.entry.names.now
+        (W.contents writer.old) (W.contents writer.new) result }
+    ensures port { TellsPortFirst (port_of (listener_of given.entry.server)) (W.contents writer.old)
         (W.contents writer.new) result }
 {
+    let StoreServer {
+        store,
+        names,
+        server,
+        status,
+        options,
+    } = given;
     let hub = open_hub::<J, (), H>(rt, alloc, store, ())?;
     let reporting = Reporting {
         port: status.as_ref(),
@@ -292,12 +320,11 @@ fn serve_and_settle<
         names,
         writer,
     );
-    *its = Some(left_here);
+    *its = Some(StoreLeft::Whole(left_here));
     ended_after(before, ended)
 }
 
-// Serves a store whose journals are cut, has each epoch checked meanwhile, and checks the last one of each journal that the store of this
-// name left, which it returns.
+// Serves a store whose journals are cut, has each epoch checked meanwhile, and checks the last one of each journal that is left.
 fn serve_and_check<
     J: Naming + Send + Sync + Drop + 'static,
     H: Threads + Wait + Clock + Clone + Send + Sync + Drop + 'static,
@@ -306,25 +333,26 @@ fn serve_and_check<
 >(
     rt: &H,
     alloc: Global,
-    store: NewStore,
-    names: &[Name],
-    server: Server<Listener, Named<J, Open>, &[Name]>,
-    status: Option<StatusPort>,
-    options: ServerOptions,
+    given: StoreServer<'_, J>,
     reader: &mut R,
     writer: &mut W,
-    its: &mut Option<NamedEndings<J>>,
+    its: &mut Option<StoreLeft<J>>,
 ) -> Result<(), ProgramFault>
-    requires journals { store.journals ≡ true }
-    requires cut { 0 < store.config.epoch }
-    requires name { store.history.seen.book ≡ J.book }
-    requires asked { IsAskedFor names.now options (tenants_of server).now (options_of server) }
-    ensures served { HasServedOf (IsEndedBy its.new) false options.counts
-        (config_view store.config) names.now (W.contents writer.old) (W.contents writer.new)
-        result }
-    ensures port { TellsPortFirst (port_of (listener_of server.entry)) (W.contents writer.old)
+    requires recorded { given.options.unrecorded ≡ false }
+    requires cut { 0 < given.store.config.epoch }
+    ensures served { HasServedOf (IsLeftIn its.new) false given.entry.options.counts
+        (config_view given.entry.store.config) given.entry.names.now
+        (W.contents writer.old) (W.contents writer.new) result }
+    ensures port { TellsPortFirst (port_of (listener_of given.entry.server)) (W.contents writer.old)
         (W.contents writer.new) result }
 {
+    let StoreServer {
+        store,
+        names,
+        server,
+        status,
+        options,
+    } = given;
     let (hub, checking) = open_checked::<J, H>(rt, alloc, store)?;
     let reporting = Reporting {
         port: status.as_ref(),
@@ -348,11 +376,11 @@ fn serve_and_check<
         names,
         writer,
     );
-    *its = Some(endings);
+    *its = Some(StoreLeft::Endings(endings));
     ended_after(before, ended)
 }
 
-// Serves a store that keeps no journals. It reports how many lines were answered. It returns what the store of this name left.
+// Serves a store that keeps no journals. It reports how many lines were answered.
 fn serve_unrecorded<
     J: Naming + Send + Sync + Drop + 'static,
     H: Threads + Wait + Clock + Clone + Send + Sync + Drop + 'static,
@@ -361,24 +389,25 @@ fn serve_unrecorded<
 >(
     rt: &H,
     alloc: Global,
-    store: NewStore,
-    names: &[Name],
-    server: Server<Listener, Named<J, Open>, &[Name]>,
-    status: Option<StatusPort>,
-    options: ServerOptions,
+    given: StoreServer<'_, J>,
     reader: &mut R,
     writer: &mut W,
-    its: &mut Option<NamedClosed<J>>,
+    its: &mut Option<StoreLeft<J>>,
 ) -> Result<(), ProgramFault>
-    requires journals { store.journals ≡ false }
-    requires name { store.history.seen.book ≡ J.book }
-    requires asked { IsAskedFor names.now options (tenants_of server).now (options_of server) }
-    ensures served { HasServedOf (λ closed. its.new ≡ Some closed) true options.counts
-        (view_with store.config false) names.now (W.contents writer.old) (W.contents writer.new)
-        result }
-    ensures port { TellsPortFirst (port_of (listener_of server.entry)) (W.contents writer.old)
+    requires unrecorded { given.options.unrecorded ≡ true }
+    ensures served { HasServedOf (IsLeftIn its.new) true given.entry.options.counts
+        (view_with given.entry.store.config false) given.entry.names.now
+        (W.contents writer.old) (W.contents writer.new) result }
+    ensures port { TellsPortFirst (port_of (listener_of given.entry.server)) (W.contents writer.old)
         (W.contents writer.new) result }
 {
+    let StoreServer {
+        store,
+        names,
+        server,
+        status,
+        options,
+    } = given;
     let hub = open_hub::<J, (), H>(rt, alloc, store, ())?;
     let reporting = Reporting {
         port: status.as_ref(),
@@ -391,7 +420,7 @@ fn serve_unrecorded<
     told?;
     let tenants = left_here.closed().config.limits.len();
     let ended = tell_served(alloc, &answers, tenants, names, writer);
-    *its = Some(left_here);
+    *its = Some(StoreLeft::Whole(left_here));
     ended_after(before, ended)
 }
 

@@ -1,5 +1,5 @@
 use Rattle.std.proofs.Common.{◌∙◌, ◌≡◌, ◌&&◌, Some, ap, arith, false, inl, refl, rules, subst, sym, true}
-use Rattle.std.specs.Prelude.{codes, length, nat_eq}
+use Rattle.std.specs.Prelude.{codes, length, nat_eq, not}
 use Rattle.std.proofs.lemmas.Result.{err_from_is_err_and}
 use Rattle.hub.specs.Hubs.{config_view, view_with}
 use Rattle.closed_store.specs.declared.closed.Closed.{Closed}
@@ -7,8 +7,9 @@ use Rattle.server_sessions.specs.Ports.{listener_of, port_of}
 use Rattle.server_verdicts.specs.Verdicts.{IsVerdictOf, TellsVerdicts}
 use Rattle.load.proofs.Histories.{is_closed}
 use Rattle.workload.specs.Amounts.{AreAmounts, TellsAmounts}
-use Rattle.workload.specs.Serving.{ComesBehind, is_told}
+use Rattle.workload.specs.Serving.{ComesBehind, IsLeftIn, is_told}
 use Rattle.workload.proofs.Listening.{amounts_behind, closed_on, is_uncut, no_port, no_store, no_transcript, nothing_told, port_then, text_behind, verdicts_text}
+use Rattle.workload.specs.declared.serve.StoreLeft.TheVariants.{Whole}
 use Rattle.workload.proofs.serve.serve_and_settle.Goals as goal
 
 pub returns : goal.returns
@@ -20,28 +21,28 @@ returns g c =
     let new = g.W.Write.contents c.tell_behind-ended.new.writer in
     let told = c.tell_verdicts-verdicts.result in
     let came = c.tell_behind-ended.result in
-    let view = config_view c.args.store.config in
-    let verdicts : TellsVerdicts closed c.args.names.now between behind told =
-    subst (λ (its : Closed). TellsVerdicts its c.args.names.now between behind told) c.closed-closed.ensures c.tell_verdicts-verdicts.ensures in
-    let amounts : ComesBehind (is_told told && c.args.options.counts) (TellsAmounts (nat_eq view.epoch 0) closed c.args.names.now) behind new told came =
-    amounts_behind (is_told told) c.args.options.counts true (nat_eq view.epoch 0) closed c.deref.result.now c.args.names.now behind new told came (is_uncut view.epoch c.requires.kept) (λ asked. subst (AreAmounts closed) (sym c.deref.ensures.value) (subst (λ (its : Closed). AreAmounts its c.in_ok-amounts.amounts.items) c.closed-closed.ensures (c.in_ok-amounts.ensures asked))) c.tell_behind-ended.ensures in
+    let view = config_view c.args.given.store.config in
+    let verdicts : TellsVerdicts closed c.args.given.names.now between behind told =
+    subst (λ (its : Closed). TellsVerdicts its c.args.given.names.now between behind told) c.closed-closed.ensures c.tell_verdicts-verdicts.ensures in
+    let amounts : ComesBehind (is_told told && c.args.given.options.counts) (TellsAmounts (nat_eq view.epoch 0) closed c.args.given.names.now) behind new told came =
+    amounts_behind (is_told told) c.args.given.options.counts true (nat_eq view.epoch 0) closed c.deref.result.now c.args.given.names.now behind new told came (is_uncut view.epoch c.requires.kept) (λ asked. subst (AreAmounts closed) (sym c.deref.ensures.value) (subst (λ (its : Closed). AreAmounts its c.in_ok-amounts.amounts.items) c.closed-closed.ensures (c.in_ok-amounts.ensures asked))) c.tell_behind-ended.ensures in
     record {
       served =
-          closed_on (λ its. Some closed ≡ Some its) c.args.options.counts view c.args.names.now old between behind new closed told came c.ended_after.result c.in_ok-told.ensures.listened
-          (is_closed view _ closed c.close_store-left_here.ensures.closed (c.in_ok-hub.ensures.done ∙ ap (view_with c.args.store.config) c.requires.journals)) (inl refl) (λ kept. verdicts)
+          closed_on (IsLeftIn {J = g.row.J.Denot} (Some (Whole closed))) c.args.given.options.counts view c.args.given.names.now old between behind new closed told came c.ended_after.result c.in_ok-told.ensures.listened
+          (is_closed view _ closed c.close_store-left_here.ensures.closed (c.in_ok-hub.ensures.done ∙ ap (view_with c.args.given.store.config) (c.args.given.journals ∙ ap not c.requires.recorded))) (inl refl) (λ kept. verdicts)
           (λ cut. absurd (omega (arith, cut, c.requires.kept))) amounts (_, c.fault_of-before.ensures.before, c.ended_after.ensures);
       port =
-          port_then (port_of (listener_of c.args.server)) old between new came c.ended_after.result c.in_ok-told.ensures.port
-          (text_behind (is_told told && c.args.options.counts) c.args.options.counts (nat_eq view.epoch 0) closed c.args.names.now between behind new told came refl
-          (verdicts_text (IsVerdictOf closed) (codes "settled ") (length closed.config.limits.items) c.args.names.now between behind told verdicts) amounts)
+          port_then (port_of (listener_of c.args.given.server)) old between new came c.ended_after.result c.in_ok-told.ensures.port
+          (text_behind (is_told told && c.args.given.options.counts) c.args.given.options.counts (nat_eq view.epoch 0) closed c.args.given.names.now between behind new told came refl
+          (verdicts_text (IsVerdictOf closed) (codes "settled ") (length closed.config.limits.items) c.args.given.names.now between behind told verdicts) amounts)
           (_, c.fault_of-before.ensures.before, c.ended_after.ensures);
     }
 
 pub returns-then-left : goal.returns-then-left
 returns-then-left g c = record {
   served =
-      no_transcript _ c.args.options.counts (config_view c.args.store.config) c.args.names.now (g.W.Write.contents c.args.writer.now) (g.W.Write.contents c.serve_all-told.new.writer) c.close_store-left_here.result.0 c.in_ok-told.ensures.listened
-      (is_closed (config_view c.args.store.config) _ c.close_store-left_here.result.0 c.close_store-left_here.ensures.closed (c.in_ok-hub.ensures.done ∙ ap (view_with c.args.store.config) c.requires.journals)) c.requires.kept;
+      no_transcript _ c.args.given.options.counts (config_view c.args.given.store.config) c.args.given.names.now (g.W.Write.contents c.args.writer.now) (g.W.Write.contents c.serve_all-told.new.writer) c.close_store-left_here.result.0 c.in_ok-told.ensures.listened
+      (is_closed (config_view c.args.given.store.config) _ c.close_store-left_here.result.0 c.close_store-left_here.ensures.closed (c.in_ok-hub.ensures.done ∙ ap (view_with c.args.given.store.config) (c.args.given.journals ∙ ap not c.requires.recorded))) c.requires.kept;
   port = search rules;
 }
 
@@ -49,8 +50,8 @@ pub returns-in_err-amounts : goal.returns-in_err-amounts
 returns-in_err-amounts g c = record {
   served =
       let p = err_from_is_err_and c.from_residual-in_err-amounts.result c.from_residual-in_err-amounts.ensures.1 in
-      rw (p.1, p.2) (no_transcript _ c.args.options.counts (config_view c.args.store.config) c.args.names.now (g.W.Write.contents c.args.writer.now) (g.W.Write.contents c.serve_all-told.new.writer) c.close_store-left_here.result.0 c.in_ok-told.ensures.listened
-      (is_closed (config_view c.args.store.config) _ c.close_store-left_here.result.0 c.close_store-left_here.ensures.closed (c.in_ok-hub.ensures.done ∙ ap (view_with c.args.store.config) c.requires.journals)) c.requires.kept);
+      rw (p.1, p.2) (no_transcript _ c.args.given.options.counts (config_view c.args.given.store.config) c.args.given.names.now (g.W.Write.contents c.args.writer.now) (g.W.Write.contents c.serve_all-told.new.writer) c.close_store-left_here.result.0 c.in_ok-told.ensures.listened
+      (is_closed (config_view c.args.given.store.config) _ c.close_store-left_here.result.0 c.close_store-left_here.ensures.closed (c.in_ok-hub.ensures.done ∙ ap (view_with c.args.given.store.config) (c.args.given.journals ∙ ap not c.requires.recorded))) c.requires.kept);
   port = search rules;
 }
 
@@ -58,10 +59,10 @@ pub returns-in_err-hub : goal.returns-in_err-hub
 returns-in_err-hub g c = record {
   served =
       let p = err_from_is_err_and c.from_residual.result c.from_residual.ensures.1 in
-      rw (p.1, p.2) (nothing_told _ false c.args.options.counts (config_view c.args.store.config) c.args.names.now (g.W.Write.contents c.args.writer.now) c.in_err-hub.field-0.0 c.in_err-hub.ensures.refused);
+      rw (p.1, p.2) (nothing_told _ false c.args.given.options.counts (config_view c.args.given.store.config) c.args.given.names.now (g.W.Write.contents c.args.writer.now) c.in_err-hub.field-0.0 c.in_err-hub.ensures.refused);
   port =
       let p = err_from_is_err_and c.from_residual.result c.from_residual.ensures.1 in
-      rw (p.1, p.2) (no_store (port_of (listener_of c.args.server)) (g.W.Write.contents c.args.writer.now) (g.W.Write.contents c.args.writer.now) c.in_err-hub.field-0.0 c.in_err-hub.ensures.refused);
+      rw (p.1, p.2) (no_store (port_of (listener_of c.args.given.server)) (g.W.Write.contents c.args.writer.now) (g.W.Write.contents c.args.writer.now) c.in_err-hub.field-0.0 c.in_err-hub.ensures.refused);
 }
 
 pub returns-in_err-told : goal.returns-in_err-told
@@ -70,5 +71,5 @@ returns-in_err-told g c = record {
   port =
       let p = err_from_is_err_and c.from_residual-in_err-told.result c.from_residual-in_err-told.ensures.1 in
       let now = g.W.Write.contents c.serve_all-told.new.writer in
-      rw (p.1, p.2) (no_port (port_of (listener_of c.args.server)) (g.W.Write.contents c.args.writer.now) now now c.in_err-told.field-0.0 c.in_err-told.ensures.listened);
+      rw (p.1, p.2) (no_port (port_of (listener_of c.args.given.server)) (g.W.Write.contents c.args.writer.now) now now c.in_err-told.field-0.0 c.in_err-told.ensures.listened);
 }
