@@ -39,7 +39,7 @@ partition/src/shelf.rt: apply_into
 """
 TO_PUT = TO_SEAT + """
 hub/src/by_clock.rt: put_by_clock_into
-hub/src/seat.rt: put_all_into run
+hub/src/seat.rt: run
 """ + TO_CALLS
 WALKS = {
     "PREPARE": TO_PUT + TO_CELL + """
@@ -48,7 +48,7 @@ prepare_commit/src/versions.rt: insert
 version_chain/src/chains.rt: insert_from
 """,
     "COMMIT": TO_PUT + """
-hub/src/operation.rt: take_replies enter_reply follow send_asked
+hub/src/operation.rt: take_replies send_staged
 """ + TO_CELL + """
 prepare_commit/src/cell.rt: apply_into commit commit_counted
 prepare_commit/src/versions.rt: commit

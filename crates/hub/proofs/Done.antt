@@ -1,5 +1,5 @@
 -- What is answered as done was committed: for the laws of puts.
-use Rattle.std.proofs.Common.{◌≡◌, ◌∙◌, ℕ, ◌==◌, List, [], ◌∷◌, ◌++◌, Option, Some, None, true, eqb-true, inl, refl, ap, sym, subst, map}
+use Rattle.std.proofs.Common.{◌≡◌, ◌∙◌, ◌<◌, ◌↔◌, ℕ, ◌==◌, List, [], ◌∷◌, ◌++◌, Option, Some, None, true, false, eqb-true, inl, refl, ap, sym, subst, map}
 use Rattle.std.specs.List.{list_any}
 use Rattle.std.proofs.Math.Logic.{∥∥₁_elim, ∥∥₁_map, ∥∥₁_map₂, ∥∥₁_prop}
 use Rattle.std.proofs.Math.Bridge.{le_prop}
@@ -31,9 +31,17 @@ use Rattle.history.proofs.Shown.{accepted_written}
 use Rattle.shard.specs.Journals.{served_call}
 use Rattle.tenant_sessions.specs.Showing.{IsCallFor}
 use Rattle.hub.specs.Fresh.{AreCommittedIn, IsNotMissed, IsReadFresh}
-use Rattle.hub.specs.Replies.{IsOf, IsReplyIn, IsWriteOf}
+use Rattle.hub.specs.Limits.{last_call, max_calls}
+use Rattle.hub.specs.Operations.{IsLater, PutsAll, ReportsWrite}
+use Rattle.hub.specs.Replies.{IfDone, IsDrawn, IsOf, IsReplyIn, IsWriteOf}
+use Rattle.hub.specs.Seats.{SeatView, IsEntered, last_operation}
 use Rattle.hub.specs.Sights.{OperationSight}
 use Rattle.hub.proofs.Evidence.{reply_of, says, SaysPrepared, taken_as_prepare}
+use Rattle.hub.proofs.Replies.{if_done}
+use Rattle.plain_store.specs.declared.answer.Answer.{Answer}
+use Rattle.plain_store.specs.declared.answer.Answer.TheVariants.{Refused}
+use Rattle.plain_store.specs.declared.refusal.Refusal.TheVariants.{Stopped, RowsUsed}
+use Rattle.plain_store.specs.declared.step.Act.TheVariants.{Put}
 
 home_is : (setup : Setup) (key : Key) → home setup key ≡ home_of key setup.partitions
 unfolding home
@@ -163,3 +171,18 @@ pub puts_not_missed : (seen before : List HistoryEntry) (tenant : ℕ) (items : 
     → IsReadFresh before tenant told → IsNotMissed items own told
 puts_not_missed seen before tenant items own told legal pre committed fresh reading has among =
     ∥∥₁_elim (committed reading.item.key among) le_prop (λ c. fresh reading own has (committed_in_later seen before tenant reading.item.key own legal pre c))
+
+-- so what an operation of a seat leaves that was to write items
+pub puts_ran : (items : List Item) (old new : SeatView) (answer : Answer) → IsEntered (Put old.name.client items) old answer new → ((answer ≡ Refused Stopped) ↔ (old.stopped ≡ true))
+    → ((answer ≡ Refused RowsUsed) ↔ ((old.stopped ≡ false) × (last_call < old.sent))) → IsLater max_calls old new → IfDone answer (IsDrawn old.name.client old.counter new.counter) → ReportsWrite items old answer new
+    → ∥ IsLegal new.seen ∥₁ → ∥ HasParts new.seen old.parts ∥₁ → PutsAll items old answer new
+puts_ran items old new answer entered stopped past later stamp written legal of_store =
+    let setup : Setup = record { partitions = old.parts; room = record { slots = 0; items = 0; clients = 0 }; keep = 0 } in
+    record {
+      operated = record { entered = entered; stopped = stopped; past = past; later = later };
+      stamp = stamp;
+      written = written;
+      committed = if_done answer _ _ (λ own is key among.
+          ∥∥₁_elim (∥∥₁_map₂ legal of_store (λ legal has. puts_committed (last_operation new) setup items own _ new.entries legal has is key among)) ∥∥₁_prop (λ done. done))
+          (written setup refl);
+    }

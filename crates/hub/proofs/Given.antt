@@ -151,7 +151,9 @@ served-both name other first since last start entries next same before most one 
 
 -- an operation that has staged more calls, and entered nothing
 abbrev pub IsStagedOn : {G : Type 0} {naming : Ghosts G} → RunningOperation G naming → RunningOperation G naming → Type 0
-IsStagedOn old new = (new.name ≡ old.name) × (new.first ≡ old.first) × (old.dispatcher.sent ≤ new.dispatcher.sent) × (new.entries.items ≡ old.entries.items) × (new.seen ≡ old.seen)
+IsStagedOn old new =
+    (new.name ≡ old.name) × (new.first ≡ old.first) × (old.dispatcher.sent ≤ new.dispatcher.sent) × (new.entries ≡ old.entries) × (new.seen ≡ old.seen)
+    × (new.session ≡ old.session) × (new.place ≡ old.place) × (new.mark ≡ old.mark)
 
 -- so after calls that were staged
 pub served-on : (name other last after-last : SeatSight) (first since sent later after : ℕ) (start entries begun next : List Entry) → other ≡ name → after-last ≡ last → since ≡ first → sent ≤ later → begun ≡ entries

@@ -12,6 +12,7 @@ pub mod Rooms
 mod Behind
 mod Started
 mod Taking
+mod Moved
 pub mod Evidence
 mod Reported
 mod Fresh

@@ -1,15 +1,21 @@
 -- How an operation of a seat goes on, and what stays of it.
-use Rattle.std.specs.Prelude.{◌≡◌, ◌+◌, List}
+use Rattle.std.specs.Prelude.{◌≡◌, ◌≤◌, ◌+◌, ℕ, true, false, List, IsNone, IsSome}
 use mathlib.Core.List.{IsPrefix}
 use Rattle.entry_list.specs.declared.kinds.Entry.{Entry}
 use Rattle.plain_store.specs.declared.answer.Answer.{Answer}
+use Rattle.plain_store.specs.declared.answer.Rows.{Rows}
 use Rattle.plain_store.specs.History.{Intent}
 use Rattle.plain_store.specs.Words.{Setup, Stamp}
 use Rattle.history.specs.declared.rule.Naming.{Ghosts}
 use Rattle.hub.specs.Evidence.{IsUnderWay}
-use Rattle.hub.specs.Replies.{AreServed, Reads}
-use Rattle.hub.specs.Seats.{Follows, told_by}
-use Rattle.hub.specs.Sights.{OperationSight, sight_of}
+use Rattle.hub.specs.Rooms.{HasRoom}
+use Rattle.hub.specs.Replies.{AreServed, IsStampOf, IsToldOf, Reads}
+use Rattle.hub.specs.Seats.{EndsSo, Extends, Follows, at_seat, spare, told_by}
+use Rattle.hub.specs.Sights.{OperationSight, operation_of, sight_of}
+use Rattle.hub.specs.Taken.{replies_in}
+use Rattle.tenant_sessions.specs.Moves.{answer_of, is_last, moved}
+use Rattle.tenant_sessions.specs.Showing.{IfTells}
+use Rattle.tenant_sessions.specs.declared.moves.MoveKind.{MoveKind}
 use Rattle.hub.specs.declared.operation.RunningOperation.{RunningOperation}
 
 -- ---- where it stands, with this place for its answer
@@ -99,3 +105,62 @@ pub record OnlyEnters {G : Type 0} {naming : Ghosts G} (old new : RunningOperati
   pub dispatcher : new.dispatcher ≡ old.dispatcher
   pub fault : new.fault ≡ old.fault
   pub readings : new.readings ≡ old.readings
+
+-- all is the same but what is on its way, and more may have been seen of the history
+pub record SendsOn {G : Type 0} {naming : Ghosts G} (old new : RunningOperation G naming) : Type 0 where
+  pub counted : old.dispatcher.sent ≤ new.dispatcher.sent
+  pub name : new.name ≡ old.name
+  pub session : new.session ≡ old.session
+  pub entries : new.entries ≡ old.entries
+  pub first : new.first ≡ old.first
+  pub place : new.place ≡ old.place
+  pub fault : new.fault ≡ old.fault
+  pub readings : new.readings ≡ old.readings
+  pub mark : new.mark ≡ old.mark
+  pub seen : IsPrefix old.seen new.seen
+
+-- What was staged is sent, or the first fault is that it could not be. There is as much room as before, and all else is as it was.
+pub record SendsStaged {G : Type 0} {naming : Ghosts G} (old new : RunningOperation G naming) : Type 0 where
+  pub room : (calls : ℕ) → HasRoom calls old.dispatcher → HasRoom calls new.dispatcher
+  pub first_fault : IsSome old.fault → new.fault ≡ old.fault
+  pub counted : new.dispatcher.sent ≡ old.dispatcher.sent
+  pub name : new.name ≡ old.name
+  pub session : new.session ≡ old.session
+  pub entries : new.entries ≡ old.entries
+  pub first : new.first ≡ old.first
+  pub place : new.place ≡ old.place
+  pub mark : new.mark ≡ old.mark
+  pub seen : new.seen ≡ old.seen
+
+-- ---- a move that is followed, and replies that are taken
+
+-- What a move of the session leaves, with what was answered before and by then. The last move of an operation enters its answer, once; any
+-- other enters nothing. No reply is entered, and what was entered before stays, served and read as it was.
+pub record FollowsMove {G : Type 0} {naming : Ghosts G} (taken : MoveKind) (old : RunningOperation G naming) (before : Answer)
+    (new : RunningOperation G naming) (after : Answer) : Type 0 where
+  pub answered : is_last (moved taken old.readings.value) ≡ true → IsNone new.place
+  pub told : (rows : Rows) → IsSome old.place → is_last (moved taken old.readings.value) ≡ true
+      → after ≡ at_seat (answer_of (moved taken old.readings.value) rows)
+  pub goes_on : is_last (moved taken old.readings.value) ≡ false → new.entries ≡ old.entries
+  pub replies : replies_in new.entries.items ≡ replies_in old.entries.items
+  pub room : old.entries.room + spare new.place ≤ new.entries.room + spare old.place
+  pub ends : EndsSo old.place before → EndsSo new.place after
+  pub entered : StillFollows old before new after
+  pub read : (sight : OperationSight) (setup : Setup) (asked : Intent) (start : List Entry) → ReadsAt sight setup asked start old before
+      → IfTells asked (moved taken old.readings.value) (IsToldOf sight setup asked start old.entries.items)
+      → ReadsAt sight setup asked start new after
+  pub kept : Extends old.entries.items new.entries.items
+  pub served : (first last : ℕ) (start : List Entry) → AreServed (sight_of old.name old.seen) first last start old.entries.items
+      → AreServed (sight_of old.name new.seen) first last start new.entries.items
+
+-- What an operation under this stamp leaves that takes at most so many replies, with what was answered before and by then.
+pub record TakesReplies {G : Type 0} {naming : Ghosts G} (takes : ℕ) (own : Stamp) (old : RunningOperation G naming) (before : Answer)
+    (new : RunningOperation G naming) (after : Answer) : Type 0 where
+  pub few : replies_in new.entries.items ≤ replies_in old.entries.items + takes
+  pub entered : StillFollows old before new after
+  pub read : (setup : Setup) (asked : Intent) (start : List Entry) → IsStampOf own asked
+      → ReadsAt (operation_of old.name old.mark old.seen) setup asked start old before
+      → ReadsAt (operation_of old.name old.mark new.seen) setup asked start new after
+  pub served : StillServed old new
+  pub counter : old.session.counter ≤ new.session.counter
+  pub goes_on : GoesOnAs old new

@@ -8,8 +8,10 @@ use Rattle.plain_store.specs.declared.refusal.Refusal.TheVariants.{Stopped, Rows
 use Rattle.plain_store.specs.declared.step.Act.{Act}
 use Rattle.plain_store.specs.declared.step.Act.TheVariants.{Put, Get, Find}
 use Rattle.plain_store.specs.Words.{Key, Tag, Setup}
+use Rattle.hub.specs.Atomic.{IsReadAtomic}
+use Rattle.hub.specs.Fresh.{AreCommittedIn, IsFreshAt, IsFreshByEntry}
 use Rattle.hub.specs.Limits.{last_call, max_calls}
-use Rattle.hub.specs.Replies.{AreServed, IfDone, IfListed, IfRead, IsListOf, IsReadOf, IsWriteOf}
+use Rattle.hub.specs.Replies.{AreServed, IfDone, IfListed, IfRead, IsDrawn, IsListOf, IsReadOf, IsWriteOf}
 use Rattle.hub.specs.Seats.{SeatView, Extends, IsEntered, begun_entries, last_operation, sight}
 
 -- The seat is that of the same session, later: its entries stay, it sent at most so many calls more, and each reply that
@@ -45,3 +47,42 @@ abbrev pub ReportsList : Tag → SeatView → Answer → SeatView → Type 0
 ReportsList tag old answer new =
     (setup : Setup) → setup.partitions ≡ old.parts
     → IfListed answer (IsListOf (last_operation new) setup tag (begun_entries old (Find old.name.client tag)) new.entries)
+
+-- ---- what each of the three leaves
+
+-- A write of these items. That it is done, under the next stamp, answers replies that it entered, and each key is committed then.
+pub record PutsAll (items : List Item) (old : SeatView) (answer : Answer) (new : SeatView) : Type 0 where
+  pub operated : IsOperation (Put old.name.client items) old answer new
+  pub stamp : IfDone answer (IsDrawn old.name.client old.counter new.counter)
+  pub written : ReportsWrite items old answer new
+  pub committed : IfDone answer (AreCommittedIn new.seen new.name.tenant items)
+
+-- A read of these keys. What it reports answers replies that it entered; it is read atomic, and fresh by the read's entry in the history.
+pub record GetsAll (keys : List Key) (old : SeatView) (answer : Answer) (new : SeatView) : Type 0 where
+  pub operated : IsOperation (Get old.name.client keys) old answer new
+  pub read : ReportsRead keys old answer new
+  pub atomic : IfRead answer (λ told. ∥ IsReadAtomic new.seen new.name.tenant told ∥₁)
+  pub fresh : IfRead answer (λ told. IsFreshByEntry old.seen new.seen new.name told)
+
+-- So of one that found so many entries in its tenant's clock, and is fresh by what it found.
+pub record GetsAllAt (number : ℕ) (keys : List Key) (old : SeatView) (answer : Answer) (new : SeatView) : Type 0 where
+  pub operated : IsOperation (Get old.name.client keys) old answer new
+  pub read : ReportsRead keys old answer new
+  pub atomic : IfRead answer (λ told. ∥ IsReadAtomic new.seen new.name.tenant told ∥₁)
+  pub fresh : IfRead answer (λ told. IsFreshByEntry old.seen new.seen new.name told)
+  pub looked : IfRead answer (λ told. IsFreshAt number old.seen new.seen new.name told)
+
+-- A search for this tag, as of a read.
+pub record FindsTag (tag : Tag) (old : SeatView) (answer : Answer) (new : SeatView) : Type 0 where
+  pub operated : IsOperation (Find old.name.client tag) old answer new
+  pub listed : ReportsList tag old answer new
+  pub atomic : IfListed answer (λ told. ∥ IsReadAtomic new.seen new.name.tenant told ∥₁)
+  pub fresh : IfListed answer (λ told. IsFreshByEntry old.seen new.seen new.name told)
+
+-- So of one that found so many entries in its tenant's clock.
+pub record FindsTagAt (number : ℕ) (tag : Tag) (old : SeatView) (answer : Answer) (new : SeatView) : Type 0 where
+  pub operated : IsOperation (Find old.name.client tag) old answer new
+  pub listed : ReportsList tag old answer new
+  pub atomic : IfListed answer (λ told. ∥ IsReadAtomic new.seen new.name.tenant told ∥₁)
+  pub fresh : IfListed answer (λ told. IsFreshByEntry old.seen new.seen new.name told)
+  pub looked : IfListed answer (λ told. IsFreshAt number old.seen new.seen new.name told)

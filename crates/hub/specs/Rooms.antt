@@ -1,5 +1,5 @@
 -- What an operation makes room for.
-use Rattle.std.specs.Prelude.{◌≡◌, ℕ, ◌+◌, ◌-◌, ◌≤◌, Bool, true, false, map, vec_len}
+use Rattle.std.specs.Prelude.{◌≡◌, ℕ, ◌+◌, ◌-◌, ◌^◌, ◌<◌, ◌≤◌, Bool, IsTrue, true, false, map, vec_len}
 use Rattle.std.specs.VecDeque.{deque_capacity, deque_len}
 use Rattle.history.specs.declared.rule.Naming.{Ghosts}
 use Rattle.shard.specs.Asked.{asked_by}
@@ -34,6 +34,22 @@ pub record ServesHere {G : Type 0} {naming : Ghosts G} (old new : Dispatcher G n
   pub served : new.served ≡ old.served
   pub calls : (deque_len new.calls ≡ deque_len old.calls) × (new.queued ≡ old.queued)
   pub asked : map asked_by new.calls.items ≡ map asked_by old.calls.items
+
+-- All that is staged goes out, or not all. There is as much room as before, none was sent anew, and where all went out, none was lost or
+-- doubled: what is no longer here is with workers.
+pub record HandsOut {G : Type 0} {naming : Ghosts G} (all : Bool) (old new : Dispatcher G naming) : Type 0 where
+  pub room : (calls : ℕ) → HasRoom calls old → HasRoom calls new
+  pub none : deque_len old.calls ≤ old.served → IsTrue all
+  pub sent : new.sent ≡ old.sent
+  pub kept : IsTrue all → deque_len old.calls + old.queued < 2 ^ 64 → deque_len new.calls + new.queued ≡ deque_len old.calls + old.queued
+  pub served : new.served ≡ deque_len new.calls
+
+-- A reply is taken, or none can come. One call of those that are here, or of those with workers, is answered at most.
+pub record TakesOne {G : Type 0} {naming : Ghosts G} (old new : Dispatcher G naming) : Type 0 where
+  pub queued : (new.queued ≤ old.queued) × (old.queued + old.served ≤ new.queued + new.served + 1)
+  pub here : 0 < old.served → 0 < deque_len old.calls → new.queued ≡ old.queued
+  pub room : (calls : ℕ) → HasRoom calls old → HasRoom calls new
+  pub sent : new.sent ≡ old.sent
 
 -- how many replies are still to come: to calls that are no longer staged, and to those with workers
 abbrev pub awaited : {G : Type 0} {naming : Ghosts G} → Dispatcher G naming → ℕ

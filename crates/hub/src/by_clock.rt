@@ -5,6 +5,7 @@ ghost use Rattle.hub.specs.Clocks.{is_written};
 
 use crate::operation::tell_refusal;
 use crate::seat::Seat;
+use crate::seat_request::SeatRequest;
 use history::Naming;
 use plain_store::{Answer, Refusal};
 use shard::Gate;
@@ -56,7 +57,7 @@ impl<'a, G: Gate + Naming> Seat<'a, G> {
             tell_refusal(refusal, answer);
             return None;
         }
-        self.put_all_into(rt, items, answer);
+        self.run(rt, &SeatRequest::Put(items), usize::MAX, answer);
         if !is_done(answer) {
             return None;
         }

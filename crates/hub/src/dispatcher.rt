@@ -77,7 +77,7 @@ impl<'a, G: Naming> Drop for Dispatcher<'a, G> {
 }
 
 impl<'a, G: Naming> Dispatcher<'a, G> {
-    ghost use Rattle.hub.specs.Rooms.{HasPlaces, HasRoom, SameRoom};
+    ghost use Rattle.hub.specs.Rooms.{HandsOut, HasPlaces, HasRoom, SameRoom, TakesOne};
 
     /// A call dispatcher for a client's seat.
     pub fn new(
@@ -154,19 +154,20 @@ impl<'a, G: Naming> Dispatcher<'a, G> {
         self.served > 0 || self.queued > 0
     }
 
+    /// Whether calls are staged that `dispatch` has not taken yet.
+    pub(crate) fn has_staged(&self) -> bool
+        ensures { IsTrue result ↔ (self.now.served < deque_len self.now.calls) }
+    {
+        self.served < self.calls.len()
+    }
+
     /// A reply that is there, or else waits for one. It fails where none can come.
     fn receive<R: Wait>(&mut self, rt: &R) -> Result<SeatReply<G>, RecvError>
         ensures first { 0 < self.old.served
             → IfFirst self.old.calls.items (λ staged. IsOkAnd result (IsReplyOf staged)) }
         ensures left { 0 < self.old.served → self.new.calls.items ≡ drop 1 self.old.calls.items }
         ensures others { self.old.served ≡ 0 → self.new.calls ≡ self.old.calls }
-        // One call of those that are here, or of those with workers, is answered at most.
-        ensures queued { (self.new.queued ≤ self.old.queued)
-            × (self.old.queued + self.old.served ≤ self.new.queued + self.new.served + 1) }
-        ensures here { 0 < self.old.served → 0 < deque_len self.old.calls
-            → self.new.queued ≡ self.old.queued }
-        ensures sent { self.new.sent ≡ self.old.sent }
-        ensures room { (calls : ℕ) → HasRoom calls self.old → HasRoom calls self.new }
+        ensures takes { TakesOne self.old self.new }
     {
         if self.served > 0
             && let Some(staged) = self.calls.pop_front()
@@ -195,18 +196,12 @@ impl<'a, G: Naming> Dispatcher<'a, G> {
             → staged.call.seat ≡ name.now.seat → before < staged.call.number
             → staged.call.number ≤ before + self.old.sent → staged.call.mark ≡ mark
             → IsSomeAnd result (IsReplyOf staged)) }
-        // One call of those that are here, or of those with workers, is answered at most.
-        ensures queued { (self.new.queued ≤ self.old.queued)
-            × (self.old.queued + self.old.served ≤ self.new.queued + self.new.served + 1) }
-        ensures here { 0 < self.old.served → 0 < deque_len self.old.calls
-            → self.new.queued ≡ self.old.queued }
         ensures own { IfSome result (λ reply. (reply.tenant ≡ name.now.tenant)
             × (reply.seat ≡ name.now.seat)) }
         ensures marked { IfSome result (λ reply. reply.mark ≡ mark) }
         ensures numbered { IfSome result (λ reply. (before < reply.number)
             × (reply.number ≤ before + self.old.sent)) }
-        ensures room { (calls : ℕ) → HasRoom calls self.old → HasRoom calls self.new }
-        ensures sent { self.new.sent ≡ self.old.sent }
+        ensures takes { TakesOne self.old self.new }
     {
         let Ok(reply) = self.receive(rt) else {
             return None;
@@ -292,17 +287,11 @@ impl<'a, G: Naming> Dispatcher<'a, G> {
     /// all go out, no call is lost or doubled: what is no longer here is with workers, and that is all that was not served.
     fn hand_over<R: Wait>(&mut self, rt: &R) -> bool
         requires { unserved self.old.served self.old.calls.items ≤ vec_len self.old.spare }
-        ensures room { (calls : ℕ) → HasRoom calls self.old → HasRoom calls self.new }
-        ensures none { deque_len self.old.calls ≤ self.old.served → IsTrue result }
-        ensures sent { self.new.sent ≡ self.old.sent }
-        ensures kept { IsTrue result → deque_len self.old.calls + self.old.queued < 2 ^ 64
-            → deque_len self.new.calls + self.new.queued
-            ≡ deque_len self.old.calls + self.old.queued }
+        ensures hands { HandsOut result self.old self.new }
         ensures handed { IsTrue result → deque_len self.old.calls + self.old.queued < 2 ^ 64
             → self.new.queued ≡ self.old.queued + unserved self.old.served self.old.calls.items }
         ensures here { unserved self.old.served self.old.calls.items ≡ 0
             → self.new.calls ≡ self.old.calls }
-        ensures served { self.new.served ≡ deque_len self.new.calls }
     {
         let mut all = true;
         for _taken in 0..self.calls.len() {
@@ -333,7 +322,7 @@ impl<'a, G: Naming> Dispatcher<'a, G> {
 }
 
 impl<'a, G: Gate + Naming> Dispatcher<'a, G> {
-    ghost use Rattle.hub.specs.Rooms.{HasPlaces, HasRoom, ServesHere};
+    ghost use Rattle.hub.specs.Rooms.{HandsOut, HasPlaces, HasRoom, ServesHere};
 
     /// Stages the call in this box as the seat's call of this number, for `dispatch`, once it has passed the gate, with the mark of its
     /// operation, and with what the seat has seen of the history: that shows of which put it is, and has the mark.
@@ -420,12 +409,7 @@ impl<'a, G: Gate + Naming> Dispatcher<'a, G> {
     /// overtakes another.
     pub fn dispatch<R: Wait>(&mut self, rt: &R) -> bool
         requires { HasRoom 0 self.old }
-        ensures room { (calls : ℕ) → HasRoom calls self.old → HasRoom calls self.new }
-        ensures none { deque_len self.old.calls ≤ self.old.served → IsTrue result }
-        ensures sent { self.new.sent ≡ self.old.sent }
-        ensures kept { IsTrue result → deque_len self.old.calls + self.old.queued < 2 ^ 64
-            → deque_len self.new.calls + self.new.queued
-            ≡ deque_len self.old.calls + self.old.queued }
+        ensures hands { HandsOut result self.old self.new }
         ensures in_order { 0 < self.old.queued → IsTrue result
             → deque_len self.old.calls + self.old.queued < 2 ^ 64
             → self.new.queued ≡ self.old.queued + unserved self.old.served self.old.calls.items }
@@ -433,7 +417,6 @@ impl<'a, G: Gate + Naming> Dispatcher<'a, G> {
         ensures asked { IsTrue result → deque_len self.old.calls + self.old.queued < 2 ^ 64
             → self.new.queued ≡ self.old.queued
             → map asked_by self.new.calls.items ≡ map asked_by self.old.calls.items }
-        ensures served { self.new.served ≡ deque_len self.new.calls }
     {
         if self.queued > 0 {
             return self.hand_over(rt);

@@ -256,17 +256,16 @@ impl<'a, G: Gate + Naming> RunningOperation<'a, G> {
     ghost use Rattle.entry_list.specs.declared.kinds.Entry.{Entry as Entered};
     ghost use Rattle.shard.specs.declared.jobs.Fault.{Fault as Broken};
     ghost use Rattle.hub.specs.Limits.{max_calls};
-    ghost use Rattle.hub.specs.Operating.{BeginsAs, GoesOnAs, IsSameSeat, IsUnderWayAt, KeepsSession, OnlyEnters, OnlySends, ReadsAt, SeesMore, StagesOne, StillFollows, StillServed};
+    ghost use Rattle.hub.specs.Operating.{BeginsAs, FollowsMove, GoesOnAs, IsSameSeat, IsUnderWayAt, KeepsSession, OnlyEnters, OnlySends, ReadsAt, SeesMore, SendsOn, SendsStaged, StagesOne, StillFollows, StillServed, TakesReplies};
     ghost use Rattle.hub.specs.Rooms.{HasPlaces, HasRoom, awaited};
     ghost use Rattle.tenant_sessions.specs.CallsLeft.{calls_left, calls_waiting, calls_sent};
     ghost use Rattle.plain_store.specs.declared.refusal.Refusal.{Refusal as Why};
     ghost use Rattle.hub.specs.Requests.{act_of, calls_for, test_of};
     ghost use Rattle.plain_store.specs.History.{Intent as Asked};
     ghost use Rattle.plain_store.specs.Words.{Setup};
-    ghost use Rattle.tenant_sessions.specs.Showing.{IfTells};
     ghost use Rattle.hub.specs.Sights.{OperationSight, operation_of, sight_of};
     ghost use mathlib.Core.List.{IsPrefix};
-    ghost use Rattle.hub.specs.Replies.{AreServed, IsDrawn, IsStampOf, IfShows, IsToldFor, IsToldOf, IsUnder};
+    ghost use Rattle.hub.specs.Replies.{AreServed, IsDrawn, IsStampOf, IfShows, IsToldFor, IsUnder};
     ghost use Rattle.hub.specs.Evidence.{HasOwnReadEntry, IsLookedAt};
     ghost use Rattle.hub.specs.Clocks.{IsReported};
     ghost use Rattle.hub.specs.Evidence.{no_mark};
@@ -580,20 +579,10 @@ impl<'a, G: Gate + Naming> RunningOperation<'a, G> {
         requires under_way { IsUnderWayAt
             (operation_of self.old.name self.old.mark self.old.seen) own self.old answer.old }
         ensures outcome { result ≡ outcome_of self.new.fault self.new.place }
-        ensures few { replies_in self.new.entries.items
-            ≤ replies_in self.old.entries.items + takes }
         ensures ends { OnOk result (is_final answer.new ≡ true) }
         ensures awaited { OnOk result (awaited self.new.dispatcher ≡ 0) }
         ensures answered { OnOk result (IsNone self.new.place) }
-        ensures entered { StillFollows self.old answer.old self.new answer.new }
-        ensures read { (setup : Setup) (asked : Asked) (start : List Entered) → IsStampOf own asked
-            → ReadsAt (operation_of self.old.name self.old.mark self.old.seen)
-            setup asked start self.old answer.old
-            → ReadsAt (operation_of self.old.name self.old.mark self.new.seen)
-            setup asked start self.new answer.new }
-        ensures served { StillServed self.old self.new }
-        ensures counter { self.old.session.counter ≤ self.new.session.counter }
-        ensures goes_on { GoesOnAs self.old self.new }
+        ensures runs { TakesReplies takes own self.old answer.old self.new answer.new }
     {
         self.stage_calls(false);
         if !self.dispatcher.dispatch(rt) {
@@ -609,8 +598,8 @@ impl<'a, G: Gate + Naming> RunningOperation<'a, G> {
         Ok(())
     }
 
-    /// Takes replies until each call was answered, or so many were taken, or none can come. One that is still to come then is a
-    /// fault.
+    /// Takes replies until each call was answered, or so many were taken, or none can come, and sends what each has the session ask for.
+    /// One that is still to come then is a fault.
     fn take_replies<R: Wait>(&mut self, rt: &R, own: Stamp, takes: usize, answer: &mut Answer)
         requires room { max_calls + spare self.old.place ≤ self.old.entries.room }
         requires calls { HasRoom (calls_left self.old.session.running) self.old.dispatcher }
@@ -619,18 +608,8 @@ impl<'a, G: Gate + Naming> RunningOperation<'a, G> {
         ensures over { IsSome self.old.fault
             → (self.new.fault ≡ self.old.fault) × (self.new.entries ≡ self.old.entries) }
         ensures awaited { IsNone self.new.fault → awaited self.new.dispatcher ≡ 0 }
-        ensures few { replies_in self.new.entries.items
-            ≤ replies_in self.old.entries.items + takes }
         ensures ends { EndsSo self.old.place answer.old → EndsSo self.new.place answer.new }
-        ensures entered { StillFollows self.old answer.old self.new answer.new }
-        ensures read { (setup : Setup) (asked : Asked) (start : List Entered) → IsStampOf own asked
-            → ReadsAt (operation_of self.old.name self.old.mark self.old.seen)
-            setup asked start self.old answer.old
-            → ReadsAt (operation_of self.old.name self.old.mark self.new.seen)
-            setup asked start self.new answer.new }
-        ensures served { StillServed self.old self.new }
-        ensures counter { self.old.session.counter ≤ self.new.session.counter }
-        ensures goes_on { GoesOnAs self.old self.new }
+        ensures runs { TakesReplies takes own self.old answer.old self.new answer.new }
     {
         for taken in 0..MOST_CALLS {
             if taken >= takes || !self.dispatcher.awaits() {
@@ -644,7 +623,8 @@ impl<'a, G: Gate + Naming> RunningOperation<'a, G> {
                 break;
             };
             self.seen.learn(&reply.front);
-            self.enter_reply(rt, own, &reply, answer);
+            self.enter_reply(own, &reply, answer);
+            self.send_staged(rt);
             let SeatReply { message, .. } = reply;
             let dispatcher = &mut self.dispatcher;
             dispatcher.pool.keep(message);
@@ -654,16 +634,25 @@ impl<'a, G: Gate + Naming> RunningOperation<'a, G> {
         }
     }
 
+    // Sends what is staged. That it could not be is a fault, if there was none before.
+    #[inline(always)]
+    fn send_staged<R: Wait>(&mut self, rt: &R)
+        requires { HasRoom 0 self.old.dispatcher }
+        ensures sends { SendsStaged self.old self.new }
+    {
+        if !self.dispatcher.has_staged() {
+            return;
+        }
+        if self.dispatcher.dispatch(rt) {
+            return;
+        }
+        self.fault = Some(self.fault.unwrap_or(Fault::NoTenant));
+    }
+
     /// Enters a reply to a call of the operation under this stamp, which this thread or a worker served, hands it to the session, and
     /// follows its move. One that was not served is a fault, and so is one to a PREPARE or COMMIT under another stamp than this, and one
     /// of another partition than the call was made for. After a fault nothing is entered any more.
-    fn enter_reply<R: Wait>(
-        &mut self,
-        rt: &R,
-        own: Stamp,
-        reply: &SeatReply<G>,
-        answer: &mut Answer,
-    )
+    fn enter_reply(&mut self, own: Stamp, reply: &SeatReply<G>, answer: &mut Answer)
         requires room { 1 + spare self.old.place ≤ self.old.entries.room }
         requires calls { HasRoom (calls_left self.old.session.running) self.old.dispatcher }
         requires own { (reply.now.tenant ≡ self.old.name.tenant)
@@ -732,12 +721,12 @@ impl<'a, G: Gate + Naming> RunningOperation<'a, G> {
         let mut taken = MoveKind::Ignored;
         self.session
             .move_into(message, &mut *self.readings, &mut taken);
-        self.follow(rt, &taken, message.ticket, answer);
+        self.follow(&taken, message.ticket, answer);
     }
 
-    /// Follows the session's move: sends the calls that it asks for, or enters the answer that it ends the operation with and
-    /// sends the calls of that end. Their replies are taken like any others.
-    fn follow<R: Wait>(&mut self, rt: &R, taken: &MoveKind, ticket: u64, answer: &mut Answer)
+    /// Follows the session's move: stages the calls that it asks for, or enters the answer that it ends the operation with and
+    /// stages the calls of that end. Their replies are taken like any others.
+    fn follow(&mut self, taken: &MoveKind, ticket: u64, answer: &mut Answer)
         requires room { spare self.old.place ≤ self.old.entries.room }
         requires calls { HasRoom
             (calls_sent (moved taken.now self.old.readings.value)
@@ -748,51 +737,28 @@ impl<'a, G: Gate + Naming> RunningOperation<'a, G> {
         requires decided { (stamp : ℕ) → taken.now ≡ Decides stamp
             → ∥ MayBeDecided self.old.seen self.old.name.tenant stamp ∥₁ }
         ensures calls { HasRoom (calls_left self.old.session.running) self.new.dispatcher }
-        ensures answered { is_last (moved taken.now self.old.readings.value) ≡ true
-            → IsNone self.new.place }
-        ensures told { (rows : Told) → IsSome self.old.place
-            → is_last (moved taken.now self.old.readings.value) ≡ true
-            → answer.new ≡ at_seat (answer_of (moved taken.now self.old.readings.value) rows) }
-        ensures goes_on { is_last (moved taken.now self.old.readings.value) ≡ false
-            → self.new.entries ≡ self.old.entries }
-        ensures replies { replies_in self.new.entries.items ≡ replies_in self.old.entries.items }
+        ensures moves { FollowsMove taken.now self.old answer.old self.new answer.new }
         ensures counted { self.old.dispatcher.sent ≤ self.new.dispatcher.sent }
         ensures sent { IsNone self.new.fault
             → self.new.dispatcher.sent
             ≡ self.old.dispatcher.sent
             + calls_sent (moved taken.now self.old.readings.value)
             (calls_waiting self.old.session.running) }
-        ensures room { self.old.entries.room + spare self.new.place
-            ≤ self.new.entries.room + spare self.old.place }
-        ensures ends { EndsSo self.old.place answer.old → EndsSo self.new.place answer.new }
-        ensures entered { StillFollows self.old answer.old self.new answer.new }
-        ensures read { (sight : OperationSight) (setup : Setup) (asked : Asked)
-            (start : List Entered)
-            → ReadsAt sight setup asked start self.old answer.old
-            → IfTells asked (moved taken.now self.old.readings.value)
-            (IsToldOf sight setup asked start self.old.entries.items)
-            → ReadsAt sight setup asked start self.new answer.new }
-        ensures kept { Extends self.old.entries.items self.new.entries.items }
-        ensures served { (first last : ℕ) (start : List Entered)
-            → AreServed
-            (sight_of self.old.name self.old.seen) first last start self.old.entries.items
-            → AreServed
-            (sight_of self.old.name self.new.seen) first last start self.new.entries.items }
         ensures session { self.new.session ≡ self.old.session }
         ensures same { GoesOnAs self.old self.new }
     {
         if taken.is_last() {
             self.enter_end(taken, answer);
-            if !self.send_ending(rt, taken, ticket) {
+            if !self.stage_discards(taken, ticket) {
                 self.fault = Some(Fault::NoTenant);
             }
-        } else if taken.sends() && !self.send_asked(rt, taken) {
+        } else if taken.sends() && !self.stage_asked(taken) {
             self.fault = Some(Fault::NoTenant);
         }
     }
 
-    /// Sends the calls that a move asks for, and says whether all went out. Where a put is decided by it, that is entered first.
-    fn send_asked<R: Wait>(&mut self, rt: &R, taken: &MoveKind) -> bool
+    /// Stages the calls that a move asks for, and says whether it did. Where a put is decided by it, that is entered first.
+    fn stage_asked(&mut self, taken: &MoveKind) -> bool
         requires room { HasRoom (calls_waiting self.old.session.running) self.old.dispatcher }
         requires sends { sends_calls (moved taken.now self.old.readings.value) ≡ true }
         requires asks { SendsSo (moved taken.now self.old.readings.value)
@@ -802,22 +768,17 @@ impl<'a, G: Gate + Naming> RunningOperation<'a, G> {
         ensures room { (calls : ℕ)
             → HasRoom (calls_waiting self.old.session.running + calls) self.old.dispatcher
             → HasRoom calls self.new.dispatcher }
-        ensures counted { self.old.dispatcher.sent ≤ self.new.dispatcher.sent }
         ensures sent { IsTrue result
             → self.new.dispatcher.sent
             ≡ self.old.dispatcher.sent + calls_waiting self.old.session.running }
-        ensures seen { IsPrefix self.old.seen self.new.seen }
-        ensures rest { (self.new.name ≡ self.old.name) × (self.new.session ≡ self.old.session)
-            × (self.new.entries ≡ self.old.entries) × (self.new.first ≡ self.old.first)
-            × (self.new.place ≡ self.old.place) × (self.new.fault ≡ self.old.fault)
-            × (self.new.readings ≡ self.old.readings) × (self.new.mark ≡ self.old.mark) }
+        ensures rest { SendsOn self.old self.new }
     {
         let name = &self.name;
         if !enter_decided(&mut self.client, &mut self.seen, name, taken) {
             return false;
         }
         self.stage_calls(sends_commits(taken));
-        self.dispatcher.dispatch(rt)
+        true
     }
 
     /// Enters the answer that a move ends the operation with, once.
@@ -825,26 +786,7 @@ impl<'a, G: Gate + Naming> RunningOperation<'a, G> {
         requires last { is_last (moved taken.now self.old.readings.value) ≡ true }
         requires room { spare self.old.place ≤ self.old.entries.room }
         ensures only { OnlyEnters self.old self.new }
-        ensures answered { IsNone self.new.place }
-        ensures told { (rows : Told) → IsSome self.old.place
-            → answer.new ≡ at_seat (answer_of (moved taken.now self.old.readings.value) rows) }
-        ensures replies { replies_in self.new.entries.items ≡ replies_in self.old.entries.items }
-        ensures room { self.old.entries.room + spare self.new.place
-            ≤ self.new.entries.room + spare self.old.place }
-        ensures ends { EndsSo self.old.place answer.old → EndsSo self.new.place answer.new }
-        ensures entered { StillFollows self.old answer.old self.new answer.new }
-        ensures read { (sight : OperationSight) (setup : Setup) (asked : Asked)
-            (start : List Entered)
-            → ReadsAt sight setup asked start self.old answer.old
-            → IfTells asked (moved taken.now self.old.readings.value)
-            (IsToldOf sight setup asked start self.old.entries.items)
-            → ReadsAt sight setup asked start self.new answer.new }
-        ensures kept { Extends self.old.entries.items self.new.entries.items }
-        ensures served { (first last : ℕ) (start : List Entered)
-            → AreServed
-            (sight_of self.old.name self.old.seen) first last start self.old.entries.items
-            → AreServed
-            (sight_of self.old.name self.new.seen) first last start self.new.entries.items }
+        ensures moves { FollowsMove taken.now self.old answer.old self.new answer.new }
     {
         if !self.place.is_some() {
             return;
@@ -936,23 +878,18 @@ impl<'a, G: Gate + Naming> RunningOperation<'a, G> {
         self.stage(message);
     }
 
-    /// Sends the calls that a move sends at its operation's end, if there are any, and says whether all went out. They are DISCARDs
-    /// of a put that was refused, which is entered first.
-    fn send_ending<R: Wait>(&mut self, rt: &R, taken: &MoveKind, ticket: u64) -> bool
+    /// Stages the calls that a move sends at its operation's end, if there are any, and says whether it did. They are DISCARDs of a put
+    /// that was refused, which is entered first.
+    fn stage_discards(&mut self, taken: &MoveKind, ticket: u64) -> bool
         requires { HasRoom
             (length (ending (moved taken.now self.old.readings.value))) self.old.dispatcher }
         ensures room { (calls : ℕ)
             → HasRoom (length (ending (moved taken.now self.old.readings.value))
             + calls) self.old.dispatcher → HasRoom calls self.new.dispatcher }
-        ensures counted { self.old.dispatcher.sent ≤ self.new.dispatcher.sent }
         ensures sent { IsTrue result → (told : List Shown)
             → self.new.dispatcher.sent
             ≡ self.old.dispatcher.sent + length (ending (moved taken.now told)) }
-        ensures seen { IsPrefix self.old.seen self.new.seen }
-        ensures rest { (self.new.name ≡ self.old.name) × (self.new.session ≡ self.old.session)
-            × (self.new.entries ≡ self.old.entries) × (self.new.first ≡ self.old.first)
-            × (self.new.place ≡ self.old.place) × (self.new.fault ≡ self.old.fault)
-            × (self.new.readings ≡ self.old.readings) × (self.new.mark ≡ self.old.mark) }
+        ensures rest { SendsOn self.old self.new }
     {
         if !taken.has_ending(0) {
             return true;
@@ -962,7 +899,7 @@ impl<'a, G: Gate + Naming> RunningOperation<'a, G> {
             return false;
         }
         self.stage_ending(taken, ticket);
-        self.dispatcher.dispatch(rt)
+        true
     }
 
     /// Stages the calls that a move sends at its operation's end.

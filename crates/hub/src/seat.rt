@@ -1,17 +1,15 @@
 //! A client's session.
 ghost use Rattle.std.specs.Prelude.{◌≡◌, ◌<◌, ◌≤◌, ◌+◌, ◌↔◌, ◌⊎◌, [], true, false, Some, OnOk, IfErr, IfSome, IfNone};
-ghost use Rattle.plain_store.specs.declared.step.Act.TheVariants.{Put, Get as GetAll, Find};
+ghost use Rattle.plain_store.specs.declared.step.Act.TheVariants.{Put};
 ghost use mathlib.Core.List.{IsPrefix};
 ghost use Rattle.history.specs.Legal.{HasParts, IsLegal};
 ghost use Rattle.history.specs.Rules.{IsClockOf};
 ghost use Rattle.hub.specs.Rooms.{awaited};
 ghost use Rattle.hub.specs.Limits.{last_call, max_calls};
-ghost use Rattle.hub.specs.Operations.{IsLater, IsOperation, ReportsList, ReportsRead, ReportsWrite};
-ghost use Rattle.hub.specs.Atomic.{IsReadAtomic};
+ghost use Rattle.hub.specs.Operations.{FindsTag, FindsTagAt, GetsAll, GetsAllAt, IsLater, PutsAll};
 ghost use Rattle.hub.specs.Clocks.{HasSeenMore};
-ghost use Rattle.hub.specs.Fresh.{AreCommittedIn, IsFreshAt, IsFreshByEntry};
 ghost use Rattle.hub.specs.Evidence.{HasEntryAt, IsOfClient, no_mark};
-ghost use Rattle.hub.specs.Replies.{IfDone, IfListed, IfRead, IfShows, IsDrawn, IsToldFor};
+ghost use Rattle.hub.specs.Replies.{IfShows, IsDrawn, IsToldFor};
 ghost use Rattle.hub.specs.Registered.{HasLeft};
 ghost use Rattle.hub.specs.Requests.{act_of};
 ghost use Rattle.hub.specs.Seats.{SeatView, Extends, IsEntered, IsNamed, begun_entries, is_unbegun, last_operation, recorded};
@@ -179,13 +177,7 @@ impl<'a, G: Gate + Naming> Seat<'a, G> {
     /// call that was answered by it, but for its stamp: each item's PREPARE was accepted, and then the COMMIT done at each home.
     /// So each key is committed in the store's one history, and no read misses it that begins when its seat has seen as much.
     pub fn put_all<R: Wait>(&mut self, rt: &R, items: &[Item]) -> Answer
-        ensures operated { IsOperation
-            (Put self.old.name.client items.now) self.old result self.new }
-        ensures stamp { IfDone result
-            (IsDrawn self.old.name.client self.old.counter self.new.counter) }
-        ensures written { ReportsWrite items.now self.old result self.new }
-        ensures committed { IfDone result
-            (AreCommittedIn self.new.seen self.new.name.tenant items.now) }
+        ensures { PutsAll items.now self.old result self.new }
     {
         let mut answer = Answer::Ignored;
         self.put_all_into(rt, items, &mut answer);
@@ -194,13 +186,7 @@ impl<'a, G: Gate + Naming> Seat<'a, G> {
 
     /// As `put_all`, with the answer written into the caller's buffer.
     pub fn put_all_into<R: Wait>(&mut self, rt: &R, items: &[Item], answer: &mut Answer)
-        ensures operated { IsOperation
-            (Put self.old.name.client items.now) self.old answer.new self.new }
-        ensures stamp { IfDone answer.new
-            (IsDrawn self.old.name.client self.old.counter self.new.counter) }
-        ensures written { ReportsWrite items.now self.old answer.new self.new }
-        ensures committed { IfDone answer.new
-            (AreCommittedIn self.new.seen self.new.name.tenant items.now) }
+        ensures { PutsAll items.now self.old answer.new self.new }
     {
         self.run(rt, &SeatRequest::Put(items), usize::MAX, answer);
     }
@@ -213,13 +199,7 @@ impl<'a, G: Gate + Naming> Seat<'a, G> {
     /// wrote, and none of them is shown in part. And it is fresh: no key is reported below a version that was committed before the
     /// read's entry in that history, whichever client had been told of it. All that this seat had seen stands before that entry.
     pub fn get_all<R: Wait>(&mut self, rt: &R, keys: &[Key]) -> Answer
-        ensures operated { IsOperation
-            (GetAll self.old.name.client keys.now) self.old result self.new }
-        ensures read { ReportsRead keys.now self.old result self.new }
-        ensures atomic { IfRead result
-            (λ told. ∥ IsReadAtomic self.new.seen self.new.name.tenant told ∥₁) }
-        ensures fresh { IfRead result
-            (λ told. IsFreshByEntry self.old.seen self.new.seen self.new.name told) }
+        ensures { GetsAll keys.now self.old result self.new }
     {
         let mut answer = Answer::Ignored;
         self.get_all_into(rt, keys, &mut answer);
@@ -232,15 +212,7 @@ impl<'a, G: Gate + Naming> Seat<'a, G> {
     /// this number or a lower one is not missed: what is read of its keys is of that put, or of a greater stamp. The number says nothing
     /// where nothing is read.
     pub fn get_all_into<R: Wait>(&mut self, rt: &R, keys: &[Key], answer: &mut Answer) -> u64
-        ensures operated { IsOperation
-            (GetAll self.old.name.client keys.now) self.old answer.new self.new }
-        ensures read { ReportsRead keys.now self.old answer.new self.new }
-        ensures atomic { IfRead answer.new
-            (λ told. ∥ IsReadAtomic self.new.seen self.new.name.tenant told ∥₁) }
-        ensures fresh { IfRead answer.new
-            (λ told. IsFreshByEntry self.old.seen self.new.seen self.new.name told) }
-        ensures looked { IfRead answer.new
-            (λ told. IsFreshAt result self.old.seen self.new.seen self.new.name told) }
+        ensures { GetsAllAt result keys.now self.old answer.new self.new }
     {
         self.run(rt, &SeatRequest::Get(keys), usize::MAX, answer)
     }
@@ -251,12 +223,7 @@ impl<'a, G: Gate + Naming> Seat<'a, G> {
     /// call that was answered by it: each version that it lists was in one of them, and it shows no write in part among those
     /// whose write sets they told. So it is read atomic and fresh, as `get_all` says.
     pub fn find<R: Wait>(&mut self, rt: &R, tag: Tag) -> Answer
-        ensures operated { IsOperation (Find self.old.name.client tag) self.old result self.new }
-        ensures listed { ReportsList tag self.old result self.new }
-        ensures atomic { IfListed result
-            (λ told. ∥ IsReadAtomic self.new.seen self.new.name.tenant told ∥₁) }
-        ensures fresh { IfListed result
-            (λ told. IsFreshByEntry self.old.seen self.new.seen self.new.name told) }
+        ensures { FindsTag tag self.old result self.new }
     {
         let mut answer = Answer::Ignored;
         self.find_into(rt, tag, &mut answer);
@@ -265,15 +232,7 @@ impl<'a, G: Gate + Naming> Seat<'a, G> {
 
     /// As `find`, with the answer written into the caller's buffer, and the number that `get_all_into` returns.
     pub fn find_into<R: Wait>(&mut self, rt: &R, tag: Tag, answer: &mut Answer) -> u64
-        ensures operated { IsOperation
-            (Find self.old.name.client tag) self.old answer.new self.new }
-        ensures listed { ReportsList tag self.old answer.new self.new }
-        ensures atomic { IfListed answer.new
-            (λ told. ∥ IsReadAtomic self.new.seen self.new.name.tenant told ∥₁) }
-        ensures fresh { IfListed answer.new
-            (λ told. IsFreshByEntry self.old.seen self.new.seen self.new.name told) }
-        ensures looked { IfListed answer.new
-            (λ told. IsFreshAt result self.old.seen self.new.seen self.new.name told) }
+        ensures { FindsTagAt result tag self.old answer.new self.new }
     {
         self.run(rt, &SeatRequest::Find(tag), usize::MAX, answer)
     }
@@ -332,7 +291,7 @@ impl<'a, G: Gate + Naming> Seat<'a, G> {
 
     /// Runs an operation, takes at most so many replies, and writes its answer into the caller's buffer. It answers how many entries its
     /// tenant's clock had as a read or a search began.
-    fn run<R: Wait>(
+    pub(crate) fn run<R: Wait>(
         &mut self,
         rt: &R,
         request: &SeatRequest<'_>,

@@ -24,7 +24,7 @@ use Rattle.hub.proofs.operation.RunningOperation.enter_reply.Goals as goal
 
 pub returns-clause-entered : goal.returns-clause-entered
 returns-clause-entered g c start follows =
-    c.follow.ensures.entered start
+    c.follow.ensures.moves.entered start
     (follows-told start _ _ c.push_took.new.self.entries.items (told-same c.args.self.now.place c.push_took.new.self.place c.args.answer.now c.push_took.ensures.place)
     (follows-same start _ _ c.push_took.new.self.entries.items c.push_took.ensures.took (follows-took start _ c.args.self.now.entries.items _ refl refl follows)))
 
@@ -41,7 +41,7 @@ returns-clause-read g c name setup asked start stamped its own marked pre reads 
     (subst (λ (from : Message). IsTakenFor from m) c.deref-message.ensures same) in
     let served = reads-served name setup asked start c.args.self.now.entries.items c.push_took.new.self.entries.items c.args.self.now.session c.push_took.new.self.session c.move_into.new.self c.args.self.now.place c.push_took.new.self.place c.args.answer.now _ _ _ _ _ _
     c.push_took.ensures.took c.push_took.ensures.only.session c.push_took.ensures.place enters c.move_into.ensures.shown reads in
-    c.follow.ensures.read name setup asked start served.0 served.1
+    c.follow.ensures.moves.read name setup asked start served.0 served.1
 
 -- what was under way is, with what is seen now
 pub returns-clause-under_way : goal.returns-clause-under_way
@@ -86,7 +86,7 @@ returns-clause-served g c first last start its own pre behind up_to are =
     let has : reply.message.value.reply ≡ Some c.in-Some.told = cc in
     served-same (sight_of c.push_took.new.self.name c.follow.new.self.seen) (sight_of c.args.self.now.name c.follow.new.self.seen) first first last last start c.follow.new.self.entries.items c.follow.new.self.entries.items
     (sights _ _ _ _ (sym c.push_took.ensures.only.name) refl) refl (omega arith) refl
-    (c.follow.ensures.served first last start
+    (c.follow.ensures.moves.served first last start
     (served-took between before reply.front reply.mark first last start c.args.self.now.entries.items c.push_took.new.self.entries.items reply.partition reply.tenant reply.seat reply.number c.in-Ok.place reply.message.value reply.outcome _
     pre c.push_took.ensures.took (sights _ _ _ _ c.push_took.ensures.only.name c.push_took.ensures.only.seen) is has its own behind up_to reply.came are))
 
@@ -104,7 +104,7 @@ follow-requires-clause-calls g c =
 
 pub returns-clause-replies : goal.returns-clause-replies
 returns-clause-replies g c =
-    omega (arith, c.follow.ensures.replies, replies-more c.args.self.now.entries.items c.push_took.new.self.entries.items _ c.push_took.ensures.took)
+    omega (arith, c.follow.ensures.moves.replies, replies-more c.args.self.now.entries.items c.push_took.new.self.entries.items _ c.push_took.ensures.took)
 
 -- the calls that the move asks for are sent after those before
 pub returns-clause-sent : goal.returns-clause-sent

@@ -1,4 +1,4 @@
-use Rattle.std.proofs.Common.{ap, refl, sym, subst, arith}
+use Rattle.std.proofs.Common.{ap, sym, subst, arith}
 use Rattle.std.proofs.Math.Logic.{∥∥₁_map}
 use Rattle.tenant_sessions.specs.CallsLeft.{calls_left}
 use Rattle.tenant_sessions.specs.declared.session.ClientSession.{ClientSession}
@@ -9,7 +9,8 @@ use Rattle.hub.specs.Seats.{told_by}
 use Rattle.hub.specs.Sights.{operation_of}
 use Rattle.hub.proofs.Evidence.{under_way_same}
 use Rattle.hub.proofs.Rooms.{room_for_fewer}
-use Rattle.hub.proofs.Given.{IsStagedOn, operations, served-on, sights}
+use Rattle.hub.proofs.Given.{IsStagedOn, operations}
+use Rattle.hub.proofs.Moved.{runs_staged}
 use Rattle.hub.proofs.operation.RunningOperation.exchange.Goals as goal
 use Rattle.hub.proofs.operation.RunningOperation.exchange.Goals.{then-not-dispatch, else-not-dispatch}
 
@@ -24,33 +25,33 @@ pub take_replies-requires-clause-calls : goal.take_replies-requires-clause-calls
 take_replies-requires-clause-calls g c =
     let Q : ClientSession → Type 0 = λ s. HasRoom (calls_left s.running) c.dispatch.new.self in
     let P : RunningOperation g.row.G.Denot g.G.Naming → Type 0 = λ o. HasRoom (calls_left o.session.running) o.dispatcher in
-    let left = subst Q (sym c.stage_calls.ensures.rest.1) (c.dispatch.ensures.room _ (c.stage_calls.ensures.room _ c.requires.calls)) in
+    let left = subst Q (sym c.stage_calls.ensures.rest.1) (c.dispatch.ensures.hands.room _ (c.stage_calls.ensures.room _ c.requires.calls)) in
     elim c.if-not-dispatch.branch [ then-not-dispatch w ↦ subst P (sym w.self-is) left | else-not-dispatch w ↦ subst P (sym w.self-is) left ]
 
 -- what was staged is as it was, but for the calls
-pub returns-in-Some-clause-served : goal.returns-in-Some-clause-served
-returns-in-Some-clause-served g c start are =
+pub returns-in-Some-clause-runs : goal.returns-in-Some-clause-runs
+returns-in-Some-clause-runs g c =
     let P : RunningOperation g.row.G.Denot g.G.Naming → Type 0 = λ o. IsStagedOn c.args.self.now o in
     let rest = c.stage_calls.ensures.rest in
-    let all : P (record c.stage_calls.new.self { dispatcher = c.dispatch.new.self }) = (rest.0, rest.3, omega (arith, c.dispatch.ensures.sent, c.stage_calls.ensures.all), ap (λ e. e.items) rest.2, rest.7) in
+    let all : P (record c.stage_calls.new.self { dispatcher = c.dispatch.new.self }) = (rest.0, rest.3, omega (arith, c.dispatch.ensures.hands.sent, c.stage_calls.ensures.all), rest.2, rest.7, rest.1, rest.4, rest.8) in
     let begun : P c.if-not-dispatch.self = elim c.if-not-dispatch.branch [ then-not-dispatch w ↦ subst P (sym w.self-is) all | else-not-dispatch w ↦ subst P (sym w.self-is) all ] in
-    served-on _ _ _ _ _ _ _ _ _ start _ _ _ (sights _ _ _ _ begun.0 begun.4) (sights _ _ _ _ begun.0 refl) begun.1 begun.2 begun.3 c.take_replies.ensures.served are
+    runs_staged _ _ _ _ _ _ _ begun c.take_replies.ensures.runs
 
-pub returns-then-is_some-clause-served : goal.returns-then-is_some-clause-served
-returns-then-is_some-clause-served g c start are =
+pub returns-then-is_some-clause-runs : goal.returns-then-is_some-clause-runs
+returns-then-is_some-clause-runs g c =
     let P : RunningOperation g.row.G.Denot g.G.Naming → Type 0 = λ o. IsStagedOn c.args.self.now o in
     let rest = c.stage_calls.ensures.rest in
-    let all : P (record c.stage_calls.new.self { dispatcher = c.dispatch.new.self }) = (rest.0, rest.3, omega (arith, c.dispatch.ensures.sent, c.stage_calls.ensures.all), ap (λ e. e.items) rest.2, rest.7) in
+    let all : P (record c.stage_calls.new.self { dispatcher = c.dispatch.new.self }) = (rest.0, rest.3, omega (arith, c.dispatch.ensures.hands.sent, c.stage_calls.ensures.all), rest.2, rest.7, rest.1, rest.4, rest.8) in
     let begun : P c.if-not-dispatch.self = elim c.if-not-dispatch.branch [ then-not-dispatch w ↦ subst P (sym w.self-is) all | else-not-dispatch w ↦ subst P (sym w.self-is) all ] in
-    served-on _ _ _ _ _ _ _ _ _ start _ _ _ (sights _ _ _ _ begun.0 begun.4) (sights _ _ _ _ begun.0 refl) begun.1 begun.2 begun.3 c.take_replies.ensures.served are
+    runs_staged _ _ _ _ _ _ _ begun c.take_replies.ensures.runs
 
-pub returns-clause-served : goal.returns-clause-served
-returns-clause-served g c start are =
+pub returns-clause-runs : goal.returns-clause-runs
+returns-clause-runs g c =
     let P : RunningOperation g.row.G.Denot g.G.Naming → Type 0 = λ o. IsStagedOn c.args.self.now o in
     let rest = c.stage_calls.ensures.rest in
-    let all : P (record c.stage_calls.new.self { dispatcher = c.dispatch.new.self }) = (rest.0, rest.3, omega (arith, c.dispatch.ensures.sent, c.stage_calls.ensures.all), ap (λ e. e.items) rest.2, rest.7) in
+    let all : P (record c.stage_calls.new.self { dispatcher = c.dispatch.new.self }) = (rest.0, rest.3, omega (arith, c.dispatch.ensures.hands.sent, c.stage_calls.ensures.all), rest.2, rest.7, rest.1, rest.4, rest.8) in
     let begun : P c.if-not-dispatch.self = elim c.if-not-dispatch.branch [ then-not-dispatch w ↦ subst P (sym w.self-is) all | else-not-dispatch w ↦ subst P (sym w.self-is) all ] in
-    served-on _ _ _ _ _ _ _ _ _ start _ _ _ (sights _ _ _ _ begun.0 begun.4) (sights _ _ _ _ begun.0 refl) begun.1 begun.2 begun.3 c.take_replies.ensures.served are
+    runs_staged _ _ _ _ _ _ _ begun c.take_replies.ensures.runs
 
 -- and what was under way is
 pub take_replies-requires-clause-under_way : goal.take_replies-requires-clause-under_way

@@ -25,13 +25,13 @@ pub returns-in-Some-clause-answered : goal.returns-in-Some-clause-answered
 returns-in-Some-clause-answered g c =
     let old = c.args.self.now.entries.items in
     let new = c.exchange.new.self.entries.items in
-    let begun = c.exchange.ensures.entered old (follows-told old _ _ old (sym (told-none c.args.self.now.place c.args.answer.now c.requires.place)) (follows-start old)) in
+    let begun = c.exchange.ensures.runs.entered old (follows-told old _ _ old (sym (told-none c.args.self.now.place c.args.answer.now c.requires.place)) (follows-start old)) in
     on_ok _ _ (λ none. follows-told old _ _ new (told-some c.exchange.new.self.place c.exchange.new.answer none) begun) c.exchange.result c.exchange.ensures.answered
 
 pub returns-in-Some-clause-entered : goal.returns-in-Some-clause-entered
 returns-in-Some-clause-entered g c =
     let old = c.args.self.now.entries.items in
-    (_, c.exchange.ensures.entered old (follows-told old _ _ old (sym (told-none c.args.self.now.place c.args.answer.now c.requires.place)) (follows-start old)))
+    (_, c.exchange.ensures.runs.entered old (follows-told old _ _ old (sym (told-none c.args.self.now.place c.args.answer.now c.requires.place)) (follows-start old)))
 
 pub returns-in-Err-clause-answered : goal.returns-in-Err-clause-answered
 returns-in-Err-clause-answered g c = c.enter_answer.ensures.entered c.args.self.now.entries.items (follows-start c.args.self.now.entries.items)
@@ -63,12 +63,12 @@ returns-in-Some-clause-read g c =
     let now = c.exchange.new.self in
     let P : Mark → Type 0 = λ m. IsToldFor (operation_of name m now.seen) c.args.parts (IsDrawn client before after) c.args.request.now c.exchange.new.answer c.args.self.now.entries.items now.entries.items in
     on_ok _ _
-    (λ none. subst P (sym c.exchange.ensures.goes_on.mark)
+    (λ none. subst P (sym c.exchange.ensures.runs.goes_on.mark)
     (reads-begun (operation_of name c.in-Some.mark c.enter_begun.new.seen) (operation_of name c.in-Some.mark now.seen) c.args.parts own (IsDrawn client before after) c.args.request.now asked c.args.self.now.session started c.exchange.new.self.session c.args.self.now.entries.items c.exchange.new.self.entries.items c.args.self.now.place c.exchange.new.self.place c.args.answer.now c.exchange.new.answer
     (λ items is.
     let counted = ap drawn_counter is in
-    (refl, omega (arith, counted, begun.counter, c.exchange.ensures.counter)))
-    refl c.in-Ok.ensures.passed (λ setup same may. begun.shown setup same) (λ setup start reads. c.exchange.ensures.read setup asked start stamped reads) c.requires.place none))
+    (refl, omega (arith, counted, begun.counter, c.exchange.ensures.runs.counter)))
+    refl c.in-Ok.ensures.passed (λ setup same may. begun.shown setup same) (λ setup start reads. c.exchange.ensures.runs.read setup asked start stamped reads) c.requires.place none))
     c.exchange.result c.exchange.ensures.answered
 
 -- the calls that it sends first are of the put that was entered, if it is one
@@ -109,14 +109,14 @@ returns-in-Err-clause-read g c = reads-refused (operation_of c.args.self.now.nam
 pub returns-in-Some-clause-served : goal.returns-in-Some-clause-served
 returns-in-Some-clause-served g c start are =
     let before = c.args.self.now in
-    c.exchange.ensures.served start
+    c.exchange.ensures.runs.served start
     (served-later (sight_of before.name before.seen) (sight_of before.name c.enter_begun.new.seen) before.first _ start before.entries.items (record { tenant = refl; seat = refl; seen = c.enter_begun.ensures.later }) are)
 
 pub returns-in-Some-clause-goes_on : goal.returns-in-Some-clause-goes_on
 returns-in-Some-clause-goes_on g c = record {
-  name = c.exchange.ensures.goes_on.name;
-  first = c.exchange.ensures.goes_on.first;
-  seen = prefix_join _ _ _ c.enter_begun.ensures.later c.exchange.ensures.goes_on.seen;
+  name = c.exchange.ensures.runs.goes_on.name;
+  first = c.exchange.ensures.runs.goes_on.first;
+  seen = prefix_join _ _ _ c.enter_begun.ensures.later c.exchange.ensures.runs.goes_on.seen;
 }
 
 -- where the put is not entered, nothing was sent
@@ -161,7 +161,7 @@ returns-in-Some-clause-since g c =
     on_ok _ _
     (λ told.
     shows_since before.name (operation_of before.name now.mark now.seen) c.args.parts (IsDrawn before.name.client before.session.counter now.session.counter) c.args.request.now c.exchange.new.answer before.entries.items now.entries.items
-    c.in-Some.mark now.mark before.seen c.enter_begun.new.seen now.seen c.in-Some.ensures.since c.exchange.ensures.goes_on.seen c.exchange.ensures.goes_on.mark told)
+    c.in-Some.mark now.mark before.seen c.enter_begun.new.seen now.seen c.in-Some.ensures.since c.exchange.ensures.runs.goes_on.seen c.exchange.ensures.runs.goes_on.mark told)
     c.exchange.result (returns-in-Some-clause-read g c)
 
 pub returns-in-Err-clause-since : goal.returns-in-Err-clause-since

@@ -9,30 +9,23 @@ use Rattle.hub.proofs.Replies.{both_listed, if_listed}
 use Rattle.hub.proofs.Reported.{fresh_at, fresh_before}
 use Rattle.hub.proofs.seat.Seat.find_into.Goals as goal
 
-pub returns-clause-operated : goal.returns-clause-operated
-returns-clause-operated g c = record { entered = c.run.ensures.entered; stopped = c.run.ensures.stopped; past = c.run.ensures.past; later = c.run.ensures.later }
-
--- by the puts of the history
-pub returns-clause-atomic : goal.returns-clause-atomic
-returns-clause-atomic g c =
+-- by the puts of the history; what had been committed before its entry is not missed
+pub returns : goal.returns
+returns g c =
+    let ran = c.run.ensures in
+    let seen = c.args.self.now.seen in
     let now = c.run.new.self in
     let setup : Setup = record { partitions = c.args.self.now.parts; room = record { slots = 0; items = 0; clients = 0 }; keep = 0 } in
-    if_listed c.run.new.answer _ _ (λ told is. ∥∥₁_map c.run.ensures.legal (λ legal. lists_atomic (last_operation now) setup c.args.tag _ now.entries told legal is)) (c.run.ensures.told setup refl)
-
--- what had been committed before its entry is not missed
-pub returns-clause-looked : goal.returns-clause-looked
-returns-clause-looked g c =
-    let before = c.args.self.now in
-    let now = c.run.new.self in
-    let setup : Setup = record { partitions = before.parts; room = record { slots = 0; items = 0; clients = 0 }; keep = 0 } in
-    both_listed c.run.new.answer _ _ _
+    let looked = both_listed c.run.new.answer _ _ _
     (λ told since is.
-    fresh_at c.run.result before.seen now.seen now.name now.mark told since (λ reading stamp has committed.
-    ∥∥₁_elim c.run.ensures.legal le_prop (λ legal.
+    fresh_at c.run.result seen now.seen now.name now.mark told since (λ reading stamp has committed.
+    ∥∥₁_elim ran.legal le_prop (λ legal.
     lists_fresh (last_operation now) since.entry.entry.before setup c.args.tag _ now.entries told legal since.entry.entry.marked is reading stamp has committed)))
-    c.run.ensures.since (c.run.ensures.told setup refl)
-
-pub returns-clause-fresh : goal.returns-clause-fresh
-returns-clause-fresh g c =
-    let now = c.run.new.self in
-    if_listed c.run.new.answer _ _ (λ told is. fresh_before c.run.result c.args.self.now.seen now.seen now.name told is) (returns-clause-looked g c)
+    ran.since (ran.told setup refl) in
+    record {
+      operated = record { entered = ran.entered; stopped = ran.stopped; past = ran.past; later = ran.later };
+      listed = ran.told;
+      atomic = if_listed c.run.new.answer _ _ (λ told is. ∥∥₁_map ran.legal (λ legal. lists_atomic (last_operation now) setup c.args.tag _ now.entries told legal is)) (ran.told setup refl);
+      fresh = if_listed c.run.new.answer _ _ (λ told is. fresh_before c.run.result seen now.seen now.name told is) looked;
+      looked = looked;
+    }

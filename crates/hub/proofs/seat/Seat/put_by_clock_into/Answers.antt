@@ -7,6 +7,7 @@ use Rattle.hub.specs.Replies.{IfDone}
 use Rattle.hub.specs.Seats.{SeatView}
 use Rattle.hub.specs.Clocks.{IsStampedBehind, ReportsDone}
 use Rattle.hub.proofs.Clocked.{later_raised, put_drawn, put_undrawn, refused_as, write_refused}
+use Rattle.hub.proofs.Done.{puts_ran}
 use Rattle.hub.proofs.Operations.{later-same}
 use Rattle.hub.proofs.Reported.{done_is, put_reported, reports_done, unreported}
 use Rattle.hub.proofs.seat.Seat.put_by_clock_into.Goals as goal
@@ -40,28 +41,32 @@ returns-in-Err-clause-reported g c = subst (λ (a : Answer). ReportsDone None c.
 
 pub returns-then-not-is_done-clause-put : goal.returns-then-not-is_done-clause-put
 returns-then-not-is_done-clause-put g c =
-    put_drawn c.args.items.now c.args.self.now c.draw.new.self c.put_all_into.new.self c.put_all_into.new.answer c.in_default-draw.ensures.raised c.in_default-draw.ensures.drawn c.put_all_into.ensures.operated
-    c.put_all_into.ensures.stamp c.put_all_into.ensures.written c.put_all_into.ensures.committed
+    let ran = c.run.ensures in
+    let put = puts_ran c.args.items.now c.draw.new.self c.run.new.self c.run.new.answer ran.entered ran.stopped ran.past ran.later ran.told.0 ran.told.1 ran.legal ran.of_store in
+    put_drawn c.args.items.now c.args.self.now c.draw.new.self c.run.new.self c.run.new.answer c.in_default-draw.ensures.raised c.in_default-draw.ensures.drawn put.operated put.stamp put.written put.committed
 
 pub returns-then-not-is_done-clause-reported : goal.returns-then-not-is_done-clause-reported
-returns-then-not-is_done-clause-reported g c = unreported c.put_all_into.new.answer _ _ (sym c.is_done.ensures ∙ c.if-not-is_done.true) c.put_all_into.ensures.stamp
+returns-then-not-is_done-clause-reported g c = unreported c.run.new.answer _ _ (sym c.is_done.ensures ∙ c.if-not-is_done.true) c.run.ensures.told.0
 
 -- it is done, and reported
 pub returns-clause-put : goal.returns-clause-put
 returns-clause-put g c =
-    let mid = c.put_all_into.new.self in
-    let answer = c.put_all_into.new.answer in
+    let mid = c.run.new.self in
+    let answer = c.run.new.answer in
+    let ran = c.run.ensures in
+    let put = puts_ran c.args.items.now c.draw.new.self c.run.new.self c.run.new.answer ran.entered ran.stopped ran.past ran.later ran.told.0 ran.told.1 ran.legal ran.of_store in
     let done = done_is answer (sym c.is_done.ensures ∙ c.if-not-is_done.false) in
     put_reported c.args.items.now c.args.self.now mid c.report.new.self answer done.0 done.1 c.report.ensures.legal c.report.ensures.more
-    (put_drawn c.args.items.now c.args.self.now c.draw.new.self mid answer c.in_default-draw.ensures.raised c.in_default-draw.ensures.drawn c.put_all_into.ensures.operated c.put_all_into.ensures.stamp c.put_all_into.ensures.written
-    c.put_all_into.ensures.committed)
+    (put_drawn c.args.items.now c.args.self.now c.draw.new.self mid answer c.in_default-draw.ensures.raised c.in_default-draw.ensures.drawn put.operated put.stamp put.written put.committed)
 
 pub returns-clause-reported : goal.returns-clause-reported
 returns-clause-reported g c =
     let old = c.args.self.now in
     let drawn = c.draw.new.self in
-    let mid = c.put_all_into.new.self in
-    let answer = c.put_all_into.new.answer in
+    let mid = c.run.new.self in
+    let answer = c.run.new.answer in
+    let ran = c.run.ensures in
+    let put = puts_ran c.args.items.now c.draw.new.self c.run.new.self c.run.new.answer ran.entered ran.stopped ran.past ran.later ran.told.0 ran.told.1 ran.legal ran.of_store in
     let done = done_is answer (sym c.is_done.ensures ∙ c.if-not-is_done.false) in
-    let later = later_raised old drawn mid c.in_default-draw.ensures.raised c.put_all_into.ensures.operated.later in
-    reports_done c.report.result c.args.items.now old mid c.report.new.self answer done.0 done.1 c.put_all_into.ensures.committed (ap (λ n. n.tenant) later.name) later.seen c.report.ensures.more c.report.ensures.reported
+    let later = later_raised old drawn mid c.in_default-draw.ensures.raised ran.later in
+    reports_done c.report.result c.args.items.now old mid c.report.new.self answer done.0 done.1 put.committed (ap (λ n. n.tenant) later.name) later.seen c.report.ensures.more c.report.ensures.reported

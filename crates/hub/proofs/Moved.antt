@@ -1,0 +1,123 @@
+-- What an operation leaves from step to step: for the functions that follow a move, or take replies.
+use Rattle.std.proofs.Common.{◌≡◌, ◌≤◌, ◌+◌, ◌∙◌, ℕ, [], List, Option, true, false, ap, arith, refl, subst, sym}
+use Rattle.std.specs.Prelude.{IsNone, IsSome}
+use Rattle.std.proofs.lemmas.List.{append-nil}
+use mathlib.Core.List.{IsPrefix}
+use Rattle.entry_list.specs.declared.kinds.Entry.{Entry}
+use Rattle.plain_store.specs.declared.answer.Answer.{Answer}
+use Rattle.plain_store.specs.History.{Intent as Asked}
+use Rattle.plain_store.specs.Words.{Setup, Stamp}
+use Rattle.history.specs.declared.rule.Naming.{Ghosts}
+use Rattle.history.proofs.Lists.{prefix_join}
+use Rattle.tenant_sessions.specs.Moves.{is_last, moved}
+use Rattle.tenant_sessions.specs.declared.moves.MoveKind.{MoveKind}
+use Rattle.tenant_sessions.specs.declared.running.Running.{Running}
+use Rattle.tenant_sessions.specs.declared.session.ClientSession.{ClientSession}
+use Rattle.hub.specs.Operating.{FollowsMove, TakesReplies}
+use Rattle.hub.specs.Replies.{Reads}
+use Rattle.hub.specs.Rooms.{HasRoom}
+use Rattle.hub.specs.Seats.{EndsSo, Extends, spare, told_by}
+use Rattle.hub.specs.Sights.{OperationSight, operation_of, sight_of}
+use Rattle.hub.specs.Taken.{replies_in}
+use Rattle.hub.specs.declared.operation.AnswerRoom.{AnswerRoom}
+use Rattle.hub.specs.declared.operation.RunningOperation.{RunningOperation}
+use Rattle.hub.proofs.Entries.{follows-same, follows-told}
+use Rattle.hub.proofs.Given.{IsStagedOn, operations, prefix_is, served-later, served-on, served-same, sights}
+
+-- what was read of a request, in other words
+reads_same : (sight other : OperationSight) (setup : Setup) (asked : Asked) (start entries next : List Entry) (running after : Option Running) (told also : Option Answer) → other ≡ sight → next ≡ entries → after ≡ running → also ≡ told
+    → Reads sight setup asked start entries running told → Reads other setup asked start next after also
+reads_same sight other setup asked start entries next running after told also seat entered runs answered reads =
+    let P : OperationSight → Type 0 = λ v. Reads v setup asked start entries running told in
+    let Q : List Entry → Type 0 = λ es. Reads other setup asked start es running told in
+    let R : Option Running → Type 0 = λ r. Reads other setup asked start next r told in
+    let S : Option Answer → Type 0 = λ a. Reads other setup asked start next after a in
+    subst S (sym answered) (subst R (sym runs) (subst Q (sym entered) (subst P (sym seat) reads)))
+
+module _ {G : Type 0} {naming : Ghosts G} where
+  -- a move that is not the last leaves all as it is
+  pub moves_on : (taken : MoveKind) (old : RunningOperation G naming) (answer : Answer) → is_last (moved taken old.readings.value) ≡ false → FollowsMove taken old answer old answer
+  moves_on taken old answer going = record {
+    answered = λ last. let both : true ≡ false = sym last ∙ going in absurd cc;
+    told = λ rows some last. let both : true ≡ false = sym last ∙ going in absurd cc;
+    goes_on = λ same. refl;
+    replies = refl;
+    room = omega arith;
+    ends = λ was. was;
+    entered = λ start follows. follows;
+    read = λ sight setup asked start reads tells. reads;
+    kept = ([], sym (append-nil old.entries.items));
+    served = λ first last start are. are;
+  }
+
+  -- and calls that are sent behind it enter nothing
+  pub moves_sent : (taken : MoveKind) (old mid new : RunningOperation G naming) (before after : Answer) → new.session ≡ mid.session → new.entries ≡ mid.entries → new.place ≡ mid.place → IsPrefix mid.seen new.seen
+      → FollowsMove taken old before mid after → FollowsMove taken old before new after
+  moves_sent taken old mid new before after session entries place seen moves =
+      let items = ap (λ e. e.items) entries in
+      let room = ap (λ e. e.room) entries in
+      let told = ap (λ p. told_by p after) place in
+      let spared = ap spare place in
+      record {
+        answered = λ last. subst (λ (p : Option AnswerRoom). IsNone p) (sym place) (moves.answered last);
+        told = moves.told;
+        goes_on = λ going. entries ∙ moves.goes_on going;
+        replies = ap replies_in items ∙ moves.replies;
+        room = omega (arith, moves.room, room, spared);
+        ends = λ was. subst (λ (p : Option AnswerRoom). EndsSo p after) (sym place) (moves.ends was);
+        entered = λ start follows. follows-told start _ _ new.entries.items (sym told) (follows-same start _ mid.entries.items new.entries.items items (moves.entered start follows));
+        read = λ sight setup asked start reads tells.
+            reads_same sight sight setup asked start mid.entries.items new.entries.items mid.session.running new.session.running _ _ refl items (ap (λ (s : ClientSession). s.running) session) told
+            (moves.read sight setup asked start reads tells);
+        kept = subst (λ (es : List Entry). Extends old.entries.items es) (sym items) moves.kept;
+        served = λ first last start are.
+            let later = served-later (sight_of old.name mid.seen) (sight_of old.name new.seen) first last start mid.entries.items (record { tenant = refl; seat = refl; seen = seen }) (moves.served first last start are) in
+            served-same (sight_of old.name new.seen) (sight_of old.name new.seen) first first last last start mid.entries.items new.entries.items refl refl (omega arith) items later;
+      }
+
+  -- so calls that were staged before replies are taken
+  pub runs_staged : (takes : ℕ) (own : Stamp) (old mid new : RunningOperation G naming) (before after : Answer) → IsStagedOn old mid → TakesReplies takes own mid before new after → TakesReplies takes own old before new after
+  runs_staged takes own old mid new before after (name, first, sent, entries, seen, session, place, mark) runs =
+      let items = ap (λ e. e.items) entries in
+      let told = ap (λ p. told_by p before) place in
+      record {
+        few = omega (arith, runs.few, ap replies_in items);
+        entered = λ start follows. runs.entered start (follows-told start _ _ mid.entries.items (sym told) (follows-same start _ old.entries.items mid.entries.items items follows));
+        read = λ setup asked start stamped reads.
+            reads_same (operation_of mid.name mid.mark new.seen) (operation_of old.name old.mark new.seen) setup asked start new.entries.items new.entries.items new.session.running new.session.running _ _
+            (operations _ _ _ _ _ _ (sym name) (sym mark) refl) refl refl refl
+            (runs.read setup asked start stamped
+            (reads_same (operation_of old.name old.mark old.seen) (operation_of mid.name mid.mark mid.seen) setup asked start old.entries.items mid.entries.items old.session.running mid.session.running _ _
+            (operations _ _ _ _ _ _ name mark seen) items (ap (λ (s : ClientSession). s.running) session) told reads));
+        served = λ start are. served-on _ _ _ _ _ _ _ _ _ start _ _ _ (sights _ _ _ _ name seen) (sights _ _ _ _ name refl) first sent items runs.served are;
+        counter = omega (arith, runs.counter, ap (λ (s : ClientSession). s.counter) session);
+        goes_on = record {
+          name = runs.goes_on.name ∙ name;
+          first = runs.goes_on.first ∙ first;
+          seen = prefix_join _ _ _ (prefix_is _ _ (sym seen)) runs.goes_on.seen;
+          mark = runs.goes_on.mark ∙ mark;
+        };
+      }
+
+  -- and so what is sent behind them
+  pub runs_sent : (takes : ℕ) (own : Stamp) (old mid new : RunningOperation G naming) (before after : Answer) → IsStagedOn mid new → TakesReplies takes own old before mid after → TakesReplies takes own old before new after
+  runs_sent takes own old mid new before after (name, first, sent, entries, seen, session, place, mark) runs =
+      let items = ap (λ e. e.items) entries in
+      let told = ap (λ p. told_by p after) place in
+      record {
+        few = omega (arith, runs.few, ap replies_in items);
+        entered = λ start follows. follows-told start _ _ new.entries.items (sym told) (follows-same start _ mid.entries.items new.entries.items items (runs.entered start follows));
+        read = λ setup asked start stamped reads.
+            reads_same (operation_of old.name old.mark mid.seen) (operation_of old.name old.mark new.seen) setup asked start mid.entries.items new.entries.items mid.session.running new.session.running _ _
+            (operations old.name old.name _ _ _ _ refl refl seen) items (ap (λ (s : ClientSession). s.running) session) told (runs.read setup asked start stamped reads);
+        served = λ start are.
+            served-same _ _ old.first old.first (old.first + mid.dispatcher.sent) (old.first + new.dispatcher.sent) start mid.entries.items new.entries.items (sights old.name old.name _ _ refl seen) refl (omega (arith, sent)) items
+            (runs.served start are);
+        counter = omega (arith, runs.counter, ap (λ (s : ClientSession). s.counter) session);
+        goes_on = record {
+          name = name ∙ runs.goes_on.name;
+          first = first ∙ runs.goes_on.first;
+          seen = prefix_join _ _ _ runs.goes_on.seen (prefix_is _ _ (sym seen));
+          mark = mark ∙ runs.goes_on.mark;
+        };
+      }
