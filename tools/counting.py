@@ -34,7 +34,6 @@ hub/src/dispatcher.rt: dispatch serve_free
 shard/src/shard.rt: serve_round serve_staged serve serve_message
 traced_book/src/traced.rt: serve_into
 partition/src/book.rt: serve_admitted
-partition/src/enter.rt: enter
 partition/src/shelf.rt: apply_into
 """
 TO_PUT = TO_SEAT + """
@@ -50,9 +49,8 @@ version_chain/src/chains.rt: insert_from
     "COMMIT": TO_PUT + """
 hub/src/operation.rt: take_replies send_staged
 """ + TO_CELL + """
-prepare_commit/src/cell.rt: apply_into commit commit_counted
-prepare_commit/src/versions.rt: commit
-prepare_commit/src/commit.rt: commit commit_version
+prepare_commit/src/cell.rt: apply_into commit_counted
+prepare_commit/src/commit.rt: commit
 version_chain/src/chains.rt: mark_slot
 """,
     "GET": TO_SEAT + """

@@ -1,16 +1,16 @@
 -- Bodies of records: what was packed is read again, by readers that check nothing.
-use Rattle.std.proofs.Common.{◌≡◌, ℕ, ◌<◌, ◌≤◌, ◌+◌, ◌-◌, suc, zero, leb, ◌&&◌, Bool, true, false, eqb, ltb, cond, ◌||◌, List, [], ◌∷◌, ◌++◌, length, take, drop, set, replicate, Option, Some, None, refl, sym, ap, subst, ◌∙◌, append_assoc, append-nil, length-append, length-take-le, take-append-drop, drop-set-lt, drop-drop, arith}
+use Rattle.std.proofs.Common.{◌≡◌, ℕ, ◌<◌, ◌≤◌, ◌+◌, ◌-◌, suc, zero, leb, ◌&&◌, Bool, true, false, eqb, ltb, cond, ◌||◌, List, [], ◌∷◌, ◌++◌, length, take, drop, Option, Some, None, refl, sym, ap, subst, ◌∙◌, append_assoc, append-nil, length-append, length-take-le, take-append-drop, arith}
 use Rattle.std.specs.Prelude.{IsSome, is_some}
 use Rattle.std.specs.Option.{option_map}
 use Rattle.std.proofs.lemmas.Bool.{false≢true, and_parts, leb-true, lt-ltb, ltb-false, eqb-false}
-use Rattle.std.proofs.lemmas.List.{get_or_append_left, drop-replicate, take_all, take-take}
+use Rattle.std.proofs.lemmas.List.{get_or_append_left, take_all, take-take}
 use Rattle.std.proofs.Math.Seq.{take-append-add}
 use Rattle.stamps.specs.Limits.{max_keys, max_key_len, max_tag_len, max_value_len}
 use Rattle.stamps.specs.Text.{IsText, is_name_byte, is_visible_byte}
 use Rattle.stamps.specs.Key.{IsKey}
 use Rattle.stamps.specs.Tag.{IsTag}
 use Rattle.stamps.specs.Value.{IsValue}
-use Rattle.stamps.specs.WriteSet.{IsWriteSet, first_key}
+use Rattle.stamps.specs.WriteSet.{IsWriteSet}
 use Rattle.stamps.specs.Record.{Record}
 use Rattle.stamps.specs.Making.{text_from, writes_from, is_ascending}
 use Rattle.stamps.proofs.MakingLemmas.{text_from-found, member_to, ascending_from}
@@ -266,25 +266,6 @@ key_left count bytes keys at rest lt so_far there = go (key_at rest) refl
     go : (o : Option (List ℕ × List ℕ)) → key_at rest ≡ o → IsSome o
     go None none = absurd (false≢true (subst IsSome (stops count bytes keys at rest lt none so_far) there))
     go (Some x) is = refl
-
--- the first key stays where others are written
-first_set : (keys : List (List ℕ)) (at : ℕ) (key : List ℕ) → 0 < at → first_key (set keys at key) ≡ first_key keys
-first_set [] at key some = refl
-first_set (first ∷ keys) zero key some = absurd (omega (arith, some))
-first_set (first ∷ keys) (suc at) key some = refl
-
-pub first_take : (keys : List (List ℕ)) (count : ℕ) → 0 < count → first_key (take count keys) ≡ first_key keys
-first_take keys zero some = absurd (omega (arith, some))
-first_take [] (suc count) some = refl
-first_take (first ∷ keys) (suc count) some = refl
-
--- behind a key that is written the first one still stands
-pub still_first : (keys : List (List ℕ)) (at : ℕ) (key : List ℕ) → 0 < at → drop at keys ≡ replicate (max_keys - at) (first_key keys)
-    → drop (at + 1) (set keys at key) ≡ replicate (max_keys - (at + 1)) (first_key (set keys at key))
-still_first keys at key some is =
-    let less : max_keys - at - 1 ≡ max_keys - (at + 1) = omega arith in
-    drop-set-lt (at + 1) keys at key (omega arith) ∙ sym (drop-drop 1 at keys) ∙ ap (drop 1) is ∙ drop-replicate 1 (max_keys - at) (first_key keys)
-    ∙ ap (λ n. replicate n (first_key keys)) less ∙ ap (replicate (max_keys - (at + 1))) (sym (first_set keys at key some))
 
 -- ---- keys that are put one behind the other
 

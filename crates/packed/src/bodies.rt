@@ -228,15 +228,10 @@ fn stored_keys(count: usize, bytes: &[u8]) -> WriteSet
     requires there { IsSome (writes_of count bytes.now) }
     ensures { (rest : List ℕ) × (Some (result, rest) ≡ writes_of count bytes.now) }
 {
-    let (first, after_first) = stored_key(bytes);
-    let mut keys = [first; WriteSet::MAX_LEN];
-    let mut rest = after_first;
-    for at in 1..count {
-        let (key, after) = stored_key(rest);
-        keys[at] = key;
-        rest = after;
-    }
-    WriteSet::of_stored(keys, count)
+    let (first, _) = stored_key(bytes);
+    let mut writes = WriteSet::only(first);
+    unpack_keys(count, bytes, &mut writes);
+    writes
 }
 
 // Writes the write set at the end over another one, so that none is copied.

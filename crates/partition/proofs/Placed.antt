@@ -15,11 +15,6 @@ carried f None p = p
 pub said : {A : Type 0} (P : A → Type 0) (place : Option A) (a : A) → place ≡ Some a → IsSomeAnd place P → P a
 said P place a is = subst (λ (o : Option _). IsSomeAnd o P) is
 
--- a place of which something is said holds a value
-pub found : {A : Type 0} (P : A → Type 0) (place : Option A) → IsSomeAnd place P → (a : A) × (place ≡ Some a) × P a
-found P (Some a) p = (a, refl, p)
-found P None p = absurd p
-
 -- where a call was not served, none is entered
 pub none-entered : {A E : Type 0} (old new : List Account) (tenant seat number : ℕ) (call : Call) (place_in : A → ℕ) (reply_in : A → Option Reply) (result : Result A E) (e : E) → result ≡ Err e → new ≡ old
     → EntersCall old new tenant seat number call place_in reply_in result

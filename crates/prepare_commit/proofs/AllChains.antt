@@ -1,4 +1,4 @@
--- For `Versions::commit` and `Cell::commit_counted`. The items have all versions of the chains.
+-- For `Cell::commit_counted`. The items have all versions of the chains.
 use Rattle.std.proofs.Common.{◌≡◌, ◌≢◌, inl, inr, ℕ, suc, ◌<◌, Bool, List, [], ◌∷◌, map, length, get_or, count_by, sum_by, refl, sym, ◌∙◌, arith}
 use Rattle.std.proofs.lemmas.List.Concat.{length-flat_map}
 use Rattle.std.proofs.lemmas.List.Sums.{count_by-le-length}

@@ -25,6 +25,7 @@ use crate::ahead::pack_noted;
 use crate::base::are_marks;
 use crate::changed::ChangedChains;
 use crate::collect::{collect, note_collected};
+use crate::commit::commit;
 use crate::copies::{has_items, held_items, set_spots};
 use crate::fill::StampedPlace;
 use crate::held::Held;
@@ -353,8 +354,10 @@ impl Cell {
             → content_in block.new self.new ≡ content_in block.old self.old }
         ensures visits { visits.new ≡ visits.old + result }
     {
-        self.versions.commit(
+        self.versions.sweep(block);
+        commit(
             block,
+            &mut self.versions.chains,
             stamp,
             &mut self.index,
             &mut self.changed,
@@ -783,7 +786,10 @@ impl Cell {
     {
         match call {
             Call::Prepare(version) => put_prepared(self.prepare(block, version), reply),
-            Call::Commit(stamp) => put_committed(self.commit(block, *stamp), reply),
+            Call::Commit(stamp) => put_committed(
+                self.commit_counted(block, *stamp, &mut Visits::new()),
+                reply,
+            ),
             Call::Get(key, stamp) => put_read(&self.get(block, key, *stamp), reply),
             Call::Found(tag) => self.found_into(tag, reply),
             Call::Collect(keep) => put_freed(self.collect(block, *keep), reply),

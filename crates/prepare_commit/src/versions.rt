@@ -6,15 +6,13 @@ ghost use Rattle.version_chain.specs.Changes.{HasChain, IsRunOf, ListsExactly};
 ghost use Rattle.version_chain.specs.Heads.{no_versions};
 ghost use Rattle.version_chain.specs.Listed.{with_kept, Lists, IsSwept};
 ghost use Rattle.plain_store.specs.Stamps.{kth_greatest};
-ghost use Rattle.prepare_commit.specs.Calls.{lists_of, versions_at, ChangesVersions, HasAt, HaveShare, KnowsHeld, MovesItems, NotesChanged};
-ghost use Rattle.prepare_commit.specs.Content.{marked_at, IsLatest};
+ghost use Rattle.prepare_commit.specs.Calls.{lists_of, versions_at, ChangesVersions, HaveShare, NotesChanged};
+ghost use Rattle.prepare_commit.specs.Content.{IsLatest};
 ghost use Rattle.prepare_commit.specs.InBlock.{AreIn};
 ghost use Rattle.prepare_commit.specs.Begun.{IsNotedAt};
 ghost use Rattle.prepare_commit.specs.Layout.{held_in, chain_lists, together, item_chains, committed_of, committed_version, IsVersionOf, InsertGives, IsPutIn, HaveAll};
 
 use crate::changed::ChangedChains;
-use crate::commit::commit;
-use secondary_index::TagIndex;
 use stamps::{Keep, Record, Stamp, Visits};
 use std::alloc::{AllocError, Global};
 use version_chain::{Block, Chains, Insert, StoredRecord, Version, VersionList};
@@ -128,56 +126,6 @@ impl Versions {
         self.chains.put(block, chain, version);
     }
 
-    /// Commits the versions of a stamp, answers how many they are, notes their chains as changed in both sets, and moves their
-    /// items under the tags of their latest committed versions. The versions that it visits are counted in `visits`; of each it
-    /// first reads in which chain it stands, and beside each it visits the latest committed one of its chain. Where no sweep
-    /// followed a cut, it sweeps first.
-    pub(crate) fn commit(
-        &mut self,
-        block: &mut Block,
-        stamp: Stamp,
-        index: &mut TagIndex,
-        changed: &mut ChangedChains,
-        since: &mut ChangedChains,
-        visits: &mut Visits,
-    ) -> u32
-        requires lies { AreIn block.old self.old.chains self.old.is_swept }
-        requires long { length changed.old ≡ length (lists_of block.old self.old) }
-        requires as_long { length since.old ≡ length (lists_of block.old self.old) }
-        requires few { self.old.chains.used < 2 ^ 32 }
-        requires before { visits.old ≤ 2 ^ 61 }
-        requires known { KnowsHeld index.old (held_in block.old self.old.chains) }
-        ensures changed { ChangesVersions block.old self.old block.new self.new }
-        ensures marked { held_in block.new self.new.chains ≡ record {
-          share = self.old.chains.share;
-          used = self.old.chains.used;
-          chains = map (map (marked_at stamp)) (lists_of block.old self.old);
-        } }
-        ensures count { HasAt stamp (held_in block.old self.old.chains) result }
-        ensures moved { MovesItems stamp (held_in block.old self.old.chains)
-            (lists_of block.new self.new) index.old index.new }
-        ensures noted { NotesChanged changed.old changed.new
-            (lists_of block.old self.old) (lists_of block.new self.new) }
-        ensures since { NotesChanged since.old since.new
-            (lists_of block.old self.old) (lists_of block.new self.new) }
-        ensures visits { visits.new ≡ visits.old + result }
-    {
-        sweep_unless(self.is_swept, block, &mut self.chains);
-        self.is_swept = true;
-        let (first, end) = self.chains.places_at(stamp);
-        commit(
-            block,
-            &mut self.chains,
-            stamp,
-            first,
-            end,
-            index,
-            changed,
-            since,
-            visits,
-        )
-    }
-
     /// The `keep`-th greatest committed stamp of a chain, `0.0` where there are fewer. It visits the versions down to
     /// that one.
     pub(crate) fn kth_committed(&self, block: &Block, chain: u32, keep: Keep) -> Stamp
@@ -208,7 +156,7 @@ impl Versions {
     }
 
     /// Gives up the versions of a stamp that are not committed, answers how many they were, and notes the chains of all versions of the
-    /// stamp. It finds these as `commit` does, reads in which chain each stands, and visits them, each counted in `visits`; where one is
+    /// stamp. It finds these by a binary search of the list of the kept versions, reads in which chain each stands, and visits them, each counted in `visits`; where one is
     /// not committed, it also searches for the stamp in its chain. Where it gave up any, it visits them once more and shifts the listed
     /// versions of greater stamps. Where no sweep followed a cut, it sweeps first.
     pub(crate) fn discard(
@@ -245,8 +193,8 @@ impl Versions {
     pub(crate) fn sweep(&mut self, block: &Block)
         requires { AreIn block.now self.old.chains self.old.is_swept }
         ensures changed { ChangesVersions block.now self.old block.now self.new }
-        ensures lists { lists_of block.now self.new ≡ lists_of block.now self.old }
-        ensures used { self.new.chains.used ≡ self.old.chains.used }
+        ensures exact { ListsExactly block.now self.new.chains }
+        ensures rest { self.new.chains ≡ with_kept self.old.chains self.new.chains.kept }
     {
         sweep_unless(self.is_swept, block, &mut self.chains);
         self.is_swept = true;

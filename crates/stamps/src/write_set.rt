@@ -2,7 +2,7 @@
 ghost use Rattle.std.specs.Prelude.{◌≡◌, ◌≢◌, ◌<◌, ◌≤◌, ◌-◌, ◌↔◌, ◌++◌, ◌∷◌, [], AllPairs, IsSome, IfSome, IsTrue, Contains, length, take, drop, replicate};
 ghost use Rattle.stamps.specs.Key.{IsAscending, IsTransactionKeys, sorted_keys};
 ghost use Rattle.stamps.specs.Limits.{max_keys};
-ghost use Rattle.stamps.specs.WriteSet.{IsWriteSet, contains_key, first_key};
+ghost use Rattle.stamps.specs.WriteSet.{IsWriteSet, contains_key, unused_key};
 
 use crate::{Key, limits};
 use std::fmt;
@@ -22,18 +22,18 @@ impl Model for WriteSet {
     ghost Value = { List (List ℕ) };
 
     ghost use Rattle.stamps.specs.Limits.{max_keys};
-    ghost use Rattle.stamps.specs.WriteSet.{IsWriteSet, first_key};
+    ghost use Rattle.stamps.specs.WriteSet.{IsWriteSet, unused_key};
 
     ghost view = { λ w. take w.len w.keys };
 
-    // The unused rest of the array repeats the first key.
+    // The unused rest of the array has one key at each place, so that a set of as many keys leaves it as it is.
     ghost invariant = { λ w. IsWriteSet (take w.len w.keys) × (w.len ≤ max_keys) × (length w.keys ≡ max_keys)
-        × (drop w.len w.keys ≡ replicate (max_keys - w.len) (first_key (take w.len w.keys))) };
+        × (drop w.len w.keys ≡ replicate (max_keys - w.len) unused_key) };
 
-    ghost inverse = { λ keys. record { keys = keys ++ replicate (max_keys - length keys) (first_key keys); len = length keys } };
+    ghost inverse = { λ keys. record { keys = keys ++ replicate (max_keys - length keys) unused_key; len = length keys } };
 
     ghost inverse_ok = { λ w h i. record {
-      keys = (ap (λ n. take w.len w.keys ++ replicate (max_keys - n) (first_key (take w.len w.keys))) (length-take-le w.len w.keys (omega (arith, h.1, h.2)))
+      keys = (ap (λ n. take w.len w.keys ++ replicate (max_keys - n) unused_key) (length-take-le w.len w.keys (omega (arith, h.1, h.2)))
           ∙ ap (λ rest. take w.len w.keys ++ rest) (sym h.3) ∙ take-append-drop w.len w.keys) i;
       len = length-take-le w.len w.keys (omega (arith, h.1, h.2)) i;
     } };
@@ -51,7 +51,7 @@ impl WriteSet {
         if keys.is_empty() || keys.len() > WriteSet::MAX_LEN || !is_ascending(keys) {
             return None;
         }
-        let mut all = [keys[0]; WriteSet::MAX_LEN];
+        let mut all = [unused(); WriteSet::MAX_LEN];
         all[..keys.len()].copy_from_slice(keys);
         Some(WriteSet {
             keys: all,
@@ -68,55 +68,48 @@ impl WriteSet {
         if keys.is_empty() || keys.len() > WriteSet::MAX_LEN {
             return None;
         }
-        let mut all = [keys[0]; WriteSet::MAX_LEN];
-        all[..keys.len()].copy_from_slice(keys);
-        WriteSet::of_prefix(all, keys.len())
-    }
-
-    /// The write set of the first `len` of these keys, which are 1 to `MAX_KEYS` and may stand in any order. `None` where one stands twice. It
-    /// sorts them where they lie.
-    #[inline(always)]
-    pub fn of_prefix(keys: [Key; WriteSet::MAX_LEN], len: usize) -> Option<WriteSet>
-        requires some { 0 < len }
-        requires few { len ≤ max_keys }
-        ensures exact { IsSome result ↔ IsTransactionKeys (take len keys) }
-        ensures value { IfSome result (λ writes. writes ≡ sorted_keys (take len keys)) }
-    {
-        let mut keys = keys;
-        let sorted = &mut keys[..len];
+        let mut all = [unused(); WriteSet::MAX_LEN];
+        let sorted = &mut all[..keys.len()];
+        sorted.copy_from_slice(keys);
         sorted.sort_unstable();
         if !is_ascending(sorted) {
             return None;
         }
-        repeat_first(&mut keys, len);
         Some(WriteSet {
-            keys,
-            len: len as u8,
+            keys: all,
+            len: keys.len() as u8,
         })
     }
 
-    /// The write set of the first `len` of these keys, which are known to be one's, as the others are to repeat the first key. It
-    /// checks none of them.
+    /// The write set of one key.
     #[inline(always)]
-    pub fn of_stored(keys: [Key; WriteSet::MAX_LEN], len: usize) -> WriteSet
-        requires valid { IsWriteSet (take len keys) }
-        requires few { len ≤ max_keys }
-        requires rest { drop len keys ≡ replicate (max_keys - len) (first_key (take len keys)) }
-        ensures { result ≡ take len keys }
+    pub fn only(key: Key) -> WriteSet
+        ensures { result ≡ key ∷ [] }
     {
-        WriteSet {
-            keys,
-            len: len as u8,
-        }
+        let mut keys = [unused(); WriteSet::MAX_LEN];
+        keys[0] = key;
+        WriteSet { keys, len: 1 }
     }
 
-    /// Makes of it the write set of one key, in place.
+    /// Makes of it the write set of one key, in place. It writes those places alone that had keys.
     #[inline(always)]
     pub fn set_only(&mut self, key: Key)
         ensures { self.new ≡ key ∷ [] }
     {
-        self.keys.fill(key);
+        free(&mut self.keys, 1, usize::from(self.len));
+        self.keys[0] = key;
         self.len = 1;
+    }
+
+    /// Makes of it a copy of another one, in place. It writes those places alone that have keys, or had.
+    #[inline(always)]
+    pub fn copy_from(&mut self, other: &WriteSet)
+        ensures { self.new ≡ other.now }
+    {
+        let len = usize::from(other.len);
+        free(&mut self.keys, len, usize::from(self.len));
+        self.keys[..len].copy_from_slice(&other.keys[..len]);
+        self.len = other.len;
     }
 
     /// Adds a key behind the others, with which they are known to be a write set. It checks nothing.
@@ -159,17 +152,28 @@ impl fmt::Debug for WriteSet {
     }
 }
 
-/// Has each key behind the first `len` be the first one.
-fn repeat_first(keys: &mut [Key], len: usize)
-    requires some { 0 < len }
-    requires room { len ≤ length keys.old }
-    ensures kept { take len keys.new ≡ take len keys.old }
-    ensures rest { drop len keys.new
-        ≡ replicate (length keys.old - len) (first_key (take len keys.old)) }
+/// What lies in the places that have no key of the set.
+#[inline(always)]
+fn unused() -> Key
+    ensures { result ≡ unused_key }
 {
-    let first = keys[0];
-    for at in len..keys.len() {
-        keys[at] = first;
+    let text = b"-";
+    Key::of_stored(text)
+}
+
+/// Has no place from one on be used, where those before `used` may be, and no others.
+#[inline(always)]
+fn free(keys: &mut [Key], from: usize, used: usize)
+    requires within { used ≤ length keys.old }
+    requires others { drop used keys.old ≡ replicate (length keys.old - used) unused_key }
+    ensures kept { take from keys.new ≡ take from keys.old }
+    ensures rest { drop from keys.new ≡ replicate (length keys.old - from) unused_key }
+    ensures len { length keys.new ≡ length keys.old }
+{
+    let mut left = used;
+    while left > from {
+        left -= 1;
+        keys[left] = unused();
     }
 }
 

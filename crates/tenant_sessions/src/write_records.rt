@@ -144,7 +144,7 @@ fn write_over(item: &Item, stamp: Stamp, writes: &WriteSet, old: &mut Record)
     old.tag = item.tag;
     old.value = item.value;
     old.stamp = stamp;
-    old.writes = *writes;
+    old.writes.copy_from(writes);
 }
 
 /// Puts a PREPARE over another call. It stands alone, so that what is written over its like has no room for a call.

@@ -91,6 +91,7 @@ impl<T> Arena<T> {
     /// Puts a value into a free cell, beside the slot `next`, and answers the cell's slot.
     ///
     /// Where all cells are live it hands the value back as an `Err`, and the arena stays as it was.
+    #[inline(always)]
     pub fn put(&mut self, value: T, next: Option<Slot>) -> Result<Slot, T>
         // The cell was free, and no other changes.
         ensures was_free { IfOk result (λ slot. (slot < length self.old)

@@ -1,6 +1,3 @@
-use Rattle.std.proofs.Common.{ap}
-use Rattle.version_chain.specs.Heads.{Heads}
-use Rattle.prepare_commit.specs.Layout.{chain_lists}
 use Rattle.version_chain.proofs.Changing.{own_none}
 use Rattle.prepare_commit.proofs.Owning.{own_after, still_stands}
 use Rattle.prepare_commit.proofs.versions.Versions.sweep.Goals as goal
@@ -17,6 +14,6 @@ returns c =
         lies = record { stands = still_stands block c.args.self.now.chains c.sweep_unless.new.chains done.rest c.requires.stands; listed = done.list.listed; swept = λ _. done.list.swept };
         own = own_after block c.args.self.now.chains c.sweep_unless.new.chains done.rest block c.sweep_unless.new.chains (own_none block c.sweep_unless.new.chains);
       };
-      lists = ap (λ (h : Heads). chain_lists block h) done.rest;
-      used = ap (λ (h : Heads). h.used) done.rest;
+      exact = done.list;
+      rest = done.rest;
     }
