@@ -56,6 +56,8 @@ impl PeerStream for &TcpStream {
 #[derive(Drop)]
 pub(crate) struct Peer<'s, S, H> {
     pub(crate) stream: S,
+    /// Whether reads of the stream wait, as this peer left it. To change that is a call of the system, so a read leaves it as it is.
+    pub(crate) waits: bool,
     /// Whether nothing more is read.
     pub(crate) is_last: &'s AtomicBool,
     /// Whether no more lines are answered.
@@ -88,6 +90,7 @@ impl<S: PeerStream + Read, H> Peer<'_, S, H> {
     /// Parts from a peer whose connection is shut down for reads: it is sent the end, and what it sent is passed over. A close
     /// behind unread bytes would reset the connection, and its last answers might be lost.
     pub(crate) fn part(&mut self) {
+        let _ = turn(&self.stream, &mut self.waits, true);
         let _ = self.stream.send_end();
         let mut piece = [0; 4096];
         for _ in 0..PASSED {
@@ -99,9 +102,21 @@ impl<S: PeerStream + Read, H> Peer<'_, S, H> {
     }
 }
 
+/// Has reads of the stream wait, or not.
+fn turn<S: PeerStream>(stream: &S, waits: &mut bool, wanted: bool) -> io::Result<()>
+    ensures { OnOk result (waits.new ≡ wanted) }
+{
+    if *waits != wanted {
+        stream.set_waits(wanted)?;
+        *waits = wanted;
+    }
+    Ok(())
+}
+
 /// Takes what comes. It looks for a while before it sleeps, where there are few sessions.
 fn receive<S: PeerStream + Read, H: Clock>(
     stream: &mut S,
+    waits: &mut bool,
     count: &SessionCount,
     clock: &LineClock<'_, H>,
     buf: &mut [u8],
@@ -109,37 +124,40 @@ fn receive<S: PeerStream + Read, H: Clock>(
     ensures { HasRead (S.remaining stream.old) (S.remaining stream.new) buf.new result }
 {
     if count.are_few() {
-        return look_and_wait(stream, clock, buf);
+        return look_and_wait(stream, waits, clock, buf);
     }
-    wait(stream, clock, buf)
+    wait(stream, waits, clock, buf)
 }
 
 /// Takes what comes within some looks, or else waits for it.
 fn look_and_wait<S: PeerStream + Read, H: Clock>(
     stream: &mut S,
+    waits: &mut bool,
     clock: &LineClock<'_, H>,
     buf: &mut [u8],
 ) -> io::Result<usize>
     ensures { HasRead (S.remaining stream.old) (S.remaining stream.new) buf.new result }
 {
-    match look(stream, buf) {
+    match look(stream, waits, buf) {
         Some(taken) => {
             clock.came();
             taken
         }
-        None => wait(stream, clock, buf),
+        None => wait(stream, waits, clock, buf),
     }
 }
 
 /// Waits for what comes. Where much came at once, others run first: its own turn then begins anew, and does not end while it holds a
 /// partition that they would wait for.
-fn wait<S: Read, H: Clock>(
+fn wait<S: PeerStream + Read, H: Clock>(
     stream: &mut S,
+    waits: &mut bool,
     clock: &LineClock<'_, H>,
     buf: &mut [u8],
 ) -> io::Result<usize>
     ensures { HasRead (S.remaining stream.old) (S.remaining stream.new) buf.new result }
 {
+    turn(stream, waits, true)?;
     let taken = stream.read(buf);
     clock.came();
     if matches!(&taken, Ok(count) if *count >= MUCH) {
@@ -148,23 +166,20 @@ fn wait<S: Read, H: Clock>(
     taken
 }
 
-/// What came within some looks, if anything did. Reads of the stream wait again when it returns. Where that can't be set, what came is
-/// given all the same; where nothing did, the read fails.
-fn look<S: PeerStream + Read>(stream: &mut S, buf: &mut [u8]) -> Option<io::Result<usize>>
+/// What came within some looks, if anything did. Reads of the stream do not wait when it returns, unless that can't be set: then there is
+/// no look.
+fn look<S: PeerStream + Read>(
+    stream: &mut S,
+    waits: &mut bool,
+    buf: &mut [u8],
+) -> Option<io::Result<usize>>
     ensures { MatchOption result (Keeps (S.remaining stream.old) (S.remaining stream.new))
         (HasRead (S.remaining stream.old) (S.remaining stream.new) buf.new) }
 {
-    if stream.set_waits(false).is_err() {
+    if turn(stream, waits, false).is_err() {
         return None;
     }
-    let taken = look_often(stream, buf);
-    match stream.set_waits(true) {
-        Ok(()) => taken,
-        Err(error) => match taken {
-            Some(taken) => Some(taken),
-            None => Some(Err(error)),
-        },
-    }
+    look_often(stream, buf)
 }
 
 /// What the first read took that did not find the stream empty, of some reads that do not wait; a failure too.
@@ -194,7 +209,13 @@ impl<S: PeerStream + Read, H: Clock> Read for Peer<'_, S, H> {
         if self.is_last.load(Ordering::SeqCst) {
             return Err(io::Error::from(ErrorKind::ConnectionAborted));
         }
-        match receive(&mut self.stream, self.count, self.clock, buf) {
+        match receive(
+            &mut self.stream,
+            &mut self.waits,
+            self.count,
+            self.clock,
+            buf,
+        ) {
             // One that waits when sessions are to end takes nothing: the connection is shut down.
             Ok(0) if self.is_last.load(Ordering::SeqCst) => {
                 Err(io::Error::from(ErrorKind::ConnectionAborted))
@@ -202,6 +223,19 @@ impl<S: PeerStream + Read, H: Clock> Read for Peer<'_, S, H> {
             taken => taken,
         }
     }
+}
+
+/// Writes. Where a stream that does not wait has no room, it waits from now on.
+fn send<S: PeerStream + Write>(stream: &mut S, buf: &[u8]) -> io::Result<usize>
+    ensures bound { WritesAtMost result buf.now }
+    ensures bytes { WriteAppends (S.contents stream.old) (S.contents stream.new) result buf.now }
+{
+    match stream.write(buf) {
+        Err(error) if error.kind() == ErrorKind::WouldBlock => {}
+        taken => return taken,
+    }
+    stream.set_waits(true)?;
+    stream.write(buf)
 }
 
 impl<S: PeerStream + Write, H: Clock> Write for Peer<'_, S, H> {
@@ -215,7 +249,7 @@ impl<S: PeerStream + Write, H: Clock> Write for Peer<'_, S, H> {
         ensures looks { self.new.unlooked ≡ 0 }
     {
         self.unlooked = 0;
-        let taken = self.stream.write(buf)?;
+        let taken = send(&mut self.stream, buf)?;
         self.clock.wrote(&buf[..taken]);
         Ok(taken)
     }

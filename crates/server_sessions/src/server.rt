@@ -226,6 +226,7 @@ impl<L, G: Naming, N> Server<L, G, N> {
     {
         Peer {
             stream,
+            waits: true,
             is_last: &self.is_ending,
             is_cut: &self.is_cut,
             unlooked: 0,
