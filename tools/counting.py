@@ -31,7 +31,7 @@ hub/src/operation.rt: perform exchange
 """
 TO_CELL = """
 hub/src/dispatcher.rt: dispatch serve_free
-shard/src/shard.rt: serve_round serve_staged serve serve_message
+shard/src/shard.rt: serve_round serve
 traced_book/src/traced.rt: serve_into
 partition/src/book.rt: serve_admitted
 partition/src/shelf.rt: apply_into

@@ -14,7 +14,7 @@ use Rattle.traced_book.proofs.Forgetting.{none_left}
 use Rattle.shard.specs.declared.jobs.Fault.{Fault}
 use Rattle.shard.specs.declared.jobs.Fault.TheVariants.{NoTenant}
 use Rattle.shard.specs.declared.shard.FollowUp.{FollowUp}
-use Rattle.shard.specs.Counted.{AreEventsCounted, IsCounted, NotesEvents, NotesLong, events_after, is_due, is_due_among, one_event, places_given}
+use Rattle.shard.specs.Counted.{AreEventsCounted, IsCounted, NotesEvent, NotesEvents, NotesLong, events_after, is_due, is_due_among, one_event, places_given}
 use Rattle.shard.proofs.Short.{events_other, events_own}
 
 -- ---- places that were given
@@ -76,11 +76,11 @@ places_taken false old new tenant e there taken = places_anew taken.0 new taken.
 -- ---- events that were counted
 
 -- none came
-pub none_counted : (every : ℕ) (accounts : List Account) (events : ℕ) (was : Bool) → AreEventsCounted every accounts accounts events events was was
+none_counted : (every : ℕ) (accounts : List Account) (events : ℕ) (was : Bool) → AreEventsCounted every accounts accounts events events was was
 none_counted every accounts events was = record { n = 0; came = sym (add-zero (places_given accounts)); events = refl; due = sym (or-false was) }
 
 -- one came where the call was served, and none where it was not
-pub one_counted : (journals : Bool) (every : ℕ) (old new : List Account) (tenant : ℕ) (result : Result ℕ Fault) (reply : Option Reply) (e : Reply → Event) (before after : ℕ) (was now : FollowUp)
+one_counted : (journals : Bool) (every : ℕ) (old new : List Account) (tenant : ℕ) (result : Result ℕ Fault) (reply : Option Reply) (e : Reply → Event) (before after : ℕ) (was now : FollowUp)
     → (IsErrOf result NoTenant ↔ (length old ≤ tenant)) → IfOk result (λ _. IsSomeAnd reply (λ r. IsTaken journals old new tenant (e r))) → OnErr result (new ≡ old)
     → OnOk result (IsCounted every before after was.collects now.collects) → OnErr result ((after ≡ before) × (now ≡ was))
     → AreEventsCounted every old new before after was.collects now.collects
@@ -120,9 +120,6 @@ counted_on every old mid new before between after was is now first then =
 
 -- ---- journals that got long
 
-pub none_long : (epoch : ℕ) (accounts : List Account) (was : Bool) → NotesLong epoch accounts accounts was was
-none_long epoch accounts was = record { before = λ is. is; long = λ some tenant few many. absurd (omega (arith, few, many)) }
-
 -- with an event that is kept
 kept_long : (epoch : ℕ) (old new : List Account) (tenant : ℕ) (e : Event) (was now : Bool) → tenant < length old → IsEntered old new tenant e
     → (0 < epoch → length (events_at new tenant) ≡ epoch → now ≡ true) → (was ≡ true → now ≡ true) → NotesLong epoch old new was now
@@ -153,7 +150,7 @@ taken_long true epoch old new tenant e was now within taken cuts still = kept_lo
 taken_long false epoch old new tenant e was now within taken cuts still = anew_long epoch old taken.0 new was now taken.2 still
 
 -- with the event of a call that was served
-pub one_long : (journals : Bool) (epoch : ℕ) (old new : List Account) (tenant : ℕ) (result : Result ℕ Fault) (reply : Option Reply) (e : Reply → Event) (was now : Bool)
+one_long : (journals : Bool) (epoch : ℕ) (old new : List Account) (tenant : ℕ) (result : Result ℕ Fault) (reply : Option Reply) (e : Reply → Event) (was now : Bool)
     → (IsErrOf result NoTenant ↔ (length old ≤ tenant)) → IfOk result (λ _. IsSomeAnd reply (λ r. IsTaken journals old new tenant (e r))) → OnErr result (new ≡ old)
     → IfOk result (λ _. 0 < epoch → length (events_at new tenant) ≡ epoch → now ≡ true) → (was ≡ true → now ≡ true) → NotesLong epoch old new was now
 one_long journals epoch old new tenant (Ok place) None e was now there taken same cuts still = absurd taken
@@ -167,6 +164,16 @@ one_long journals epoch old new tenant (Err f) reply e was now there taken same 
     record {
       before = still;
       long = λ some other few many. let kept = ap (λ accounts. length (events_at accounts other)) same in absurd (omega (arith, kept, few, many));
+    }
+
+-- what is due after one call
+pub one_noted : (journals : Bool) (every epoch : ℕ) (old new : List Account) (tenant : ℕ) (result : Result ℕ Fault) (reply : Option Reply) (e : Reply → Event) (before after : ℕ) (was now : FollowUp)
+    → (IsErrOf result NoTenant ↔ (length old ≤ tenant)) → IfOk result (λ _. IsSomeAnd reply (λ r. IsTaken journals old new tenant (e r))) → OnErr result (new ≡ old)
+    → NotesEvent every epoch new tenant before after was now result → NotesEvents every epoch old new before after was now
+one_noted journals every epoch old new tenant result reply e before after was now there taken same notes =
+    record {
+      counted = one_counted journals every old new tenant result reply e before after was now there taken same notes.counted notes.uncounted;
+      cuts = one_long journals epoch old new tenant result reply e was.cuts now.cuts there taken same notes.cuts notes.still_cuts;
     }
 
 -- what was noted first is noted still

@@ -14,6 +14,7 @@ use Rattle.plain_store.specs.declared.calls.Call.{Call}
 use Rattle.plain_store.specs.declared.calls.Reply.{Reply}
 use Rattle.plain_store.specs.declared.message.Message.{Message}
 use Rattle.plain_store.specs.declared.refusal.Refusal.{Refusal}
+use Rattle.plain_store.specs.declared.refusal.Refusal.TheVariants.{Late as IsTooLate}
 use Rattle.plain_store.specs.Words.{Room}
 use Rattle.prepare_commit.specs.Bases.{Leaves}
 use Rattle.partition.specs.declared.journal.Epoch.{Epoch}
@@ -146,22 +147,6 @@ module _ (parts partition tenant : ℕ) (old new : List Account) (e : Event) (th
   taken-of true taken of = entered-of parts partition old new tenant e there taken reply in_time home of
   taken-of false taken of = anew_of parts partition taken.0 new taken.2 (entered-of parts partition old taken.0 tenant e there taken.1 reply in_time home of)
 
--- where the call was served, its event is one more
-pub served-of : (journals : Bool) (parts partition tenant seat number place : ℕ) (old new : List Account) (call : Call) (reply : Option Reply) (outcome : Result ℕ Fault)
-    → outcome ≡ Ok place → (IsErrOf outcome NoTenant ↔ (length old ≤ tenant)) → (tenant < length old → (IsErrOf outcome Late ↔ IsLate (events_at old tenant) seat number))
-    → IsSomeAnd reply (λ r. IsTaken journals old new tenant (event seat number call r)) → IsSomeAnd reply (λ r. IsReplyInEpoch old tenant call r)
-    → HasHome call parts partition → AreOf parts partition old → AreOf parts partition new
-served-of journals parts partition tenant seat number place old new call None outcome is there late taken told home of = absurd taken
-served-of journals parts partition tenant seat number place old new call (Some r) outcome is there late taken told home of =
-    let within : tenant < length old = omega (arith, λ (past : length old ≤ tenant). absent (there.1 past)) in
-    taken-of parts partition tenant old new (event seat number call r) within told (λ l. in_time ((late within).1 l)) home journals taken of
-  where
-    absent : outcome ≡ Err NoTenant → ⊥
-    absent was = cc (is, was)
-
-    in_time : outcome ≡ Err Late → ⊥
-    in_time was = cc (is, was)
-
 -- what holds of the journals of a partition does so under each name of it
 moved_to : (parts partition ours at : ℕ) (accounts : List Account) → parts ≡ ours → partition ≡ at → ∥ AreOf parts partition accounts ∥₁ → ∥ AreOf ours at accounts ∥₁
 moved_to parts partition ours at accounts same here journals =
@@ -170,17 +155,21 @@ moved_to parts partition ours at accounts same here journals =
     subst Q here (subst P same journals)
 
 -- the journals after a call that came to its partition, and may not have been served
-pub called-of : (keeps : Bool) (ours at parts partition tenant seat number : ℕ) (old new : List Account) (call : Call) (reply : Option Reply) (result : Result ℕ Fault)
-    → (IsErrOf result NoTenant ↔ (length old ≤ tenant)) → (tenant < length old → (IsErrOf result Late ↔ IsLate (events_at old tenant) seat number))
+pub called-of : (keeps : Bool) (ours at parts partition tenant seat number : ℕ) (old new : List Account) (call : Call) (reply : Option Reply) (result : Result ℕ Refusal)
+    → tenant < length old → (IsErrOf result IsTooLate ↔ IsLate (events_at old tenant) seat number)
     → IfOk result (λ _. IsSomeAnd reply (λ r. IsTaken keeps old new tenant (event seat number call r)))
     → IfOk result (λ _. IsSomeAnd reply (λ r. IsReplyInEpoch old tenant call r))
     → OnErr result (new ≡ old) → HasHome call parts partition
     → (partition ≡ at) × (parts ≡ ours) → ∥ AreOf ours at old ∥₁ → ∥ AreOf ours at new ∥₁
-called-of keeps ours at parts partition tenant seat number old new call reply (Ok place) there late entered told unchanged home here journals =
+called-of keeps ours at parts partition tenant seat number old new call None (Ok place) there late taken told unchanged home here journals = absurd taken
+called-of keeps ours at parts partition tenant seat number old new call (Some r) (Ok place) there late taken told unchanged home here journals =
     moved_to parts partition ours at new here.1 here.0
     (∥∥₁_map (moved_to ours at parts partition old (sym here.1) (sym here.0) journals)
-    (served-of keeps parts partition tenant seat number place old new call reply (Ok place) refl there late entered told home))
-called-of keeps ours at parts partition tenant seat number old new call reply (Err fault) there late entered told unchanged home here journals =
+    (taken-of parts partition tenant old new (event seat number call r) there told (λ l. in_time (late.1 l)) home keeps taken))
+  where
+    in_time : Ok place ≡ Err IsTooLate → ⊥
+    in_time was = cc
+called-of keeps ours at parts partition tenant seat number old new call reply (Err fault) there late taken told unchanged home here journals =
     subst (λ (xs : List Account). ∥ AreOf ours at xs ∥₁) (sym unchanged) journals
 
 -- a call that was served stands in the history that was seen, behind the mark

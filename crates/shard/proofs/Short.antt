@@ -62,16 +62,11 @@ absent-short accounts tenant epoch past some =
     omega (arith, none, some)
 
 -- what was served, with the reply in its message
-pub served-short : (journals : Bool) (epoch place : ℕ) (old new : List Account) (tenant : ℕ) (result : Result ℕ Fault) (reply : Option Reply) (e : Reply → Event)
-    → result ≡ Ok place → (IsErrOf result NoTenant ↔ (length old ≤ tenant)) → IsSomeAnd reply (λ r. IsTaken journals old new tenant (e r))
+pub served-short : (journals : Bool) (epoch : ℕ) (old new : List Account) (tenant : ℕ) (reply : Option Reply) (e : Reply → Event)
+    → tenant < length old → IsSomeAnd reply (λ r. IsTaken journals old new tenant (e r))
     → (0 < epoch → length (events_at old tenant) < 2 * epoch) → AreShort epoch old → AreShort epoch new
-served-short journals epoch place old new tenant result None e is there taken room short = absurd taken
-served-short journals epoch place old new tenant result (Some r) e is there taken room short =
-    let within : tenant < length old = omega (arith, λ (past : length old ≤ tenant). absent (there.1 past)) in
-    taken-short journals epoch old new tenant (e r) within taken room short
-  where
-    absent : result ≡ Err NoTenant → ⊥
-    absent was = cc (is, was)
+served-short journals epoch old new tenant None e there taken room short = absurd taken
+served-short journals epoch old new tenant (Some r) e there taken room short = taken-short journals epoch old new tenant (e r) there taken room short
 
 -- what was answered, or refused
 pub answered-short : (journals : Bool) (epoch : ℕ) (old new : List Account) (tenant : ℕ) (result : Result PlacedReply Fault) (e : PlacedReply → Event)

@@ -1,10 +1,10 @@
 //! One partition, as all that serve there reach it: its cells and journals behind a lock, and the numbers of its calls.
-ghost use Rattle.std.specs.Prelude.{◌≡◌, ◌+◌, ◌<◌, ◌≤◌, ◌*◌, ◌^◌, ◌↔◌, ◌⊎◌, Some, false, true, All, map, length, replicate, IfOk, IfSome, OnErr, IsSomeAnd, IsTrue};
+ghost use Rattle.std.specs.Prelude.{◌≡◌, ◌+◌, ◌<◌, ◌≤◌, ◌*◌, ◌^◌, ◌↔◌, ◌⊎◌, Some, false, true, All, map, length, replicate, IfSome, OnErr, IsTrue};
 ghost use Rattle.std.specs.Sync.Mutex.{mutex_guard_value};
 ghost use Rattle.std.specs.VecDeque.{deque_capacity, deque_len};
 ghost use Rattle.partition.specs.Accounts.{events_at};
 ghost use mathlib.Core.List.{IsPrefix};
-ghost use Rattle.history.specs.Entries.{count, StandsBehind};
+ghost use Rattle.history.specs.Entries.{count};
 ghost use Rattle.history.specs.Legal.{MayServe};
 ghost use Rattle.shard.specs.Counted.{IsCounted, NotesEvent, NotesEvents, nothing_due};
 ghost use Rattle.shard.specs.Journals.{AreOf, CameSo, came_to};
@@ -21,7 +21,7 @@ use crate::jobs::{Fault, PlacedReply};
 use crate::seat_call::SeatCall;
 use history::{Front, Naming};
 use partition::Caller;
-use plain_store::{Call, Message, Refusal};
+use plain_store::{Call, Refusal};
 use std::collections::VecDeque;
 use std::hint::spin_loop;
 use std::sync::atomic::AtomicU64;
@@ -308,9 +308,15 @@ impl<J: Naming> ShardState<J> {
             let Some(staged) = calls.get_mut(at) else {
                 break;
             };
-            if self.is_home_of(&staged.call) && matches!(staged.stage, CallState::Pending) {
-                self.serve_staged(config, gate, staged, &mut follow_up);
+            if !self.is_home_of(&staged.call) || !matches!(staged.stage, CallState::Pending) {
+                continue;
             }
+            if self.leaves(config, staged) {
+                continue;
+            }
+            gate.inside(self.partition, staged.call.arrival);
+            let outcome = self.serve(config, gate, &mut staged.call, &mut follow_up);
+            staged.stage = CallState::Served(outcome);
         }
         follow_up
     }
@@ -323,35 +329,22 @@ impl<J: Naming> ShardState<J> {
         call.partition == self.partition && call.parts == self.parts
     }
 
-    /// Serves a staged call that is for this partition, or leaves it to the worker where its journal is full.
-    fn serve_staged<G: Gate>(
-        &mut self,
-        config: &ShardConfig,
-        gate: &G,
-        staged: &mut Staged<J>,
-        follow_up: &mut FollowUp,
-    )
-        requires { (staged.old.call.partition ≡ self.old.partition)
-            × (staged.old.call.parts ≡ self.old.parts) }
-        ensures short { AreShort config.now.epoch self.old.book.accounts
-            → AreShort config.now.epoch self.new.book.accounts }
-        ensures asked { asked_by staged.new ≡ asked_by staged.old }
-        ensures left { staged.new.stage ≡ CallState.Deferred
-            → (0 < config.now.epoch)
+    /// Leaves a staged call to the worker where its journal is full, and answers whether it does.
+    fn leaves(&self, config: &ShardConfig, staged: &mut Staged<J>) -> bool
+        ensures left { IsTrue result → (staged.new.stage ≡ CallState.Deferred)
+            × (0 < config.now.epoch)
             × (2 * config.now.epoch
-            ≤ length (events_at self.old.book.accounts staged.old.call.tenant))
-            × (self.new.book.accounts ≡ self.old.book.accounts) }
-        ensures served { staged.new.stage ≡ CallState.Pending → ⊥ }
-        ensures notes { NotesEvents config.now.every config.now.epoch self.old.book.accounts
-            self.new.book.accounts self.old.events self.new.events follow_up.old follow_up.new }
-        ensures stays { StaysAt self.old self.new }
+            ≤ length (events_at self.now.book.accounts staged.old.call.tenant)) }
+        ensures short { result ≡ false → 0 < config.now.epoch
+            → length (events_at self.now.book.accounts staged.old.call.tenant)
+            < 2 * config.now.epoch }
+        ensures call { staged.new.call ≡ staged.old.call }
     {
-        if is_full(&self.book, config.epoch, staged.call.tenant) {
+        let is_full = is_full(&self.book, config.epoch, staged.call.tenant);
+        if is_full {
             staged.stage = CallState::Deferred;
-            return;
         }
-        let outcome = self.serve(config, gate, &mut staged.call, follow_up);
-        staged.stage = CallState::Served(outcome);
+        is_full
     }
 
     /// Serves a call that a worker was sent. One that is for another partition has no tenant here.
@@ -379,6 +372,7 @@ impl<J: Naming> ShardState<J> {
         if !self.is_home_of(call) {
             return Err(Fault::NoTenant);
         }
+        gate.inside(self.partition, call.arrival);
         self.serve(config, gate, call, follow_up)
     }
 
@@ -387,15 +381,18 @@ impl<J: Naming> ShardState<J> {
     fn serve<G: Gate>(
         &mut self,
         config: &ShardConfig,
-        gate: &G,
+        _gate: &G,
         call: &mut SeatCall<J>,
         follow_up: &mut FollowUp,
     ) -> Result<u64, Fault>
-        requires { (call.old.partition ≡ self.old.partition) × (call.old.parts ≡ self.old.parts) }
+        requires home { (call.old.partition ≡ self.old.partition)
+            × (call.old.parts ≡ self.old.parts) }
+        requires inside { G.is_inside _gate.now self.old.partition call.old.arrival }
         ensures came { CameSo call.new.front call.new.mark call.new.partition call.new.tenant call.new.seat
             call.new.number call.new.message.value result }
-        ensures asked { asked_of call.new ≡ asked_of call.old }
-        ensures mark { call.new.mark ≡ call.old.mark }
+        ensures asked { (asked_of call.new ≡ asked_of call.old) × (call.new.mark ≡ call.old.mark) }
+        ensures unwritten { OnErr result
+            (call.new.message.value.reply ≡ call.old.message.value.reply) }
         ensures takes { TakesCall self.old.book.journals self.old.book.accounts
             self.new.book.accounts call.old.tenant call.old.seat call.old.number
             call.old.message.value.call (λ place. place)
@@ -411,20 +408,26 @@ impl<J: Naming> ShardState<J> {
             → AreShort config.now.epoch self.old.book.accounts
             → AreShort config.now.epoch self.new.book.accounts }
     {
-        gate.inside(self.partition, call.arrival);
-        let place = serve_message(
-            gate,
-            self.partition,
-            call.arrival,
-            &mut self.book,
-            Caller {
-                seat: call.seat,
-                number: call.number,
-            },
+        if call.tenant >= self.book.tenants() {
+            return Err(Fault::NoTenant);
+        }
+        let caller = Caller {
+            seat: call.seat,
+            number: call.number,
+        };
+        let message = &mut *call.message;
+        let served = self.book.serve_into(
+            caller,
             call.tenant,
-            &mut call.message,
+            &message.call,
+            &mut message.reply,
             &mut call.front,
-        )?;
+        );
+        let place = match served {
+            Ok(place) => place,
+            Err(Refusal::Late) => return Err(Fault::Late),
+            Err(_) => return Err(Fault::OutOfMemory),
+        };
         self.count(config, follow_up);
         if is_long(&self.book, config.epoch, call.tenant) {
             follow_up.cuts = true;
@@ -495,47 +498,6 @@ pub fn answer<J: Naming>(
             place,
             reply: reply.unwrap(),
         }),
-        Err(Refusal::Late) => Err(Fault::Late),
-        Err(_) => Err(Fault::OutOfMemory),
-    }
-}
-
-/// Serves a message's call, of which the gate knows as call `nth` of its partition, with the reply written into the message where
-/// the last one lies. Answers its event's place in the journal. The evidence shows that it may be served, and has seen then that it
-/// was.
-fn serve_message<G: Gate, J: Naming>(
-    _gate: &G,
-    _partition: u32,
-    _nth: u64,
-    book: &mut TracedBook<J>,
-    caller: Caller,
-    tenant: u32,
-    message: &mut Message,
-    evidence: &mut Front<J>,
-) -> Result<u64, Fault>
-    requires inside { G.is_inside _gate.now _partition _nth }
-    requires may { ∥ MayServe evidence.old book.old.partition tenant message.old.call ∥₁ }
-    ensures takes { TakesCall book.old.journals book.old.accounts book.new.accounts tenant
-        caller.seat caller.number message.old.call (λ place. place)
-        (λ _. message.new.reply) result }
-    ensures refuses { RefusesSo book.old.accounts tenant caller.seat caller.number result }
-    ensures served { IfOk result
-        (λ place.
-        IsSomeAnd message.new.reply
-        (λ r.
-        StandsBehind evidence.old evidence.new
-        (record { partition = book.old.partition; tenant = tenant; seat = caller.seat; number = caller.number; call = message.old.call }) place r)) }
-    ensures message { message.new ≡ record message.old { reply = message.new.reply } }
-    ensures unwritten { OnErr result (message.new ≡ message.old) }
-    ensures evidence { IsPrefix evidence.old evidence.new }
-    ensures partition { (book.new.partition ≡ book.old.partition)
-        × (book.new.journals ≡ book.old.journals) }
-{
-    if tenant >= book.tenants() {
-        return Err(Fault::NoTenant);
-    }
-    match book.serve_into(caller, tenant, &message.call, &mut message.reply, evidence) {
-        Ok(place) => Ok(place),
         Err(Refusal::Late) => Err(Fault::Late),
         Err(_) => Err(Fault::OutOfMemory),
     }

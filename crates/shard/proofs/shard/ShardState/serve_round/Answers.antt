@@ -1,53 +1,40 @@
-use Rattle.std.proofs.Common.{◌≡◌, ◌<◌, true, false, arith, length, map, ap, ◌∙◌, sym}
+use Rattle.std.proofs.Common.{◌≡◌, ◌<◌, arith, length, refl, ap, ◌∙◌}
 use Rattle.std.proofs.Math.Seq.{map-set_same}
-use Rattle.std.specs.VecDeque.{deque_len, deque_capacity}
-use Rattle.shard.specs.Asked.{asked_by}
-use Rattle.shard.proofs.EventCounts.{notes_on}
+use Rattle.shard.specs.declared.shard.CallState.TheVariants.{Pending, Served}
+use Rattle.shard.specs.Asked.{asked_by, asked_of}
+use Rattle.shard.proofs.EventCounts.{notes_on, one_noted}
 use Rattle.shard.proofs.Rounds.{passed_next, stays_on}
 use Rattle.shard.proofs.shard.ShardState.serve_round.Goals as goal
-use Rattle.shard.proofs.shard.ShardState.serve_round.Goals.{then-is_home_of+then-matches, in-Pending, in_default-matches, else-is_home_of, else-is_home_of-via-then-is_home_of+else-matches, else-is_home_of-via-else-is_home_of}
 
--- the call at this place asks what it asked, and is not left as it was staged where it is for this partition
+-- the call at this place asks what it asked, and is left to the worker
+pub loop-at-preserved-then-leaves : goal.loop-at-preserved-then-leaves
+loop-at-preserved-then-leaves g c =
+    let so_far = c.loop-at.invariant in
+    let calls = c.loop-at.calls in
+    let at = c.loop-at.at in
+    let within : at < length calls.items = omega (arith, c.loop-at-test.true, c.len-at-end.ensures, so_far.1) in (
+      so_far.0,
+      so_far.1,
+      so_far.2,
+      map-set_same asked_by calls.items at _ c.in-Some.staged.now (ap asked_of c.leaves.ensures.call ∙ ap asked_by c.in-Some.ensures.value) ∙ so_far.3,
+      passed_next c.args.self.now.partition c.args.self.now.parts calls.items at _ so_far.4 within (λ still. let left = c.if-leaves.ensures.left refl in cc (left.0, still.2)),
+      so_far.5,
+      so_far.6,
+    )
+
+-- or it was served, or refused
 pub loop-at-preserved : goal.loop-at-preserved
 loop-at-preserved g c =
     let so_far = c.loop-at.invariant in
     let calls = c.loop-at.calls in
     let at = c.loop-at.at in
-    let staged = c.in-Some.staged.now in
-    let within : at < length calls.items = omega (arith, c.loop-at-test.true, c.len-at-end.ensures, so_far.1) in
-    elim c.if-is_home_of.branch [
-      | then-is_home_of+then-matches w ↦ (
-        rw w.self-is (λ short. w.serve_staged.ensures.short (so_far.0 short)),
-        ap deque_len w.calls-is ∙ so_far.1,
-        ap deque_capacity w.calls-is ∙ so_far.2,
-        ap (λ q. map asked_by q.items) w.calls-is ∙ (map-set_same asked_by calls.items at w.serve_staged.new.staged staged (w.serve_staged.ensures.asked ∙ ap asked_by c.in-Some.ensures.value) ∙ so_far.3),
-        rw w.calls-is (passed_next c.args.self.now.partition c.args.self.now.parts calls.items at w.serve_staged.new.staged so_far.4 within (λ still. w.serve_staged.ensures.served still.2)),
-        rw w.self-is (stays_on so_far.5 w.serve_staged.ensures.stays),
-        rw (w.self-is, w.follow_up-is) (notes_on _ _ _ _ _ _ _ _ _ _ _ so_far.6 w.serve_staged.ensures.notes),
-      )
-      | else-is_home_of w ↦
-          elim w.else-is_home_of.branch [
-            | else-is_home_of-via-then-is_home_of+else-matches w' ↦ (
-              rw w.self-is so_far.0,
-              ap deque_len (w.calls-is ∙ w'.calls-is) ∙ so_far.1,
-              ap deque_capacity (w.calls-is ∙ w'.calls-is) ∙ so_far.2,
-              ap (λ q. map asked_by q.items) (w.calls-is ∙ w'.calls-is) ∙ (map-set_same asked_by calls.items at staged staged (ap asked_by c.in-Some.ensures.value) ∙ so_far.3),
-              rw (w.calls-is ∙ w'.calls-is) (passed_next c.args.self.now.partition c.args.self.now.parts calls.items at staged so_far.4 within
-                  (λ still. elim w'.match-matches.branch [ in-Pending w'' ↦ (let both : true ≡ false = sym w''.matches-is ∙ w'.if-matches.false in cc) | in_default-matches w'' ↦ w''.in_default-matches.not-Pending still.2 ])),
-              rw w.self-is so_far.5,
-              rw (w.self-is, w.follow_up-is) so_far.6,
-            )
-            | else-is_home_of-via-else-is_home_of w' ↦ (
-              rw w.self-is so_far.0,
-              ap deque_len (w.calls-is ∙ w'.calls-is) ∙ so_far.1,
-              ap deque_capacity (w.calls-is ∙ w'.calls-is) ∙ so_far.2,
-              ap (λ q. map asked_by q.items) (w.calls-is ∙ w'.calls-is) ∙ (map-set_same asked_by calls.items at staged staged (ap asked_by c.in-Some.ensures.value) ∙ so_far.3),
-              rw (w.calls-is ∙ w'.calls-is) (passed_next c.args.self.now.partition c.args.self.now.parts calls.items at staged so_far.4 within
-                  (λ still.
-                  let home = c.is_home_of.ensures.1 (still.0 ∙ sym so_far.5.partition, still.1 ∙ sym so_far.5.parts) in
-                  let both : true ≡ false = sym home ∙ w'.if-is_home_of.false in cc)),
-              rw w.self-is so_far.5,
-              rw (w.self-is, w.follow_up-is) so_far.6,
-            )
-          ]
-    ]
+    let e = c.serve-outcome.ensures in
+    let within : at < length calls.items = omega (arith, c.loop-at-test.true, c.len-at-end.ensures, so_far.1) in (
+      λ short. e.short (rw c.leaves.ensures.call (c.if-leaves.ensures.short refl)) (so_far.0 short),
+      so_far.1,
+      so_far.2,
+      map-set_same asked_by calls.items at _ c.in-Some.staged.now (e.asked.0 ∙ ap asked_of c.leaves.ensures.call ∙ ap asked_by c.in-Some.ensures.value) ∙ so_far.3,
+      passed_next c.args.self.now.partition c.args.self.now.parts calls.items at _ so_far.4 within (λ still. let served : Served c.serve-outcome.result ≡ Pending = still.2 in cc),
+      stays_on so_far.5 e.stays,
+      notes_on _ _ _ _ _ _ _ _ _ _ _ so_far.6 (one_noted _ _ _ _ _ _ c.serve-outcome.result _ _ _ _ _ _ e.refuses.no_tenant e.takes.taken e.takes.unchanged e.notes),
+    )
