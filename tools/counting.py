@@ -50,7 +50,6 @@ version_chain/src/chains.rt: insert_from
 hub/src/operation.rt: take_replies send_staged
 """ + TO_CELL + """
 prepare_commit/src/cell.rt: apply_into commit_counted
-prepare_commit/src/commit.rt: commit
 version_chain/src/chains.rt: mark_slot
 """,
     "GET": TO_SEAT + """

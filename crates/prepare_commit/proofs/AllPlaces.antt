@@ -1,4 +1,4 @@
--- For the function `commit`. What is left once all versions of a stamp are committed.
+-- For `Cell::commit_counted`. What is left once all versions of a stamp are committed.
 use Rattle.std.proofs.Common.{◌≡◌, inl, inr, ℕ, ◌<◌, ◌≤◌, ◌==◌, ◌&&◌, nat_lt, Bool, true, false, cond, List, [], ◌∷◌, map, take, length, get_or, count_by, sum_by, Option, Some, None, bytes_eq, refl, sym, ap, subst, ◌∙◌, arith}
 use mathlib.Core.Bool.{and-true, and_comm}
 use Rattle.std.specs.List.{list_any, flat_map}

@@ -1,5 +1,5 @@
--- For the function `commit`. The versions of a stamp that are committed one after another, by their places in the list.
-use Rattle.std.proofs.Common.{◌≡◌, ◌≢◌, inl, inr, ℕ, ◌+◌, ◌<◌, ◌≤◌, ◌==◌, ◌&&◌, ◌||◌, Bool, true, false, cond, List, [], ◌∷◌, ◌++◌, map, set, take, length, get_or, sum_by, All, Option, Some, None, bytes_eq, refl, sym, ap, subst, ◌∙◌, arith}
+-- For `Cell::commit_counted`. The versions of a stamp that are committed one after another, by their places in the list.
+use Rattle.std.proofs.Common.{◌≡◌, ◌≢◌, inl, inr, ℕ, ◌+◌, ◌^◌, ◌<◌, ◌≤◌, ◌==◌, ◌&&◌, ◌||◌, Bool, true, false, cond, List, [], ◌∷◌, ◌++◌, map, set, take, length, get_or, sum_by, All, Option, Some, None, bytes_eq, refl, sym, ap, subst, ◌∙◌, arith}
 use mathlib.Core.Bool.{or-false, or_self_left}
 use mathlib.Core.List.{map-map}
 use Rattle.std.specs.List.{list_any, flat_map}
@@ -20,6 +20,7 @@ use Rattle.version_chain.specs.declared.version.Version.{Version}
 use Rattle.version_chain.specs.declared.stamp_list.Kept.{Kept}
 use Rattle.version_chain.specs.Heads.{Heads}
 use Rattle.version_chain.specs.Chain.{Cells, HoldsChains, OtherChainsKept, chain_versions, follow, at_stamp}
+use Rattle.version_chain.specs.Changes.{ListsExactly}
 use Rattle.version_chain.specs.Listed.{is_at_stamp, is_named, chain_of, chain_in, with_latest, Lists, IsSwept, NoneMove}
 use Rattle.version_chain.specs.Sharing.{ChangesOwn}
 use Rattle.version_chain.proofs.Changing.{own_next}
@@ -28,6 +29,7 @@ use Rattle.version_chain.proofs.MarkingListed.{marks}
 use Rattle.version_chain.proofs.Places.{places, place_stamp, place_named}
 use Rattle.version_chain.proofs.Replacing.{same_or_not}
 use Rattle.prepare_commit.specs.declared.items.ChainedItem.{ChainedItem}
+use Rattle.prepare_commit.specs.Calls.{KnowsHeld}
 use Rattle.prepare_commit.specs.Content.{marked_at, has_version_of, HasSameKeys, IsMoved, IsLatest}
 use Rattle.prepare_commit.specs.Layout.{held_in, chain_at, chain_lists, together, item_chains, IsVersionOf, HaveAll}
 use Rattle.prepare_commit.proofs.AllChains.{ItsItem, item_of}
@@ -59,6 +61,15 @@ once_done stamp done versions = cond done (map (marked_at stamp) versions) versi
 -- the items' versions, once all are marked
 abbrev pub marked_together : ℕ → List ChainedItem → List (List Version) → List Version
 marked_together stamp items chains = together (item_chains items (map (map (marked_at stamp)) chains))
+
+-- what is known where the first place is committed
+pub record Begins (block : Cells) (chains : Heads) (index : Index) (changed since : List Bool) : Type 0 where
+  pub stands : HoldsChains block chains
+  pub list : ListsExactly block chains
+  pub few : chains.used < 2 ^ 32
+  pub long : length changed ≡ length chains.heads
+  pub as_long : length since ≡ length chains.heads
+  pub known : KnowsHeld index (held_in block chains)
 
 -- so many places are committed
 pub record SoFar (start now : Cells) (chains heads : Heads) (stamp j : ℕ) (old index : Index) (count before visits : ℕ) : Type 0 where

@@ -25,7 +25,7 @@ use crate::ahead::pack_noted;
 use crate::base::are_marks;
 use crate::changed::ChangedChains;
 use crate::collect::{collect, note_collected};
-use crate::commit::commit;
+use crate::commit::move_item;
 use crate::copies::{has_items, held_items, set_spots};
 use crate::fill::StampedPlace;
 use crate::held::Held;
@@ -355,15 +355,21 @@ impl Cell {
         ensures visits { visits.new ≡ visits.old + result }
     {
         self.versions.sweep(block);
-        commit(
-            block,
-            &mut self.versions.chains,
-            stamp,
-            &mut self.index,
-            &mut self.changed,
-            &mut self.last_base.since,
-            visits,
-        )
+        let (first, end) = self.versions.chains.places_at(stamp);
+        let mut count = 0;
+        for place in 0..end - first {
+            visits.tick();
+            let kept = self.versions.chains.kept_in(first + place);
+            let chain = self.versions.chains.mark_slot(block, kept);
+            self.changed.note(chain);
+            self.last_base.since.note(chain);
+            let Some(latest) = self.versions.chains.latest(block, chain) else {
+                unreachable!();
+            };
+            move_item(&mut self.index, chain, &latest);
+            count += 1;
+        }
+        count
     }
 
     /// Takes back what a write of this stamp left, and refuses it from now on. This call is the store's own. The first of

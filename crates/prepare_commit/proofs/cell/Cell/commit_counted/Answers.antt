@@ -1,24 +1,37 @@
-use Rattle.std.proofs.Common.{◌≡◌, ◌==◌, List, map, length, count_by, sum_by, sym, subst, ap, ◌∙◌, arith}
-use Rattle.version_chain.specs.declared.version.Version.{Version}
-use Rattle.version_chain.specs.Heads.{Heads}
-use Rattle.prepare_commit.specs.declared.items.ChainedItem.{ChainedItem}
-use Rattle.prepare_commit.specs.Calls.{HasAt, MovesItems, NotesChanged}
-use Rattle.prepare_commit.specs.Content.{marked_at}
-use Rattle.prepare_commit.specs.InBlock.{content_in}
-use Rattle.prepare_commit.specs.Layout.{Chained, held_in, chain_at, chain_lists, HaveAll}
 use Rattle.prepare_commit.proofs.AllChains.{count_all}
+use Rattle.prepare_commit.proofs.AllPlaces.{all_marked, all_counted, all_moved}
 use Rattle.prepare_commit.proofs.Chaining.{chains_long}
 use Rattle.prepare_commit.proofs.Committing.{commit_holds, commit_initial, commit_is_served, commit_nothing}
-use Rattle.prepare_commit.proofs.EachPlace.{used_is}
+use Rattle.prepare_commit.proofs.EachPlace.{Begins, is_done, Named, named_start, owner_of, own_so_far, one_more, marked_together, noted_more, all_noted, used_is}
+use Rattle.prepare_commit.proofs.ItemByItem.{latest_marked, latest_key, latest_some}
 use Rattle.prepare_commit.proofs.Lying.{lies_at, has_all}
-use Rattle.prepare_commit.proofs.Moving.{items_known}
+use Rattle.prepare_commit.proofs.Moving.{items_known, moved_none, same_keys-refl, same_keys_set}
 use Rattle.prepare_commit.proofs.Owning.{own_after}
 use Rattle.prepare_commit.proofs.Remembering.{either_noted, settled_noted}
 use Rattle.prepare_commit.proofs.Since.{kept_noted}
-use Rattle.prepare_commit.specs.Remembered.{in_either}
+use Rattle.prepare_commit.specs.Calls.{HasAt, MovesItems, NotesChanged}
+use Rattle.prepare_commit.specs.Content.{IsLatest, IsMoved, HasSameKeys, marked_at}
+use Rattle.prepare_commit.specs.InBlock.{content_in}
+use Rattle.prepare_commit.specs.Layout.{Chained, held_in, chain_at, chain_lists, HaveAll, committed_version, together, item_chains, IsVersionOf}
+use Rattle.prepare_commit.specs.Remembered.{AreNotedWhere, in_either}
 use Rattle.prepare_commit.specs.Spots.{begun_by}
+use Rattle.prepare_commit.specs.declared.items.ChainedItem.{ChainedItem}
+use Rattle.secondary_index.specs.Index.{Index}
+use Rattle.stamps.specs.Record.{Record}
+use Rattle.std.proofs.Common.{◌||◌, ◌≤◌, ◌≡◌, ◌+◌, ◌^◌, ◌<◌, ℕ, Bool, true, false, List, All, length, map, get_or, Option, Some, None, slice_get, refl, sym, ap, subst, ◌∙◌, arith, ◌==◌, count_by, sum_by}
+use Rattle.std.proofs.lemmas.List.{length-set}
+use Rattle.std.specs.FinMap.{contains_key, insert}
+use Rattle.version_chain.proofs.Changing.{own_none}
+use Rattle.version_chain.proofs.Listing.{no_more_listed}
+use Rattle.version_chain.proofs.Places.{places, place_named, places_few, places_long, place_in}
+use Rattle.version_chain.specs.Chain.{chain_versions, committed_records, marked_by, OtherChainsKept}
+use Rattle.version_chain.specs.Heads.{Heads}
+use Rattle.version_chain.specs.Listed.{is_named, chain_in, with_latest, Lists, IsSwept}
+use Rattle.version_chain.specs.declared.version.Version.{Version}
+use mathlib.Core.Bool.{or-false}
+use Rattle.prepare_commit.specs.declared.cell.Cell.TheInside.{Inside}
 use Rattle.prepare_commit.proofs.cell.Cell.commit_counted.Goals as goal
-use Rattle.prepare_commit.proofs.cell.Cell.commit_counted.Goals.{After-sweep}
+use Rattle.prepare_commit.proofs.cell.Cell.commit_counted.Goals.{After-sweep, After-kept_in-kept, After-mark_slot-chain}
 
 pub sweep-requires : goal.sweep-requires
 sweep-requires c = (lies_at c.args.block.now _ _ c.self.view_is c.requires.lies).versions
@@ -30,9 +43,9 @@ view c = ap (held_in c.args.block.now) c.sweep.ensures.rest
 have : (c : After-sweep) (items : List ChainedItem) → HaveAll items (held_in c.args.block.now c.self.inside.versions.chains) → HaveAll items (held_in c.args.block.now c.sweep.new.self.chains)
 have c items all = subst (λ (h : Chained). HaveAll items h) (sym (view c)) all
 
-pub commit-requires : goal.commit-requires
-commit-requires c =
-    let at = (goal.at.commit-requires c).After-sweep in
+-- the start
+begins : (c : After-sweep) → Begins c.args.block.now c.sweep.new.self.chains c.self.inside.index c.self.inside.changed c.self.inside.last_base.since
+begins c =
     let block = c.args.block.now in
     let items = c.self.inside.entries.items in
     let start = c.self.inside.versions.chains in
@@ -44,50 +57,228 @@ commit-requires c =
       few = omega (arith, lies.holds.fits, c.self.invariant.2, ap (λ (h : Heads). h.used) rest);
       long = omega (arith, c.self.invariant.7, lies.holds.chains, chains_long block start, ap (λ (h : Heads). length h.heads) rest);
       as_long = omega (arith, c.self.invariant.8, lies.holds.chains, chains_long block start, ap (λ (h : Heads). length h.heads) rest);
-      before = c.requires.before;
-      known = (items, have at items (has_all _ _ lies c.self.invariant.0), items_known c.self.inside.index.tags items lies.holds.knows);
+      known = (items, have c items (has_all _ _ lies c.self.invariant.0), items_known c.self.inside.index.tags items lies.holds.knows);
     }
+
+pub loop-place-init : goal.loop-place-init
+loop-place-init c =
+    let at = (goal.at.loop-place-init c).After-sweep in
+    let start = begins at in
+    record {
+      begins = start;
+      so_far = record {
+        stands = start.stands;
+        rest = refl;
+        own = own_none c.args.block.now c.sweep.new.self.chains;
+        listed = start.list.listed;
+        swept = start.list.swept;
+        stays = λ slot stamp. refl;
+        places_stay = λ slot. refl;
+        chained = λ chain known. refl;
+        within = omega arith;
+        counted = refl;
+        visited = omega arith;
+        room = refl;
+        keys = same_keys-refl c.self.inside.index.tags;
+        moved = λ items have. moved_none c.args.stamp (marked_together c.args.stamp items (chain_lists c.args.block.now c.sweep.new.self.chains)) c.self.inside.index.tags;
+      };
+      long = refl;
+      noted = λ chain. sym (or-false (get_or c.self.inside.changed chain false));
+      as_long = refl;
+      since = λ chain. sym (or-false (get_or c.self.inside.last_base.since chain false));
+      rest = refl;
+    }
+
+within : (c : After-kept_in-kept) → c.loop-place.place < length (places c.sweep.new.self.chains c.args.stamp)
+within c = omega (arith, c.loop-place-test.true, (places_long c.sweep.new.self.chains c.args.stamp c.places_at-first.result.0 c.places_at-first.result.1 c.places_at-first.ensures))
+
+is : (c : After-kept_in-kept) → c.kept_in-kept.result ≡ get_or (places c.sweep.new.self.chains c.args.stamp) c.loop-place.place c.kept_in-kept.result
+is c =
+    place_in c.sweep.new.self.chains c.args.stamp c.places_at-first.result.0 c.places_at-first.result.1 c.places_at-first.ensures c.loop-place.place c.kept_in-kept.result c.loop-place-test.true
+    (c.kept_in-kept.ensures ∙ ap (λ (h : Heads). get_or h.kept (c.places_at-first.result.0 + c.loop-place.place) c.kept_in-kept.result) c.loop-place.invariant.so_far.rest)
+
+few : (c : After-kept_in-kept) → c.loop-place.place + 1 < 2 ^ 32
+few c =
+    let least = within c in
+    let listed = no_more_listed c.args.block.now c.sweep.new.self.chains c.loop-place.invariant.begins.stands c.loop-place.invariant.begins.list.listed c.loop-place.invariant.begins.list.swept in
+    omega (arith, least, listed, places_few c.sweep.new.self.chains c.args.stamp, c.loop-place.invariant.begins.few)
+
+named : (c : After-kept_in-kept) → Named c.args.block.now c.sweep.new.self.chains c.args.stamp c.kept_in-kept.result
+named c = named_start _ _ _ _ _ _ _ _ _ _ _ _ c.loop-place.invariant.begins.stands (within c) (is c) c.loop-place.invariant.so_far
+
+pub overflow_add-count : goal.overflow_add-count
+overflow_add-count c = omega (arith, few (goal.at.overflow_add-count c).After-kept_in-kept, c.loop-place.invariant.so_far.counted)
+
+pub tick-requires : goal.tick-requires
+tick-requires c =
+    let listed = no_more_listed c.args.block.now c.sweep.new.self.chains c.loop-place.invariant.begins.stands c.loop-place.invariant.begins.list.listed c.loop-place.invariant.begins.list.swept in
+    omega (arith, c.loop-place-test.true, (places_long c.sweep.new.self.chains c.args.stamp c.places_at-first.result.0 c.places_at-first.result.1 c.places_at-first.ensures), listed, places_few c.sweep.new.self.chains c.args.stamp, c.loop-place.invariant.begins.few, c.loop-place.invariant.so_far.visited, c.requires.before)
+
+-- the chain of the place has the versions of an item that the index knows
+known_at : (c : After-kept_in-kept)
+    → (key : List ℕ) × All (IsVersionOf key) (chain_versions c.loop-place.block c.loop-place.self-inside.versions.chains (chain_in c.loop-place.block c.kept_in-kept.result.slot)) × (contains_key c.loop-place.self-inside.index.tags key ≡ true)
+known_at c =
+    let start = named c in
+    let known = c.loop-place.invariant.begins.known in
+    let owner = owner_of c.args.block.now c.sweep.new.self.chains (chain_in c.args.block.now c.kept_in-kept.result.slot) c.args.stamp start.version.prepared known.0 c.loop-place.invariant.begins.stands start.known start.found known.1 in
+    let i = owner.item.i in (
+      i.entry.key,
+      subst (λ (h : Heads). All (IsVersionOf i.entry.key) (chain_versions c.loop-place.block h (chain_in c.loop-place.block c.kept_in-kept.result.slot))) (sym c.loop-place.invariant.so_far.rest)
+          (own_so_far _ _ _ _ _ _ _ _ _ _ _ _ c.loop-place.invariant.begins.stands (within c) (is c) c.loop-place.invariant.so_far i.entry.key owner.own),
+      c.loop-place.invariant.so_far.keys.keys i.entry.key ∙ ap (λ (x : ChainedItem). contains_key c.self.inside.index.tags x.entry.key) owner.item.is ∙ known.2 owner.item.k i owner.item.within,
+    )
+
+pub mark_slot-chain-requires-clause-named : goal.mark_slot-chain-requires-clause-named
+mark_slot-chain-requires-clause-named c =
+    let at = (goal.at.mark_slot-chain-requires-clause-named c).After-kept_in-kept in
+    subst (λ (h : Heads). is_named h.tenant c.loop-place.block c.kept_in-kept.result ≡ true) (sym c.loop-place.invariant.so_far.rest)
+    (place_named _ c.sweep.new.self.chains c.args.stamp _ _ (within at) (is at) c.loop-place.invariant.so_far.swept)
+
+-- the versions that the chain had are of the item
+own : (c : After-mark_slot-chain) (key : List ℕ) → All (IsVersionOf key) (chain_versions c.loop-place.block c.loop-place.self-inside.versions.chains (chain_in c.loop-place.block c.kept_in-kept.result.slot))
+    → All (IsVersionOf key) (chain_versions c.loop-place.block c.loop-place.self-inside.versions.chains c.mark_slot-chain.result)
+own c key all = subst (λ n. All (IsVersionOf key) (chain_versions c.loop-place.block c.loop-place.self-inside.versions.chains n)) (sym c.mark_slot-chain.ensures.place) all
+
+in_range : (c : After-mark_slot-chain) → c.mark_slot-chain.result < length c.mark_slot-chain.new.self.heads
+in_range c = subst (λ (h : Heads). c.mark_slot-chain.result < length h.heads) (sym c.mark_slot-chain.ensures.only.rest) c.mark_slot-chain.ensures.known
+
+-- what is reported is the latest
+latest : (c : After-mark_slot-chain) (key : List ℕ) → All (IsVersionOf key) (chain_versions c.loop-place.block c.loop-place.self-inside.versions.chains c.mark_slot-chain.result)
+    → (o : Option Record) → o ≡ slice_get (committed_records (chain_versions c.mark_slot-chain.new.block c.mark_slot-chain.new.self c.mark_slot-chain.result)) 0
+    → IsLatest key (chain_versions c.mark_slot-chain.new.block c.mark_slot-chain.new.self c.mark_slot-chain.result) (committed_version o)
+latest c key all o is = latest_marked c.kept_in-kept.result.stamp key _ _ c.mark_slot-chain.ensures.marked all (c.mark_slot-chain.ensures.changed.stands.falling c.mark_slot-chain.result (in_range c)) o is
+
+in_index : (c : After-mark_slot-chain) (key : List ℕ) → All (IsVersionOf key) (chain_versions c.loop-place.block c.loop-place.self-inside.versions.chains c.mark_slot-chain.result) → contains_key c.loop-place.self-inside.index.tags key ≡ true
+    → (u : Record) → Some u ≡ slice_get (committed_records (chain_versions c.mark_slot-chain.new.block c.mark_slot-chain.new.self c.mark_slot-chain.result)) 0 → contains_key c.loop-place.self-inside.index.tags u.key ≡ true
+in_index c key all there u is =
+    ap (contains_key c.loop-place.self-inside.index.tags) (latest_key c.kept_in-kept.result.stamp key _ _ c.mark_slot-chain.ensures.marked all (record { prepared = u; committed = true }) (latest c key all (Some u) is)) ∙ there
+
+pub latest-requires : goal.latest-requires
+latest-requires c = record { known = in_range (goal.at.latest-requires c).After-mark_slot-chain; stands = c.mark_slot-chain.ensures.changed.stands }
+
+pub note-requires : goal.note-requires
+note-requires c = omega (arith, c.mark_slot-chain.ensures.known, c.loop-place.invariant.long, c.loop-place.invariant.begins.long, ap (λ (h : Heads). length h.heads) c.loop-place.invariant.so_far.rest)
+
+pub note-requires-in-loop-place : goal.note-requires-in-loop-place
+note-requires-in-loop-place c = omega (arith, c.mark_slot-chain.ensures.known, c.loop-place.invariant.as_long, c.loop-place.invariant.begins.as_long, ap (λ (h : Heads). length h.heads) c.loop-place.invariant.so_far.rest)
+
+-- there is one
+pub unreachable-requires : goal.unreachable-requires
+unreachable-requires c =
+    let known = known_at (goal.at.unreachable-requires c).After-kept_in-kept in
+    let at = (goal.at.unreachable-requires c).After-mark_slot-chain in
+    let done = c.mark_slot-chain.ensures in
+    let all = own at known.0 known.1 in
+    latest_some c.kept_in-kept.result.stamp known.0 _ _ done.marked all (c.loop-place.invariant.so_far.stands.falling c.mark_slot-chain.result done.known) done.found (latest at known.0 all None c.in_default.ensures)
+
+pub move_item-requires : goal.move_item-requires
+move_item-requires c =
+    let known = known_at (goal.at.move_item-requires c).After-kept_in-kept in
+    let at = (goal.at.move_item-requires c).After-mark_slot-chain in
+    in_index at known.0 (own at known.0 known.1) known.2 c.in-Some.latest c.in-Some.ensures
+
+pub loop-place-preserved : goal.loop-place-preserved
+loop-place-preserved c =
+    let at = (goal.at.loop-place-preserved c).After-kept_in-kept in
+    let marked = (goal.at.loop-place-preserved c).After-mark_slot-chain in
+    let known = known_at at in
+    let done = c.mark_slot-chain.ensures in
+    let chain = c.mark_slot-chain.result in
+    let chain_is : chain ≡ chain_in c.args.block.now c.kept_in-kept.result.slot = done.place ∙ c.loop-place.invariant.so_far.places_stay c.kept_in-kept.result.slot in
+    let heads : Heads = c.loop-place.self-inside.versions.chains in
+    let after : Heads = c.mark_slot-chain.new.self in
+    let next = c.mark_slot-chain.new.block in
+    let before : Index = c.loop-place.self-inside.index in
+    let index : Index = c.move_item.new.index in
+    let was = c.loop-place.invariant.so_far in
+    let u = c.in-Some.latest in
+    let tags : index.tags ≡ insert before.tags u.key u.tag = ap (λ (x : Index). x.tags) c.move_item.ensures in
+    let rest : after ≡ with_latest c.sweep.new.self.chains after.latest = done.only.rest ∙ ap (λ (h : Heads). with_latest h after.latest) was.rest in
+    let less : chain < length c.loop-place.self-inside.changed = omega (arith, done.known, c.loop-place.invariant.long, c.loop-place.invariant.begins.long, ap (λ (h : Heads). length h.heads) was.rest) in
+    let within_since : chain < length c.loop-place.self-inside.last_base.since = omega (arith, done.known, c.loop-place.invariant.as_long, c.loop-place.invariant.begins.as_long, ap (λ (h : Heads). length h.heads) was.rest) in
+    let Facts : ℕ → Type 0 = λ n.
+    OtherChainsKept c.loop-place.block heads next after n × (chain_versions next after n ≡ map (marked_by c.kept_in-kept.result.stamp) (chain_versions c.loop-place.block heads n))
+    × ((key : List ℕ) → All (IsVersionOf key) (chain_versions c.loop-place.block heads n) → (v : Version) × IsLatest key (chain_versions next after n) (Some v) × (index.tags ≡ insert before.tags key v.prepared.tag)) in
+    let moved : (key : List ℕ) → All (IsVersionOf key) (chain_versions c.loop-place.block heads chain) → (v : Version) × IsLatest key (chain_versions next after chain) (Some v) × (index.tags ≡ insert before.tags key v.prepared.tag) = λ key all.
+    let last : Version = record { prepared = u; committed = true } in
+    let is = latest marked key all (Some u) c.in-Some.ensures in
+    (last, is, tags ∙ ap (λ k. insert before.tags k u.tag) (latest_key c.kept_in-kept.result.stamp key _ _ done.marked all last is)) in
+    let facts : Facts (chain_in c.loop-place.block c.kept_in-kept.result.slot) = subst Facts done.place (done.changed.others, done.marked, moved) in
+    let keys = subst (HasSameKeys before.tags) (sym tags) (same_keys_set before.tags u.key u.tag (in_index marked known.0 (own marked known.0 known.1) known.2 u c.in-Some.ensures)) in
+    rw c.tick.ensures (record {
+      begins = c.loop-place.invariant.begins;
+      so_far = one_more _ _ _ _ _ _ _ _ _ _ _ _ c.loop-place.invariant.begins.stands (within at) (is at) was next after index done.changed.stands rest (done.only.stays, facts.0, facts.1, facts.2) done.places done.changed.own (ap (λ (x : Index). x.room) c.move_item.ensures) keys;
+      long = ap length c.note.ensures ∙ length-set c.loop-place.self-inside.changed chain true ∙ c.loop-place.invariant.long;
+      noted = λ n. ap (λ (bs : List Bool). get_or bs n false) c.note.ensures
+          ∙ noted_more c.args.block.now (places c.sweep.new.self.chains c.args.stamp) c.loop-place.place c.kept_in-kept.result (within at) (is at) c.self.inside.changed c.loop-place.self-inside.changed chain chain_is less c.loop-place.invariant.noted n;
+      as_long = ap length c.note-in-loop-place.ensures ∙ length-set c.loop-place.self-inside.last_base.since chain true ∙ c.loop-place.invariant.as_long;
+      since = λ n. ap (λ (bs : List Bool). get_or bs n false) c.note-in-loop-place.ensures
+          ∙ noted_more c.args.block.now (places c.sweep.new.self.chains c.args.stamp) c.loop-place.place c.kept_in-kept.result (within at) (is at) c.self.inside.last_base.since c.loop-place.self-inside.last_base.since chain chain_is within_since c.loop-place.invariant.since n;
+      rest = ap (λ (s : Inside). record s {
+        versions = record s.versions { chains = after };
+        index = index;
+        changed = c.note.new.self;
+        last_base = record s.last_base { since = c.note-in-loop-place.new.self };
+      }) c.loop-place.invariant.rest;
+    })
 
 pub returns : goal.returns
 returns c =
     let at = (goal.at.returns c).After-sweep in
-    let done = c.commit.ensures in
+    let was = c.loop-place.invariant in
+    let so_far = was.so_far in
+    let stands = was.begins.stands in
+    let listed = was.begins.list.listed in
+    let no_other = was.begins.list.swept in
     let block = c.args.block.now in
-    let start = c.self.inside.versions.chains in
+    let after = c.loop-place.block in
+    let old = c.self.inside in
+    let new = c.loop-place.self-inside in
+    let start = old.versions.chains in
     let swept : Heads = c.sweep.new.self.chains in
-    let heads : Heads = c.commit.new.chains in
-    let after = c.commit.new.block in
+    let heads : Heads = new.versions.chains in
     let lies = lies_at block _ _ c.self.view_is c.requires.lies in
     let few = c.self.invariant.0 in
     let seen = view at in
+    let end : length (places swept c.args.stamp) ≤ c.loop-place.place = omega (arith, c.loop-place-test.false, (places_long swept c.args.stamp c.places_at-first.result.0 c.places_at-first.result.1 c.places_at-first.ensures)) in
     let test = λ (v : Version). v.prepared.stamp == c.args.stamp in
-    let own = own_after block start swept c.sweep.ensures.rest after heads done.own in
+    let own = own_after block start swept c.sweep.ensures.rest after heads so_far.own in
     let marked : held_in after heads ≡ record { share = start.share; used = start.used; chains = map (map (marked_at c.args.stamp)) (chain_lists block start) } =
-    let lists = done.marked ∙ ap (λ (h : Chained). map (map (marked_at c.args.stamp)) h.chains) seen in
-    let share = ap (λ (h : Heads). h.share) done.rest ∙ ap (λ (h : Chained). h.share) seen in
-    let used = ap (λ (h : Heads). h.used) done.rest ∙ ap (λ (h : Chained). h.used) seen in
+    let lists = ap (λ (h : Heads). chain_lists after h) so_far.rest ∙ all_marked _ _ _ stands listed no_other _ _ _ _ _ _ _ _ so_far end ∙ ap (λ (h : Chained). map (map (marked_at c.args.stamp)) h.chains) seen in
+    let share = ap (λ (h : Heads). h.share) so_far.rest ∙ ap (λ (h : Chained). h.share) seen in
+    let used = ap (λ (h : Heads). h.used) so_far.rest ∙ ap (λ (h : Chained). h.used) seen in
     λ i. record { share = share i; used = used i; chains = lists i } in
-    let count : HasAt c.args.stamp (held_in block start) c.commit.result =
+    let count : HasAt c.args.stamp (held_in block start) c.loop-place.count =
     λ items all.
-    done.count ∙ ap (λ (h : Chained). sum_by (count_by test) h.chains) seen
+    all_counted _ _ _ stands listed no_other _ _ _ _ _ _ _ _ so_far end ∙ ap (λ (h : Chained). sum_by (count_by test) h.chains) seen
     ∙ sym (count_all items (held_in block start) all (used_is block start lies.versions.stands) test) in
-    let moved : MovesItems c.args.stamp (held_in block start) (chain_lists after heads) c.self.inside.index c.commit.new.index =
-    record { room = done.moved.room; keys = done.moved.keys; moved = λ items all. done.moved.moved items (have at items all) } in
-    let noted : NotesChanged c.self.inside.changed c.commit.new.changed (chain_lists block start) (chain_lists after heads) = record {
-      long = done.noted.long;
-      noted = λ chain free. (let both = done.noted.noted chain free in (both.0, both.1 ∙ ap (λ (h : Chained). chain_at h.chains chain) seen));
+    let moved : MovesItems c.args.stamp (held_in block start) (chain_lists after heads) old.index new.index = record {
+      room = so_far.room;
+      keys = so_far.keys;
+      moved = λ items all.
+          subst (λ (h : Heads). let all = together (item_chains items (chain_lists after h)) in IsMoved c.args.stamp all all old.index.tags new.index.tags) (sym so_far.rest)
+          (all_moved _ _ _ stands listed no_other _ _ _ _ _ _ _ _ so_far end items (have at items all));
     } in
-    let since : NotesChanged c.self.inside.last_base.since c.commit.new.since (chain_lists block start) (chain_lists after heads) = record {
-      long = done.since.long;
-      noted = λ chain free. (let both = done.since.noted chain free in (both.0, both.1 ∙ ap (λ (h : Chained). chain_at h.chains chain) seen));
-    } in
-    record {
+    let noted : (before now : List Bool) → ((chain : ℕ) → get_or now chain false ≡ (get_or before chain false || is_done block (places swept c.args.stamp) c.loop-place.place chain))
+    → AreNotedWhere before now (chain_lists block start) (chain_lists after heads) =
+    λ before now are chain free.
+    let both = subst (λ (h : Heads). AreNotedWhere before now (chain_lists block swept) (chain_lists after h)) (sym so_far.rest)
+    (all_noted block after swept heads c.args.stamp c.loop-place.place _ _ _ _ _ so_far before now are) chain free in
+    (both.0, both.1 ∙ ap (λ (h : Chained). chain_at h.chains chain) seen) in
+    let changed : AreNotedWhere old.changed new.changed (chain_lists block start) (chain_lists after heads) = noted old.changed new.changed was.noted in
+    let since : NotesChanged old.last_base.since new.last_base.since (chain_lists block start) (chain_lists after heads) =
+    record { long = was.as_long; noted = noted old.last_base.since new.last_base.since was.since } in
+    rw was.rest (record {
       served = record {
         lies = record {
-          versions = record { stands = done.stands; listed = done.list.listed; swept = λ _. done.list.swept };
-          remembers = λ keep e. settled_noted keep c.self.inside.changed c.commit.new.changed _ _ (chain_lists after heads) noted.noted (lies.remembers keep e);
-          remembers_least = λ keep e. settled_noted keep (in_either c.self.inside.left c.self.inside.changed) (in_either c.self.inside.left c.commit.new.changed) _ _ (chain_lists after heads) (either_noted c.self.inside.left c.self.inside.changed c.commit.new.changed _ (chain_lists after heads) noted.noted) (lies.remembers_least keep e);
-          since = kept_noted (begun_by c.self.inside.last_base) c.self.inside.last_base.since c.commit.new.since _ _ (chain_lists after heads) since.noted lies.since;
+          versions = record {
+            stands = so_far.stands;
+            listed = subst (λ (h : Heads). Lists after h) (sym so_far.rest) (record { named = record { once = so_far.listed.named.once; all = so_far.listed.named.all }; marked = so_far.listed.marked });
+            swept = λ _. subst (λ (h : Heads). IsSwept after h) (sym so_far.rest) so_far.swept;
+          };
+          remembers = λ keep e. settled_noted keep old.changed new.changed _ _ (chain_lists after heads) changed (lies.remembers keep e);
+          remembers_least = λ keep e. settled_noted keep (in_either old.left old.changed) (in_either old.left new.changed) _ _ (chain_lists after heads) (either_noted old.left old.changed new.changed _ (chain_lists after heads) changed) (lies.remembers_least keep e);
+          since = kept_noted (begun_by old.last_base) old.last_base.since new.last_base.since _ _ (chain_lists after heads) since.noted lies.since;
           holds = commit_holds _ _ _ heads _ _ _ lies few marked count moved;
         };
         own = rw (← c.self.view_is) own;
@@ -95,5 +286,5 @@ returns c =
       };
       initial = commit_initial _ _ _ heads _ _ _ lies few marked count moved;
       nothing = λ none. commit_nothing _ _ _ heads _ _ _ lies few marked count moved none ∙ ap (content_in block) c.self.view_is;
-      visits = done.visits;
-    }
+      visits = so_far.visited ∙ ap (λ n. c.args.visits.now + n) (sym so_far.counted);
+    })
