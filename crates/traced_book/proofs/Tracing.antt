@@ -1,6 +1,6 @@
 -- What a partition has of the history, from one step to the next.
-use Rattle.std.proofs.Common.{◌≡◌, ◌≢◌, ◌⊎◌, ◌∙◌, ℕ, ◌+◌, ◌<◌, ◌≤◌, Bool, true, false, List, [], ◌∷◌, ◌++◌, length, map, reverse, Option, Some, None, ⊎_elim, inl, inr, refl, ap, sym, subst, arith, append_assoc, length-append}
-use Rattle.std.specs.Prelude.{◌^◌, slice_get, IfOk, IfErr, IsErrAnd, IsSomeAnd, IsTrue, MatchBool, OnErr, Result, Ok, Err}
+use Rattle.std.proofs.Common.{◌≡◌, ◌≢◌, ◌∙◌, ℕ, ◌+◌, ◌<◌, ◌≤◌, Bool, true, false, List, [], ◌∷◌, ◌++◌, length, map, reverse, Option, Some, None, ⊎_elim, refl, ap, sym, subst, arith, append_assoc, length-append}
+use Rattle.std.specs.Prelude.{◌^◌, slice_get, IfOk, IsSomeAnd, IsTrue, MatchBool, OnErr, Result, Ok, Err}
 use Rattle.std.specs.List.{cons_option, filter_map}
 use Rattle.std.specs.Option.{option_map}
 use Rattle.std.proofs.lemmas.Bool.Decides.{eqb_tells}
@@ -24,8 +24,6 @@ use Rattle.history.specs.declared.entry.CallToServe.{CallToServe}
 use Rattle.history.specs.declared.entry.HistoryEntry.{HistoryEntry}
 use Rattle.history.specs.Asking.{served_by}
 use Rattle.history.specs.declared.entry.HistoryEntry.TheVariants.{Opened, Joined, Arrived, Began, Decided, GivenUp, ReadBegan, Drew, Passed, Served}
-use Rattle.plain_store.specs.declared.refusal.Refusal.{Refusal}
-use Rattle.plain_store.specs.declared.refusal.Refusal.TheVariants.{Late, OutOfMemory, NoTenant}
 use Rattle.history.specs.declared.entry.ServedCall.{ServedCall}
 use Rattle.history.specs.declared.entry.StoreOpening.{StoreOpening}
 use Rattle.history.specs.Entries.{but_last, calls_of, calls_served, count, limits_of, own, reply_in, room_in, room_of, served_at, served_to, StandsBehind}
@@ -369,14 +367,14 @@ entered_or_not true k entries asked mine start evidence now few same counted pre
 entered_or_not false k entries asked mine start evidence now few same counted pre shown other behind = none_taken k entries mine start now same counted pre other
 
 -- a book that passes a fault on refuses so
-pub refused_so : (r : Result ℕ Refusal) (e : Refusal) (A : Type 0) → ((e ≡ Late) ⊎ ((e ≡ OutOfMemory) ⊎ ((e ≡ NoTenant) × A))) → IsErrAnd r (λ x. x ≡ e)
-    → IfErr r (λ x. (x ≡ Late) ⊎ ((x ≡ OutOfMemory) ⊎ (x ≡ NoTenant)))
-refused_so (Ok x) e A told is = absurd is
-refused_so (Err x) e A (inl late) is = inl (is ∙ late)
-refused_so (Err x) e A (inr (inl memory)) is = inr (inl (is ∙ memory))
-refused_so (Err x) e A (inr (inr other)) is = inr (inr (is ∙ other.0))
-
 -- ---- what serving a call comes to
+
+-- The call is one more of the tenant's, with this reply and at this place, and the admission agreed.
+pub record IsServed (keeps : Bool) (old new : List Account) (tenant seat number : ℕ) (call : Call) (reply : Option Reply) (at : ℕ) (Admitted : Type 0) : Type 0 where
+  pub taken : IsSomeAnd reply (λ r. IsTaken keeps old new tenant (event seat number call r))
+  pub told : IsSomeAnd reply (λ r. IsReplyInEpoch old tenant call r)
+  pub place : at ≡ before_at old tenant + length (events_at old tenant) + 1
+  pub admitted : Admitted
 
 place_at : (accounts : List Account) (tenant : ℕ) (account : Account) → slice_get accounts tenant ≡ Some account
     → before_at accounts tenant + length (events_at accounts tenant) ≡ account.start.before + length account.events

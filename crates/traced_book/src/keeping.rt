@@ -1,14 +1,12 @@
 //! What a partition keeps of the calls that it served.
-ghost use Rattle.std.specs.Prelude.{◌≡◌, ◌⊎◌, ◌<◌, ◌^◌, ◌↔◌, None, Some, false, true, slice_get, length, IfOk, IfErr, IfSome, OnOk, OnErr, IsErrOf};
-ghost use Rattle.partition.specs.Accounts.{Account, events_at, places, IsCut, IsPastAt};
-ghost use Rattle.partition.specs.Journals.{IsLate};
+ghost use Rattle.std.specs.Prelude.{◌≡◌, ◌⊎◌, ◌<◌, ◌↔◌, None, Some, false, true, slice_get, length, IfOk, IfErr, IfSome, OnErr, IsErrOf};
+ghost use Rattle.partition.specs.Accounts.{Account, events_at, IsCut, IsPastAt};
 ghost use Rattle.partition.specs.Used.{IsUsageOf};
-ghost use Rattle.traced_book.specs.Forgetting.{TakesCall};
 ghost use Rattle.traced_book.specs.Kept.{accounts_in, has_journals};
 
 use crate::bare_shelf::BareShelf;
-use partition::{Book, CallAdmission, Caller, Epoch, Usage};
-use plain_store::{Call, Refusal, Reply};
+use partition::{Book, Epoch, Usage};
+use plain_store::Refusal;
 
 /// The cells of a partition, with journals of what they served, or without. Contracts see the tenants' accounts.
 #[derive(Drop)]
@@ -66,43 +64,6 @@ impl Keeping {
         match self {
             Keeping::Journals(book) => Some(book),
             Keeping::CellsAlone(_) => None,
-        }
-    }
-
-    /// Has a tenant's cell serve a call, where the admission agrees, and enters its event into the journal, if there is one. Answers
-    /// which one of the tenant's calls it is, from 1, as `Book::serve_admitted` and `BareShelf::serve_admitted` report.
-    pub fn serve_admitted<A: CallAdmission>(
-        &mut self,
-        caller: Caller,
-        tenant: u32,
-        call: &Call,
-        reply: &mut Option<Reply>,
-        admission: &mut A,
-    ) -> Result<u64, Refusal>
-        requires tenant { tenant < length (accounts_in self.old) }
-        requires few { (account : Account) → slice_get (accounts_in self.old) tenant ≡ Some account
-            → places account < 2 ^ 63 }
-
-        ensures takes { TakesCall (has_journals self.old) (accounts_in self.old)
-            (accounts_in self.new) tenant caller.seat caller.number call.now (λ place. place)
-            (λ _. reply.new) result }
-        ensures journals { has_journals self.new ≡ has_journals self.old }
-        ensures admitted { OnOk result (A.admits admission.old admission.new) }
-        ensures refused { OnErr result ((admission.new ≡ admission.old)
-            ⊎ A.refuses admission.old admission.new) }
-
-        ensures late { IsErrOf result Refusal.Late
-            ↔ IsLate (events_at (accounts_in self.old) tenant) caller.seat caller.number }
-        ensures refusals { IfErr result (λ e. (e ≡ Refusal.Late)
-            ⊎ ((e ≡ Refusal.OutOfMemory)
-            ⊎ ((e ≡ Refusal.NoTenant) × A.refuses admission.old admission.new))) }
-        ensures unwritten { OnErr result (reply.new ≡ reply.old) }
-    {
-        match self {
-            Keeping::Journals(book) => book.serve_admitted(caller, tenant, call, reply, admission),
-            Keeping::CellsAlone(shelf) => {
-                shelf.serve_admitted(caller, tenant, call, reply, admission)
-            }
         }
     }
 

@@ -240,9 +240,14 @@ impl<J: Naming> TracedBook<J> {
             asked,
             now: self.front.again(),
         };
-        let place = self
-            .kept
-            .serve_admitted(caller, tenant, call, reply, &mut entering)?;
+        let place = match &mut self.kept {
+            Keeping::Journals(book) => {
+                book.serve_admitted(caller, tenant, call, reply, &mut entering)?
+            }
+            Keeping::CellsAlone(shelf) => {
+                shelf.serve_admitted(caller, tenant, call, reply, &mut entering)?
+            }
+        };
         let Entering { now, .. } = entering;
         *evidence = now.again();
         self.front = now;
