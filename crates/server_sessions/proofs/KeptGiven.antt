@@ -1,5 +1,5 @@
 -- Transcripts that are kept: each reply in them has its place in what was seen.
-use Rattle.std.proofs.Common.{◌≡◌, ℕ, List, [], ◌∷◌, ◌++◌, Option, Some, None, Result, Ok, Err, cond, refl, sym, subst}
+use Rattle.std.proofs.Common.{◌≡◌, List, [], ◌∷◌, ◌++◌, Option, Some, None, Result, Ok, Err, cond, refl, sym, subst}
 use Rattle.std.specs.Result.{is_ok}
 use Rattle.std.specs.Prelude.{All, IfSome}
 use Rattle.std.proofs.Math.Logic.{∥∥₁_map}

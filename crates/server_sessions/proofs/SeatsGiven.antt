@@ -1,11 +1,11 @@
 -- The replies among a seat's entries, each at its place in what the seat has seen.
-use Rattle.std.proofs.Common.{◌≡◌, ◌+◌, ℕ, zero, suc, List, [], ◌++◌, Option, Some, None, refl, sym, ap, subst, arith}
+use Rattle.std.proofs.Common.{◌≡◌, ℕ, zero, suc, List, [], refl, sym, ap, subst, arith}
 use Rattle.std.proofs.lemmas.List.Elements.{All-nil}
 use Rattle.closed_store.specs.declared.transcript.Transcript.{Transcript}
 use Rattle.history.specs.declared.entry.HistoryEntry.{HistoryEntry}
 use Rattle.shard.specs.declared.seat_name.SeatName.{SeatName}
 use Rattle.hub.specs.Operations.{IsLater}
-use Rattle.hub.specs.Replies.{AreServed, IsServedFor}
+use Rattle.hub.specs.Replies.{IsServedFor}
 use Rattle.hub.specs.Seats.{IsNamed, SeatView, sight}
 use Rattle.hub.proofs.Given.{IsLaterSight, served-both, served-later, served-same}
 use Rattle.server_sessions.specs.Histories.{IsGivenIn, sight_in}

@@ -1,10 +1,9 @@
 -- What the client of a connection is answered, answer by answer.
-use Rattle.std.proofs.Common.{◌≡◌, ◌<◌, ◌+◌, ◌*◌, ℕ, zero, suc, Bool, true, false, cond, nat_lt, List, [], ◌∷◌, ◌++◌, length, take, Option, Some, None, Result, Ok, Err, refl, sym, ap, subst, inl, inr, arith, ◌∙◌, append_assoc}
+use Rattle.std.proofs.Common.{◌≡◌, ◌<◌, ◌+◌, ℕ, zero, suc, Bool, true, false, cond, nat_lt, List, [], ◌∷◌, ◌++◌, length, take, Option, Some, None, Result, Ok, Err, refl, sym, ap, subst, inl, inr, arith, ◌∙◌, append_assoc}
 use Rattle.std.proofs.lemmas.List.{append-nil}
 use Rattle.std.proofs.lemmas.List.Elements.{filter_map-append}
 use Rattle.std.proofs.lemmas.List.Concat.{flat_map-append}
 use Rattle.std.specs.Prelude.{◌⊎◌, IfSome, IfOk, IfErr, OnOk}
-use Rattle.std.specs.Option.{option_map}
 use Rattle.std.specs.List.{flat_map, filter_map, cons_option}
 use Rattle.std.specs.Io.KnownBytes.{Appends, Keeps}
 use Rattle.std.proofs.KnownBytes.{Appends-kept, Appends-nil, Appends-trans}
@@ -20,9 +19,8 @@ use Rattle.entry_list.specs.declared.kinds.Entry.TheVariants.{Began}
 use Rattle.entry_list.specs.Raises.{raise_entries}
 use Rattle.hub.specs.Limits.{max_calls}
 use Rattle.hub.specs.Clocks.{IsRaised, MayBeRaised, PutsByClock}
-use Rattle.hub.specs.Seats.{SeatView, Follows, IsEntered, IsLeftBy, IsNamed, answer_in, is_of_worker, recorded}
+use Rattle.hub.specs.Seats.{SeatView, Follows, IsEntered, IsLeftBy, answer_in, is_of_worker, recorded}
 use Rattle.shard.specs.declared.seat_name.SeatName.{SeatName}
-use Rattle.closed_store.specs.declared.transcript.Transcript.{Transcript}
 use Rattle.line_protocol.specs.AnswerSpelling.{answer_line}
 use Rattle.line_protocol.specs.declared.request.Request.{Request}
 use Rattle.line_protocol.specs.declared.request.Request.TheVariants.{Hello, Put, Get, Find, Keep, Info, Bye}
@@ -31,7 +29,7 @@ use Rattle.server_sessions.specs.Answered.{IsEndOf, IsOfSeat}
 use Rattle.server_sessions.specs.Histories.{IsGivenIn}
 use Rattle.server_sessions.specs.Said.{Aside, Declines, Shows, aside_line, asides_text, ready_line}
 use Rattle.server_sessions.specs.SeatAnswers.{AreGiven, IsAnswered, IsAnsweredAndDrained, IsDrained, IsFresh, IsPut, IsServedWith, IsToldBySeat, IsToldNext, Nothing, OneMore, ReportsFind, ReportsGet, Returned}
-use Rattle.server_sessions.specs.Telling.{Telling, Entered, Refuses, KeepsSo, Informs, telling_line, answers_entered, tellings_text, IsLeftOf, IsReplaced, HasHeard, WasHeard, WasTold, Tells, HasTold, SessionLeft, IsLastLine, IsWritten, IsBegun, BreaksTelling, HasName, IsSeated, seat_tenant}
+use Rattle.server_sessions.specs.Telling.{Telling, Entered, Refuses, KeepsSo, Informs, telling_line, answers_entered, tellings_text, IsLeftOf, IsReplaced, HasHeard, WasHeard, WasTold, Tells, HasTold, SessionLeft, IsLastLine, IsWritten, IsBegun, BreaksTelling, HasName, IsSeated}
 use Rattle.server_sessions.proofs.SeatsGiven.{drained_name, given_at_end, given_drained, given_fresh, given_later}
 use Rattle.line_runs.proofs.Fronts.{begins_behind_gathered}
 use Rattle.line_runs.proofs.Gathering.{Gathers-end, Gathers-none, Gathers-text, Gathers-trans, Gathers-written}

@@ -1,6 +1,6 @@
 -- A line that could not be read: for `Connection::answer`.
-use Rattle.std.proofs.Common.{◌≡◌, Bool, ℕ, List, [], Option, Some, None, Result, Ok, Err, sym, ap, subst, inl, inr}
-use Rattle.std.specs.Prelude.{IfNone, IfSome, IsTrue}
+use Rattle.std.proofs.Common.{◌≡◌, Bool, ℕ, List, Option, Some, None, Result, Ok, Err, sym, ap, subst, inr}
+use Rattle.std.specs.Prelude.{IfNone, IsTrue}
 use Rattle.plain_store.specs.declared.refusal.Refusal.{Refusal}
 use Rattle.plain_store.specs.declared.refusal.Refusal.TheVariants.{BadLine}
 use Rattle.plain_store.specs.declared.answer.Answer.TheVariants.{Refused}
@@ -9,13 +9,11 @@ use Rattle.hub.specs.Seats.{SeatView}
 use Rattle.line_protocol.specs.ServeSpelling.{IsNoServeLine, RefusesLine}
 use Rattle.server_sessions.specs.declared.session_options.SessionOptions.{SessionOptions}
 use Rattle.server_sessions.specs.declared.line_session.SessionEnd.{SessionEnd}
-use Rattle.server_sessions.specs.declared.line_session.SessionEnd.TheVariants.{Unread}
 use Rattle.server_sessions.specs.Answering.{GoesOnBehind, IsLineAnswered, refused_as}
-use Rattle.server_sessions.specs.Answered.{EndsBefore, StaysBehind}
-use Rattle.server_sessions.specs.Promised.{AnswersLine, EndsAtLine}
+use Rattle.server_sessions.specs.Promised.{AnswersLine}
 use Rattle.server_sessions.specs.Said.{Said, Answers, said_line}
 use Rattle.server_sessions.specs.Telling.{Tells}
-use Rattle.server_sessions.proofs.ToldOf.{Tells-cause, Tells-same}
+use Rattle.server_sessions.proofs.ToldOf.{Tells-cause}
 
 -- it is refused
 pub unread_told : (r : Option SessionEnd) (newest : Bool) (epoch : ℕ) (old new : Option SeatView) (answer : Said) (cause : Refusal) → new ≡ old → IfNone r (answer ≡ Answers (Refused cause))
@@ -39,21 +37,6 @@ pub unread_goes_on : {A : Type 0} (r : Option SessionEnd) (options : SessionOpti
 unread_goes_on (Some ending) options seat line refusal bad h = tt
 unread_goes_on None options seat line refusal bad h = λ strict none no_line. h strict none (ap cause_of (bad no_line))
 
--- or it ends the session
-pub unread_untold : (r : Option SessionEnd) (newest : Bool) (epoch : ℕ) (old new : Option SeatView) → new ≡ old → IfSome r (λ ending. Tells newest epoch old new [])
-unread_untold None newest epoch old new same = tt
-unread_untold (Some ending) newest epoch old new same = subst (λ (s : Option SeatView). Tells newest epoch old s []) (sym same) (Tells-same newest epoch old)
-
-pub unread_ends : (r : Option SessionEnd) (options : SessionOptions) (seat : Option SeatView) (line : List ℕ) (refusal : Refusal) → RefusesLine line refusal
-    → IfSome r (λ ending. (ending ≡ Unread) × IsTrue options.strict × (seat ≡ None) × (refusal ≡ BadLine)) → IfSome r (λ ending. EndsBefore options seat ending line)
-unread_ends None options seat line refusal refuses h = tt
-unread_ends (Some ending) options seat line refusal refuses (is, strict, none, bad) =
-    subst (λ (e : SessionEnd). EndsBefore options seat e line) (sym is) (strict, none, subst (RefusesLine line) bad refuses)
-
-pub unread_left : (r : Option SessionEnd) (epoch : ℕ) (old new : Option SeatView) → new ≡ old → IfSome r (λ ending. StaysBehind epoch old new)
-unread_left None epoch old new same = tt
-unread_left (Some ending) epoch old new same = inl same
-
 -- ---- all of that
 
 pub unread_line : (r : Option SessionEnd) (options : SessionOptions) (hub : ConfigView) (names : List (List ℕ)) (line : List ℕ) (old : Option SeatView) (answer : Said) (new : Option SeatView)
@@ -61,8 +44,3 @@ pub unread_line : (r : Option SessionEnd) (options : SessionOptions) (hub : Conf
     → IfNone r (AnswersLine options hub names line old answer new)
 unread_line (Some ending) options hub names line old answer new told is goes_on = tt
 unread_line None options hub names line old answer new told is goes_on = record { told = told; line = is; goes_on = goes_on }
-
-pub unread_at : (r : Option SessionEnd) (options : SessionOptions) (hub : ConfigView) (line : List ℕ) (old new : Option SeatView) → IfSome r (λ ending. Tells options.newest hub.epoch old new [])
-    → IfSome r (λ ending. EndsBefore options old ending line) → IfSome r (λ ending. StaysBehind hub.epoch old new) → IfSome r (λ ending. EndsAtLine options hub line old new ending)
-unread_at None options hub line old new untold ends left = tt
-unread_at (Some ending) options hub line old new untold ends left = record { untold = untold; ends = ends; left = left }

@@ -1,19 +1,18 @@
 //! A session: the lines of one connection, answered by a running store.
-ghost use Rattle.std.specs.Prelude.{◌≡◌, ◌+◌, ◌<◌, ◌≤◌, ◌++◌, true, false, length, take, ℕ, List, [], ◌↔◌, Option, Some, None, IfSome, IfNone, IsSome, IsTrue, IfOk, IfErr, OnOk};
+ghost use Rattle.std.specs.Prelude.{◌≡◌, ◌+◌, ◌<◌, ◌≤◌, ◌++◌, false, length, take, ℕ, List, [], ◌↔◌, Option, Some, None, IfSome, IfNone, IsSome, IsTrue, IfOk, IfErr, OnOk};
 ghost use Rattle.std.specs.Option.{option_map};
 ghost use Rattle.std.specs.Io.KnownBytes.{Appends, Keeps};
 ghost use Rattle.plain_store.specs.declared.answer.Answer.TheVariants.{Refused};
 ghost use Rattle.plain_store.specs.declared.refusal.Refusal.TheVariants.{BadLine, NoTenant, OutOfMemory};
-ghost use Rattle.line_protocol.specs.declared.request.Request.TheVariants.{Bye};
 ghost use Rattle.line_protocol.specs.AnswerSpelling.{answer_line};
 ghost use Rattle.server_sessions.specs.Said.{Answers, said_line};
 ghost use Rattle.line_protocol.specs.StepSpelling.{IsNumberOf};
 ghost use Rattle.line_protocol.specs.Stream.{HasNoLineFeed, IsLine, terminated};
 ghost use Rattle.line_runs.specs.RunAnswers.{Gathers};
 ghost use Rattle.line_runs.specs.declared.fault.RunFault.TheVariants.{Write as IsWrite};
-ghost use Rattle.server_sessions.specs.Answered.{BreaksOffIn, IsEndOf, StaysBehind, TakesBytes, TakesInput};
+ghost use Rattle.server_sessions.specs.Answered.{BreaksOffIn, IsEndOf, TakesBytes, TakesInput};
 ghost use Rattle.server_sessions.specs.declared.line_session.SessionEnd.TheVariants.{Unread};
-ghost use Rattle.server_sessions.specs.Answering.{Greets, IsAnsweredBy, IsEndOfInput, IsGreeted, last_line, no_options, refused_as};
+ghost use Rattle.server_sessions.specs.Answering.{Greets, IsEndOfInput, IsGreeted, last_line, no_options, refused_as};
 ghost use Rattle.server_sessions.specs.Departed.{GivesBack};
 ghost use Rattle.server_sessions.specs.Counting.{IsCounted, counted_last, counted_said};
 ghost use Rattle.server_sessions.specs.Promised.{AnswersLine, EndsAtLine, HasRun, KeepsTelling, MayAnswer};
@@ -490,15 +489,34 @@ impl<'s, G: Gate + Naming> Connection<'s, G> {
         ensures ended { IfSome result (λ ending. EndsAtLine self.old.terms.options hub.now line.now
             self.old.seat self.new.seat ending) }
     {
-        match read_serve_line(self.alloc, line) {
-            Ok(request) => {
-                if self.answer_request(rt, hub, &request) {
-                    None
-                } else {
-                    Some(SessionEnd::Bye)
-                }
+        let request = match read_serve_line(self.alloc, line) {
+            Ok(request) => request,
+            Err(refusal) => return self.answer_unread(refusal),
+        };
+        let SessionOptions { newest, store, .. } = self.terms.options;
+        if matches!(request, Request::Info) {
+            self.answer.inform(store, newest);
+            return None;
+        }
+        if let Some(seat) = &mut self.seat {
+            let is_answered = ask_seat(rt, hub, newest, seat, &request, &mut self.answer);
+            drain_seat(hub, seat);
+            return if is_answered {
+                None
+            } else {
+                Some(SessionEnd::Bye)
+            };
+        }
+        match &request {
+            Request::Hello(name, client, base) => {
+                self.hello(rt, hub, name, *client, *base);
+                None
             }
-            Err(refusal) => self.answer_unread(refusal),
+            Request::Put(_) | Request::Get(_) | Request::Find(_) | Request::Keep(_) => {
+                self.answer.refuse(Refusal::NoSession);
+                None
+            }
+            Request::Info | Request::Bye => Some(SessionEnd::Bye),
         }
     }
 
@@ -572,44 +590,6 @@ impl<'s, G: Gate + Naming> Connection<'s, G> {
             × (self.now.answer ≡ Answers (Refused OutOfMemory))) }
     {
         self.seat.is_some() && self.answer.is_want_of_memory()
-    }
-
-    fn answer_request<H: Wait>(&mut self, rt: &H, hub: &'s Hub<G>, request: &Request) -> bool
-        requires tenant { IsSeated self.old.seat self.old.terms.names.now }
-        ensures terms { self.new.terms ≡ self.old.terms }
-        ensures tenant { IsSeated self.new.seat self.new.terms.names.now }
-        ensures told { result ≡ true
-            → Tells self.old.terms.options.newest hub.now.epoch self.old.seat self.new.seat
-            (said_line self.new.answer) }
-        ensures bye { result ≡ false
-            → Tells self.old.terms.options.newest hub.now.epoch self.old.seat self.new.seat [] }
-        ensures answered { let terms = self.old.terms in
-            result ≡ true → IsAnsweredBy terms.options hub.now terms.names.now request.now
-            self.old.seat self.new.answer self.new.seat }
-        ensures said_bye { result ≡ false → request.now ≡ Bye }
-        ensures left { result ≡ false → StaysBehind hub.now.epoch self.old.seat self.new.seat }
-    {
-        let SessionOptions { newest, store, .. } = self.terms.options;
-        if matches!(request, Request::Info) {
-            self.answer.inform(store, newest);
-            return true;
-        }
-        if let Some(seat) = &mut self.seat {
-            let is_answered = ask_seat(rt, hub, newest, seat, request, &mut self.answer);
-            drain_seat(hub, seat);
-            return is_answered;
-        }
-        match request {
-            Request::Hello(name, client, base) => {
-                self.hello(rt, hub, name, *client, *base);
-                true
-            }
-            Request::Put(_) | Request::Get(_) | Request::Find(_) | Request::Keep(_) => {
-                self.answer.refuse(Refusal::NoSession);
-                true
-            }
-            Request::Info | Request::Bye => false,
-        }
     }
 
     // Opens the connection's seat, and answers that.
