@@ -26,11 +26,9 @@ TO_SEAT = """
 server_sessions/src/line_session.rt: answer_lines answer_piece answer_waiting answer
 server_sessions/src/given.rt: ask_seat
 """
-TO_CALLS = """
-hub/src/operation.rt: perform exchange
-"""
 TO_CELL = """
-hub/src/dispatcher.rt: dispatch serve_free
+hub/src/operation.rt: perform exchange
+hub/src/dispatcher.rt: dispatch
 shard/src/shard.rt: serve_round serve
 traced_book/src/traced.rt: serve_into
 partition/src/book.rt: serve_admitted
@@ -39,22 +37,20 @@ partition/src/shelf.rt: apply_into
 TO_PUT = TO_SEAT + """
 hub/src/by_clock.rt: put_by_clock_into
 hub/src/seat.rt: run
-""" + TO_CALLS
+""" + TO_CELL
 WALKS = {
-    "PREPARE": TO_PUT + TO_CELL + """
+    "PREPARE": TO_PUT + """
 prepare_commit/src/cell.rt: apply_into prepare
 prepare_commit/src/versions.rt: insert
 version_chain/src/chains.rt: insert_from
 """,
     "COMMIT": TO_PUT + """
-hub/src/operation.rt: take_replies send_staged
-""" + TO_CELL + """
 prepare_commit/src/cell.rt: apply_into commit_counted
 version_chain/src/chains.rt: mark_slot
 """,
     "GET": TO_SEAT + """
 hub/src/seat.rt: get_all_into run
-""" + TO_CALLS + TO_CELL + """
+""" + TO_CELL + """
 prepare_commit/src/cell.rt: apply_into get
 prepare_commit/src/versions.rt: latest
 version_chain/src/chains.rt: latest

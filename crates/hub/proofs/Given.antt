@@ -155,14 +155,6 @@ IsStagedOn old new =
     (new.name ≡ old.name) × (new.first ≡ old.first) × (old.dispatcher.sent ≤ new.dispatcher.sent) × (new.entries ≡ old.entries) × (new.seen ≡ old.seen)
     × (new.session ≡ old.session) × (new.place ≡ old.place) × (new.mark ≡ old.mark)
 
--- so after calls that were staged
-pub served-on : (name other last after-last : SeatSight) (first since sent later after : ℕ) (start entries begun next : List Entry) → other ≡ name → after-last ≡ last → since ≡ first → sent ≤ later → begun ≡ entries
-    → ((from : List Entry) → AreServed other since (since + later) from begun → AreServed after-last since (since + after) from next) → AreServed name first (first + sent) start entries
-    → AreServed last first (first + after) start next
-served-on name other last after-last first since sent later after start entries begun next same ends begins most is goes are =
-    served-same after-last last since first (since + after) (first + after) start next next (sym ends) (sym begins) (omega (arith, begins)) refl
-    (goes start (served-same name other first since (first + sent) (since + later) start entries begun same begins (omega (arith, begins, most)) is are))
-
 -- a reply that came to the seat
 came-given : (name : SeatSight) (seen : List HistoryEntry) (mark : Mark) (partition tenant seat number place : ℕ) (message : Message) (outcome : Result ℕ Fault) (reply : Reply)
     → IsPrefix seen name.seen → outcome ≡ Ok place → message.reply ≡ Some reply → tenant ≡ name.tenant → seat ≡ name.seat

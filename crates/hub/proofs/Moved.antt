@@ -22,7 +22,7 @@ use Rattle.hub.specs.Taken.{replies_in}
 use Rattle.hub.specs.declared.operation.AnswerRoom.{AnswerRoom}
 use Rattle.hub.specs.declared.operation.RunningOperation.{RunningOperation}
 use Rattle.hub.proofs.Entries.{follows-same, follows-told}
-use Rattle.hub.proofs.Given.{IsStagedOn, operations, prefix_is, served-later, served-on, served-same, sights}
+use Rattle.hub.proofs.Given.{IsStagedOn, operations, prefix_is, served-later, served-same, sights}
 
 -- what was read of a request, in other words
 reads_same : (sight other : OperationSight) (setup : Setup) (asked : Asked) (start entries next : List Entry) (running after : Option Running) (told also : Option Answer) → other ≡ sight → next ≡ entries → after ≡ running → also ≡ told
@@ -75,49 +75,19 @@ module _ {G : Type 0} {naming : Ghosts G} where
             served-same (sight_of old.name new.seen) (sight_of old.name new.seen) first first last last start mid.entries.items new.entries.items refl refl (omega arith) items later;
       }
 
-  -- so calls that were staged before replies are taken
-  pub runs_staged : (takes : ℕ) (own : Stamp) (old mid new : RunningOperation G naming) (before after : Answer) → IsStagedOn old mid → TakesReplies takes own mid before new after → TakesReplies takes own old before new after
-  runs_staged takes own old mid new before after (name, first, sent, entries, seen, session, place, mark) runs =
+  -- calls that are staged take no reply, and enter nothing
+  pub runs_begun : (takes : ℕ) (own : Stamp) (old staged : RunningOperation G naming) (answer : Answer) → IsStagedOn old staged → TakesReplies takes own old answer staged answer
+  runs_begun takes own old staged answer (name, first, sent, entries, seen, session, place, mark) =
       let items = ap (λ e. e.items) entries in
-      let told = ap (λ p. told_by p before) place in
+      let told = ap (λ p. told_by p answer) place in
       record {
-        few = omega (arith, runs.few, ap replies_in items);
-        entered = λ start follows. runs.entered start (follows-told start _ _ mid.entries.items (sym told) (follows-same start _ old.entries.items mid.entries.items items follows));
+        few = omega (arith, ap replies_in items);
+        entered = λ start follows. follows-told start _ _ staged.entries.items (sym told) (follows-same start _ old.entries.items staged.entries.items items follows);
         read = λ setup asked start stamped reads.
-            reads_same (operation_of mid.name mid.mark new.seen) (operation_of old.name old.mark new.seen) setup asked start new.entries.items new.entries.items new.session.running new.session.running _ _
-            (operations _ _ _ _ _ _ (sym name) (sym mark) refl) refl refl refl
-            (runs.read setup asked start stamped
-            (reads_same (operation_of old.name old.mark old.seen) (operation_of mid.name mid.mark mid.seen) setup asked start old.entries.items mid.entries.items old.session.running mid.session.running _ _
-            (operations _ _ _ _ _ _ name mark seen) items (ap (λ (s : ClientSession). s.running) session) told reads));
-        served = λ start are. served-on _ _ _ _ _ _ _ _ _ start _ _ _ (sights _ _ _ _ name seen) (sights _ _ _ _ name refl) first sent items runs.served are;
-        counter = omega (arith, runs.counter, ap (λ (s : ClientSession). s.counter) session);
-        goes_on = record {
-          name = runs.goes_on.name ∙ name;
-          first = runs.goes_on.first ∙ first;
-          seen = prefix_join _ _ _ (prefix_is _ _ (sym seen)) runs.goes_on.seen;
-          mark = runs.goes_on.mark ∙ mark;
-        };
-      }
-
-  -- and so what is sent behind them
-  pub runs_sent : (takes : ℕ) (own : Stamp) (old mid new : RunningOperation G naming) (before after : Answer) → IsStagedOn mid new → TakesReplies takes own old before mid after → TakesReplies takes own old before new after
-  runs_sent takes own old mid new before after (name, first, sent, entries, seen, session, place, mark) runs =
-      let items = ap (λ e. e.items) entries in
-      let told = ap (λ p. told_by p after) place in
-      record {
-        few = omega (arith, runs.few, ap replies_in items);
-        entered = λ start follows. follows-told start _ _ new.entries.items (sym told) (follows-same start _ mid.entries.items new.entries.items items (runs.entered start follows));
-        read = λ setup asked start stamped reads.
-            reads_same (operation_of old.name old.mark mid.seen) (operation_of old.name old.mark new.seen) setup asked start mid.entries.items new.entries.items mid.session.running new.session.running _ _
-            (operations old.name old.name _ _ _ _ refl refl seen) items (ap (λ (s : ClientSession). s.running) session) told (runs.read setup asked start stamped reads);
+            reads_same (operation_of old.name old.mark old.seen) (operation_of old.name old.mark staged.seen) setup asked start old.entries.items staged.entries.items old.session.running staged.session.running _ _
+            (operations old.name old.name _ _ _ _ refl refl seen) items (ap (λ (s : ClientSession). s.running) session) told reads;
         served = λ start are.
-            served-same _ _ old.first old.first (old.first + mid.dispatcher.sent) (old.first + new.dispatcher.sent) start mid.entries.items new.entries.items (sights old.name old.name _ _ refl seen) refl (omega (arith, sent)) items
-            (runs.served start are);
-        counter = omega (arith, runs.counter, ap (λ (s : ClientSession). s.counter) session);
-        goes_on = record {
-          name = name ∙ runs.goes_on.name;
-          first = first ∙ runs.goes_on.first;
-          seen = prefix_join _ _ _ runs.goes_on.seen (prefix_is _ _ (sym seen));
-          mark = mark ∙ runs.goes_on.mark;
-        };
+            served-same _ _ old.first old.first (old.first + old.dispatcher.sent) (old.first + staged.dispatcher.sent) start old.entries.items staged.entries.items (sights old.name old.name _ _ refl seen) refl (omega (arith, sent)) items are;
+        counter = omega (arith, ap (λ (s : ClientSession). s.counter) session);
+        goes_on = record { name = name; first = first; seen = prefix_is _ _ (sym seen); mark = mark };
       }

@@ -8,7 +8,6 @@ use Rattle.plain_store.specs.History.{Intent}
 use Rattle.plain_store.specs.Words.{Setup, Stamp}
 use Rattle.history.specs.declared.rule.Naming.{Ghosts}
 use Rattle.hub.specs.Evidence.{IsUnderWay}
-use Rattle.hub.specs.Rooms.{HasRoom}
 use Rattle.hub.specs.Replies.{AreServed, IsStampOf, IsToldOf, Reads}
 use Rattle.hub.specs.Seats.{EndsSo, Extends, Follows, at_seat, spare, told_by}
 use Rattle.hub.specs.Sights.{OperationSight, operation_of, sight_of}
@@ -118,19 +117,6 @@ pub record SendsOn {G : Type 0} {naming : Ghosts G} (old new : RunningOperation 
   pub readings : new.readings ≡ old.readings
   pub mark : new.mark ≡ old.mark
   pub seen : IsPrefix old.seen new.seen
-
--- What was staged is sent, or the first fault is that it could not be. There is as much room as before, and all else is as it was.
-pub record SendsStaged {G : Type 0} {naming : Ghosts G} (old new : RunningOperation G naming) : Type 0 where
-  pub room : (calls : ℕ) → HasRoom calls old.dispatcher → HasRoom calls new.dispatcher
-  pub first_fault : IsSome old.fault → new.fault ≡ old.fault
-  pub counted : new.dispatcher.sent ≡ old.dispatcher.sent
-  pub name : new.name ≡ old.name
-  pub session : new.session ≡ old.session
-  pub entries : new.entries ≡ old.entries
-  pub first : new.first ≡ old.first
-  pub place : new.place ≡ old.place
-  pub mark : new.mark ≡ old.mark
-  pub seen : new.seen ≡ old.seen
 
 -- ---- a move that is followed, and replies that are taken
 

@@ -154,13 +154,6 @@ impl<'a, G: Naming> Dispatcher<'a, G> {
         self.served > 0 || self.queued > 0
     }
 
-    /// Whether calls are staged that `dispatch` has not taken yet.
-    pub(crate) fn has_staged(&self) -> bool
-        ensures { IsTrue result ↔ (self.now.served < deque_len self.now.calls) }
-    {
-        self.served < self.calls.len()
-    }
-
     /// A reply that is there, or else waits for one. It fails where none can come.
     fn receive<R: Wait>(&mut self, rt: &R) -> Result<SeatReply<G>, RecvError>
         ensures first { 0 < self.old.served
@@ -418,18 +411,12 @@ impl<'a, G: Gate + Naming> Dispatcher<'a, G> {
             → self.new.queued ≡ self.old.queued
             → map asked_by self.new.calls.items ≡ map asked_by self.old.calls.items }
     {
+        if self.served == self.calls.len() {
+            return true;
+        }
         if self.queued > 0 {
             return self.hand_over(rt);
         }
-        let left = self.serve_free(rt);
-        self.serve_held(rt, left);
-        self.hand_over(rt)
-    }
-
-    /// Serves the staged calls whose partitions are free, and answers the place of the first one whose partition was not.
-    fn serve_free<R: Wait>(&mut self, rt: &R) -> usize
-        ensures { ServesHere self.old self.new }
-    {
         let shards = self.shards;
         let mut left = self.calls.len();
         for at in self.served..self.calls.len() {
@@ -451,7 +438,8 @@ impl<'a, G: Gate + Naming> Dispatcher<'a, G> {
                 }
             }
         }
-        left
+        self.serve_held(rt, left);
+        self.hand_over(rt)
     }
 
     /// Waits for the partitions of the staged calls from this place on that are left, and serves them.

@@ -1,5 +1,5 @@
 //! One operation of a seat: its calls go out, and their replies come in until each is answered.
-ghost use Rattle.std.specs.Prelude.{◌≡◌, ◌<◌, ◌≤◌, ◌+◌, ◌^◌, ◌↔◌, ℕ, true, None, Some, IfSome, IsTrue, is_some};
+ghost use Rattle.std.specs.Prelude.{◌≡◌, ◌<◌, ◌≤◌, ◌+◌, ◌^◌, ◌↔◌, ℕ, true, None, Some, IfSome, IsNone, IsSome, IsTrue, is_some};
 ghost use mathlib.Core.List.{IsPrefix};
 ghost use Rattle.history.specs.Entries.{HasMark};
 ghost use Rattle.history.specs.Legal.{IsDecided, IsGivenUp, IsLegal};
@@ -102,6 +102,17 @@ fn counter_below(drawn: Option<u64>) -> Option<Counter>
     ensures { IfSome result (λ base. drawn ≡ Some (base + 1)) }
 {
     Counter::new(drawn?.checked_sub(1)?)
+}
+
+/// The fault that was there, if there was one, and else that of no tenant where not all went well.
+fn first_fault(fault: Option<Fault>, is_well: bool) -> Option<Fault>
+    ensures first { IsSome fault → result ≡ fault }
+    ensures none { IsNone result → IsTrue is_well }
+{
+    if is_well {
+        return fault;
+    }
+    Some(fault.unwrap_or(Fault::NoTenant))
 }
 
 /// Writes a refusal into `answer`. Kept out of line, so that no caller reserves stack space for a second `Answer`, of some 3,200
@@ -256,7 +267,7 @@ impl<'a, G: Gate + Naming> RunningOperation<'a, G> {
     ghost use Rattle.entry_list.specs.declared.kinds.Entry.{Entry as Entered};
     ghost use Rattle.shard.specs.declared.jobs.Fault.{Fault as Broken};
     ghost use Rattle.hub.specs.Limits.{max_calls};
-    ghost use Rattle.hub.specs.Operating.{BeginsAs, FollowsMove, GoesOnAs, IsSameSeat, IsUnderWayAt, KeepsSession, OnlyEnters, OnlySends, ReadsAt, SeesMore, SendsOn, SendsStaged, StagesOne, StillFollows, StillServed, TakesReplies};
+    ghost use Rattle.hub.specs.Operating.{BeginsAs, FollowsMove, GoesOnAs, IsSameSeat, IsUnderWayAt, KeepsSession, OnlyEnters, OnlySends, ReadsAt, SeesMore, SendsOn, StagesOne, StillFollows, StillServed, TakesReplies};
     ghost use Rattle.hub.specs.Rooms.{HasPlaces, HasRoom, awaited};
     ghost use Rattle.tenant_sessions.specs.CallsLeft.{calls_left, calls_waiting, calls_sent};
     ghost use Rattle.plain_store.specs.declared.refusal.Refusal.{Refusal as Why};
@@ -429,7 +440,8 @@ impl<'a, G: Gate + Naming> RunningOperation<'a, G> {
                     return Err(Fault::NoTenant);
                 };
                 self.mark = mark;
-                self.exchange(rt, own, takes, answer)
+                self.exchange(rt, own, takes, answer);
+                self.outcome()
             }
             Err(refusal) => {
                 tell_refusal(refusal, answer);
@@ -561,48 +573,26 @@ impl<'a, G: Gate + Naming> RunningOperation<'a, G> {
         sent > 0
     }
 
-    /// Runs the operation that the session has begun, under this stamp if it writes: sends its calls, and takes replies until each
-    /// call was answered, or so many were taken.
-    fn exchange<R: Wait>(
-        &mut self,
-        rt: &R,
-        own: Stamp,
-        takes: usize,
-        answer: &mut Answer,
-    ) -> Result<(), Fault>
-        requires place { IsSome self.old.place }
-        requires room { max_calls + 5 ≤ self.old.entries.room }
+    /// How the operation ended: with its first fault, and as one of no tenant where nothing was answered.
+    fn outcome(&self) -> Result<(), Fault>
+        ensures { result ≡ outcome_of self.now.fault self.now.place }
+    {
+        match self.fault {
+            Some(fault) => Err(fault),
+            None if self.place.is_some() => Err(Fault::NoTenant),
+            None => Ok(()),
+        }
+    }
+
+    /// Sends the calls of the operation that the session has begun, under this stamp if it writes, and takes replies until each call was
+    /// answered, or so many were taken, or none can come. What a reply has the session ask for is sent before the next one is taken. A
+    /// reply that is still to come then is a fault.
+    fn exchange<R: Wait>(&mut self, rt: &R, own: Stamp, takes: usize, answer: &mut Answer)
+        requires room { max_calls + spare self.old.place ≤ self.old.entries.room }
         requires calls { HasRoom (calls_waiting self.old.session.running
             + calls_left self.old.session.running) self.old.dispatcher }
         requires puts { ∥ AreOfPuts
             self.old.seen self.old.name.tenant (waiting_of self.old.session.running) ∥₁ }
-        requires under_way { IsUnderWayAt
-            (operation_of self.old.name self.old.mark self.old.seen) own self.old answer.old }
-        ensures outcome { result ≡ outcome_of self.new.fault self.new.place }
-        ensures ends { OnOk result (is_final answer.new ≡ true) }
-        ensures awaited { OnOk result (awaited self.new.dispatcher ≡ 0) }
-        ensures answered { OnOk result (IsNone self.new.place) }
-        ensures runs { TakesReplies takes own self.old answer.old self.new answer.new }
-    {
-        self.stage_calls(false);
-        if !self.dispatcher.dispatch(rt) {
-            self.fault = Some(Fault::NoTenant);
-        }
-        self.take_replies(rt, own, takes, answer);
-        if let Some(fault) = self.fault {
-            return Err(fault);
-        }
-        if self.place.is_some() {
-            return Err(Fault::NoTenant);
-        }
-        Ok(())
-    }
-
-    /// Takes replies until each call was answered, or so many were taken, or none can come, and sends what each has the session ask for.
-    /// One that is still to come then is a fault.
-    fn take_replies<R: Wait>(&mut self, rt: &R, own: Stamp, takes: usize, answer: &mut Answer)
-        requires room { max_calls + spare self.old.place ≤ self.old.entries.room }
-        requires calls { HasRoom (calls_left self.old.session.running) self.old.dispatcher }
         requires under_way { IsUnderWayAt
             (operation_of self.old.name self.old.mark self.old.seen) own self.old answer.old }
         ensures over { IsSome self.old.fault
@@ -611,42 +601,28 @@ impl<'a, G: Gate + Naming> RunningOperation<'a, G> {
         ensures ends { EndsSo self.old.place answer.old → EndsSo self.new.place answer.new }
         ensures runs { TakesReplies takes own self.old answer.old self.new answer.new }
     {
-        for taken in 0..MOST_CALLS {
-            if taken >= takes || !self.dispatcher.awaits() {
+        self.stage_calls(false);
+        let most = takes.min(MOST_CALLS);
+        for taken in 0..MOST_CALLS + 1 {
+            let sent = self.dispatcher.dispatch(rt);
+            self.fault = first_fault(self.fault, sent);
+            if taken >= most || !self.dispatcher.awaits() {
                 break;
             }
             let Some(reply) = self
                 .dispatcher
                 .next_reply(rt, &self.name, self.first, self.mark)
             else {
-                self.fault = Some(self.fault.unwrap_or(Fault::NoTenant));
+                self.fault = first_fault(self.fault, false);
                 break;
             };
             self.seen.learn(&reply.front);
             self.enter_reply(own, &reply, answer);
-            self.send_staged(rt);
             let SeatReply { message, .. } = reply;
             let dispatcher = &mut self.dispatcher;
             dispatcher.pool.keep(message);
         }
-        if self.dispatcher.awaits() {
-            self.fault = Some(self.fault.unwrap_or(Fault::NoTenant));
-        }
-    }
-
-    // Sends what is staged. That it could not be is a fault, if there was none before.
-    #[inline(always)]
-    fn send_staged<R: Wait>(&mut self, rt: &R)
-        requires { HasRoom 0 self.old.dispatcher }
-        ensures sends { SendsStaged self.old self.new }
-    {
-        if !self.dispatcher.has_staged() {
-            return;
-        }
-        if self.dispatcher.dispatch(rt) {
-            return;
-        }
-        self.fault = Some(self.fault.unwrap_or(Fault::NoTenant));
+        self.fault = first_fault(self.fault, !self.dispatcher.awaits());
     }
 
     /// Enters a reply to a call of the operation under this stamp, which this thread or a worker served, hands it to the session, and

@@ -14,7 +14,7 @@ use Rattle.hub.specs.Replies.{AreServed, IsDrawn, IsToldFor}
 use Rattle.hub.specs.Sights.{operation_of, sight_of}
 use Rattle.plain_store.specs.declared.answer.Answer.TheVariants.{Refused}
 use Rattle.shard.specs.declared.jobs.Fault.{Fault}
-use Rattle.hub.proofs.Entries.{answered-outcome, follows-start, told-none, told-some, follows-told, on_ok}
+use Rattle.hub.proofs.Entries.{answered-outcome, follows-start, told-none, told-some, follows-told, ends_later, final_recorded, on_ok, well_ended}
 use Rattle.hub.proofs.Given.{served-answered, served-later}
 use Rattle.hub.proofs.Refusals.{refused-inside, apart, same_refusal}
 use Rattle.hub.proofs.Replies.{reads-begun, reads-refused, may_begin, shows_refused, shows_since, stamp-begun}
@@ -26,7 +26,16 @@ returns-in-Some-clause-answered g c =
     let old = c.args.self.now.entries.items in
     let new = c.exchange.new.self.entries.items in
     let begun = c.exchange.ensures.runs.entered old (follows-told old _ _ old (sym (told-none c.args.self.now.place c.args.answer.now c.requires.place)) (follows-start old)) in
-    on_ok _ _ (λ none. follows-told old _ _ new (told-some c.exchange.new.self.place c.exchange.new.answer none) begun) c.exchange.result c.exchange.ensures.answered
+    well_ended _ _ _ c.outcome.result c.outcome.ensures (λ well none. follows-told old _ _ new (told-some c.exchange.new.self.place c.exchange.new.answer none) begun)
+
+-- what ended a transaction is recorded
+pub returns-in-Some-clause-recorded : goal.returns-in-Some-clause-recorded
+returns-in-Some-clause-recorded g c =
+    well_ended _ _ _ c.outcome.result c.outcome.ensures (λ well none. final_recorded c.exchange.new.self.place c.exchange.new.answer none (c.exchange.ensures.ends (ends_later c.args.self.now.place c.args.answer.now c.requires.place)))
+
+-- and each call was answered
+pub returns-in-Some-clause-awaited : goal.returns-in-Some-clause-awaited
+returns-in-Some-clause-awaited g c none = well_ended _ _ _ c.outcome.result c.outcome.ensures (λ well answered. c.exchange.ensures.awaited well)
 
 pub returns-in-Some-clause-entered : goal.returns-in-Some-clause-entered
 returns-in-Some-clause-entered g c =
@@ -62,14 +71,13 @@ returns-in-Some-clause-read g c =
     let name = c.args.self.now.name in
     let now = c.exchange.new.self in
     let P : Mark → Type 0 = λ m. IsToldFor (operation_of name m now.seen) c.args.parts (IsDrawn client before after) c.args.request.now c.exchange.new.answer c.args.self.now.entries.items now.entries.items in
-    on_ok _ _
-    (λ none. subst P (sym c.exchange.ensures.runs.goes_on.mark)
+    well_ended _ _ _ c.outcome.result c.outcome.ensures
+    (λ well none. subst P (sym c.exchange.ensures.runs.goes_on.mark)
     (reads-begun (operation_of name c.in-Some.mark c.enter_begun.new.seen) (operation_of name c.in-Some.mark now.seen) c.args.parts own (IsDrawn client before after) c.args.request.now asked c.args.self.now.session started c.exchange.new.self.session c.args.self.now.entries.items c.exchange.new.self.entries.items c.args.self.now.place c.exchange.new.self.place c.args.answer.now c.exchange.new.answer
     (λ items is.
     let counted = ap drawn_counter is in
     (refl, omega (arith, counted, begun.counter, c.exchange.ensures.runs.counter)))
     refl c.in-Ok.ensures.passed (λ setup same may. begun.shown setup same) (λ setup start reads. c.exchange.ensures.runs.read setup asked start stamped reads) c.requires.place none))
-    c.exchange.result c.exchange.ensures.answered
 
 -- the calls that it sends first are of the put that was entered, if it is one
 pub exchange-requires-clause-puts : goal.exchange-requires-clause-puts
@@ -162,7 +170,7 @@ returns-in-Some-clause-since g c =
     (λ told.
     shows_since before.name (operation_of before.name now.mark now.seen) c.args.parts (IsDrawn before.name.client before.session.counter now.session.counter) c.args.request.now c.exchange.new.answer before.entries.items now.entries.items
     c.in-Some.mark now.mark before.seen c.enter_begun.new.seen now.seen c.in-Some.ensures.since c.exchange.ensures.runs.goes_on.seen c.exchange.ensures.runs.goes_on.mark told)
-    c.exchange.result (returns-in-Some-clause-read g c)
+    c.outcome.result (returns-in-Some-clause-read g c)
 
 pub returns-in-Err-clause-since : goal.returns-in-Err-clause-since
 returns-in-Err-clause-since g c = shows_refused c.args.request.now c.in-Err.refusal _ _ c.tell_refusal.ensures
