@@ -23,3 +23,12 @@ pub record AreStarted {G : Type 0} {naming : Ghosts G} (config : Config) (journa
   pub queues : old.queues.items ≡ [] → All (λ queue. (queue.capacity ≡ config.queue) × (queue.count ≡ 0)) new.queues.items
   pub workers : map (λ thread. thread.promise.partition) old.threads.items ≡ map partition_of old.shards.items
       → map (λ thread. thread.promise.partition) new.threads.items ≡ map partition_of new.shards.items
+
+-- Each partition of a store of this config has its shard, and there is room for what is left of each.
+pub record AreReady {G : Type 0} {naming : Ghosts G} (config : Config) (journals : Bool) (lists : PartitionLists G naming) : Type 0 where
+  pub started : length lists.shards.items ≡ config.parts
+  pub shards : AreShardsFrom config 0 lists.shards.items
+  pub journals_kept : KeepAlike journals lists.shards.items
+  pub calls : (vec_len lists.calls ≡ 0) × (config.parts ≤ vec_capacity lists.calls)
+  pub left : (vec_len lists.journals ≡ 0) × (config.parts ≤ vec_capacity lists.journals)
+  pub counts : (vec_len lists.counts ≡ 0) × (config.parts ≤ vec_capacity lists.counts)

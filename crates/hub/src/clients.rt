@@ -1,15 +1,17 @@
 //! The clients of all tenants: who has a session, and the words of those that have none.
 ghost use Rattle.std.specs.Prelude.{◌≡◌, ◌↔◌, Ok, Some, IfErr, IfOk, IfSome, OnErr, OnOk, is_some, true};
 ghost use Rattle.std.specs.Option.{option_map};
+ghost use Rattle.history.specs.Rules.{is_opening};
 ghost use Rattle.plain_store.specs.declared.refusal.Refusal.TheVariants.{Busy as IsTaken};
 ghost use Rattle.traced_client.specs.Clients.{ClientTrace, HasRow, LiesThere, is_of_word};
-ghost use Rattle.hub.specs.Registered.{HasRoomFor, IsDeparture, KeepsOf, SetsFree, after_session, check_of, known_of, opened_row};
+ghost use Rattle.hub.specs.Registered.{HasNoClients, HasRoomFor, IsDeparture, KeepsOf, SetsFree, after_session, check_of, known_of, opened_row};
 
 use crate::register::{Admission, KnownClient, Register};
-use history::Naming;
+use history::{Front, Naming, Tally};
 use plain_store::Refusal;
 use shard::SeatName;
 use stamps::{Client, Counter};
+use std::alloc::{AllocError, Global};
 use traced_client::{ClientWords, TracedClient};
 
 /// By what a client that asked for a session got one or none: what was kept of it, how many clients its tenant had, and how many seats there
@@ -45,6 +47,24 @@ pub(crate) struct Clients<G: Naming> {
 }
 
 impl<G: Naming> Clients<G> {
+    /// Those of a store of so many tenants, none of whose clients had a session yet, with the word that counts them. The one error is that
+    /// an allocation failed.
+    pub(crate) fn of(
+        alloc: Global,
+        tenants: usize,
+        word: Tally<G>,
+        seen: &Front<G>,
+    ) -> Result<Clients<G>, AllocError>
+        requires word { word.key ≡ 0 }
+        requires opening { is_opening seen.now ≡ true }
+        ensures { IfOk result (λ its. HasNoClients tenants its.register) }
+    {
+        Ok(Clients {
+            register: Register::new(alloc, tenants)?,
+            words: ClientWords::new(alloc, word, seen),
+        })
+    }
+
     /// What is there as a client asks for a session.
     pub(crate) fn check(&self, tenant: u32, client: Client) -> AdmissionCheck
         ensures { result ≡ check_of self.now.register tenant client }

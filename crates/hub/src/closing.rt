@@ -6,8 +6,8 @@ ghost use Rattle.partition.specs.Accounts.{account_of};
 ghost use Rattle.history.specs.Entries.{count};
 ghost use Rattle.shard.specs.Held.{IsHandedOut};
 ghost use Rattle.traced_book.specs.Traced.{AreTraced};
-ghost use Rattle.hub.specs.Hubs.{config_view, AreSeen, IsSoundBook};
-ghost use Rattle.hub.specs.Shards.{IsConfigOf};
+ghost use Rattle.hub.specs.Hubs.{config_view, AllSoundBooks, AllTraced, AreSeen, IsSoundBook};
+ghost use Rattle.hub.specs.Shards.{AreShardsFrom, IsConfigOf};
 
 use closed_store::Config;
 use history::{Front, Naming};
@@ -49,6 +49,48 @@ pub fn look_at_calls<G: Naming, R: Wait>(
         let its = shards[partition as usize].look_at_calls(rt, parts, partition, seen);
         calls.push_reserved(its);
     }
+}
+
+/// What the partitions have left so far, in their order: their journals, and how many events these have.
+#[derive(Drop)]
+pub struct Left {
+    pub journals: Vec<Vec<Journal>>,
+    pub counts: Vec<Counts>,
+}
+
+/// Takes each partition's book out of its shard, as `take_out` does, and puts what it leaves into the lists, which are empty and have room
+/// for it.
+pub fn take_all<G: Naming>(
+    alloc: Global,
+    config: &Config,
+    shards: Vec<Arc<Shard<G>>>,
+    calls: Vec<u64>,
+    seen: &Front<G>,
+    left: Left,
+) -> Left
+    requires shards { (length shards.items ≡ config.now.parts)
+        × AreShardsFrom config.now 0 shards.items }
+    requires calls { AreSeen config.now.parts seen.now calls.items }
+    requires journals { (vec_len left.journals ≡ 0)
+        × (config.now.parts ≤ vec_capacity left.journals) }
+    requires counts { (vec_len left.counts ≡ 0) × (config.now.parts ≤ vec_capacity left.counts) }
+    ensures parts { length result.journals.items ≡ config.now.parts }
+    ensures books { AllSoundBooks
+        (config_view config.now) 0 result.journals.items result.counts.items }
+    ensures traced { AllTraced seen.now 0 result.journals.items }
+{
+    let Left {
+        mut journals,
+        mut counts,
+    } = left;
+    for shard in shards {
+        let partition = journals.len() as u32;
+        let its = calls[partition as usize];
+        let (of_book, count) = take_out(alloc, config, partition, shard, seen, its);
+        journals.push_reserved(of_book);
+        counts.push_reserved(count);
+    }
+    Left { journals, counts }
 }
 
 /// The journals of a partition that no thread has any more. None where its book is not there, is not that of this partition, or

@@ -11,13 +11,12 @@ ghost use Rattle.std.specs.Prelude.{◌≡◌, ◌≤◌, ◌<◌, ◌+◌, ◌�
 
 use crate::clients::{AdmissionCheck, Clients, Departure};
 use crate::clocks::Clocks;
-use crate::closing::{look_at_calls, seen_with, take_out};
+use crate::closing::{Left, look_at_calls, seen_with, take_all};
 use crate::dispatcher::Dispatcher;
 use crate::new_store::NewStore;
-use crate::register::Register;
 use crate::seal::Sealed;
 use crate::seat::{Ends, Seat};
-use crate::start::{HubFault, PartitionLists, Worker, collector_of, join_all, share, start_all};
+use crate::start::{HubFault, PartitionLists, Started, Worker, join_all, start};
 use closed_store::{Closed, Config, Transcript};
 use history::{Front, Naming};
 use partition::{Counts, Journal};
@@ -29,7 +28,7 @@ use std::marker::Model;
 use std::sync::{Arc, Mutex, Wait};
 use std::thread::Threads;
 use tenant_sessions::ClientSession;
-use traced_client::{ClientWords, TracedClient};
+use traced_client::TracedClient;
 
 /// The running store. Any thread may hold a `&` to it and take seats; one thread opens and closes it.
 ///
@@ -89,45 +88,36 @@ impl<G: Gate + Naming + Send + Sync + Drop + 'static> Hub<G> {
             history,
         } = store;
         let (of_clients, mut words, seen) = history.named::<G>();
-        let parts = config.parts as usize;
-        let clients = Mutex::new(Clients {
-            register: Register::new(alloc, config.limits.len())?,
-            words: ClientWords::new(alloc, of_clients, &seen),
-        });
-        let collector = collector_of(alloc, &config)?;
-        let gate = share(alloc, gate)?;
-        let sink = share(alloc, sink)?;
-        let mut lists = PartitionLists::of(alloc, parts)?;
-        let mut clocks = Clocks::with_room(alloc, config.limits.len())?;
-        let started = start_all(
-            rt, alloc, &config, journals, &gate, &sink, &collector, &mut words, &seen, &mut lists,
-        );
+        let tenants = config.limits.len();
+        let clients = Clients::of(alloc, tenants, of_clients, &seen)?;
+        let mut clocks = Clocks::with_room(alloc, tenants)?;
+        let started = start(rt, alloc, &config, journals, gate, sink, &mut words, &seen)?;
+        clocks.fill(words, tenants);
+        let Started {
+            gate,
+            collector,
+            lists,
+        } = started;
         let PartitionLists {
             shards,
             queues,
             threads,
             calls,
-            journals: room,
+            journals: left,
             counts,
         } = lists;
-        if let Err(fault) = started {
-            drop(queues);
-            let _ = join_all(rt, threads);
-            return Err(fault);
-        }
-        clocks.fill(words, config.limits.len());
         Ok(Hub {
             config,
             journals,
             alloc,
             queues: Mutex::new(queues),
-            clients,
+            clients: Mutex::new(clients),
             collector,
             gate,
             shards,
             threads: Sealed::new(threads),
             calls,
-            left: room,
+            left,
             counts,
             seen,
             clocks,
@@ -167,8 +157,8 @@ impl<G: Gate + Naming + Send + Sync + Drop + 'static> Hub<G> {
             shards,
             threads,
             mut calls,
-            left: mut journals,
-            mut counts,
+            left: journals,
+            counts,
             seen,
             clocks: _,
         } = self;
@@ -176,13 +166,8 @@ impl<G: Gate + Naming + Send + Sync + Drop + 'static> Hub<G> {
         drop(queues);
         let _ = join_all(rt, threads.into_inner());
         look_at_calls(rt, config.parts, shards.as_slice(), &mut calls, &mut seen);
-        for shard in shards {
-            let partition = journals.len() as u32;
-            let its = calls[partition as usize];
-            let (of_book, count) = take_out(alloc, &config, partition, shard, &seen, its);
-            journals.push_reserved(of_book);
-            counts.push_reserved(count);
-        }
+        let left = Left { journals, counts };
+        let Left { journals, counts } = take_all(alloc, &config, shards, calls, &seen, left);
         let closed = Closed {
             config,
             journals,

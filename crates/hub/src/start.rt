@@ -4,7 +4,7 @@ ghost use Rattle.std.specs.Arc.{arc_value};
 ghost use Rattle.stamps.specs.Limits.{max_parts};
 ghost use Rattle.shard.specs.Journals.{AreOf};
 ghost use Rattle.hub.specs.Shards.{IsConfigOf, IsOpeningOf, journals_of, partition_of};
-ghost use Rattle.hub.specs.Starting.{AreEmptyFor, AreStarted};
+ghost use Rattle.hub.specs.Starting.{AreEmptyFor, AreReady, AreStarted};
 
 use closed_store::Config;
 use history::{Front, Naming, PartitionWords, Tally};
@@ -128,6 +128,58 @@ pub fn join_all<R: Threads>(rt: &R, threads: Vec<Worker>) -> EndedCount
         ended.add(thread.join(rt));
     }
     ended
+}
+
+/// What serves the calls of a hub.
+#[derive(Drop)]
+pub struct Started<G: Naming> {
+    pub gate: Arc<G>,
+    pub collector: Arc<Collector>,
+    pub lists: PartitionLists<G>,
+}
+
+/// Starts what serves the calls of a hub. It fails where memory or a thread was refused; then it has ended and joined the threads that it
+/// started.
+pub fn start<
+    G: Gate + Naming + Send + Sync + Drop + 'static,
+    S: Sink<G> + Send + Sync + Drop + 'static,
+    R: Threads + Wait + Clone + Send + Drop + 'static,
+>(
+    rt: &R,
+    alloc: Global,
+    config: &Config,
+    journals: bool,
+    gate: G,
+    sink: S,
+    words: &mut PartitionWords<G>,
+    seen: &Front<G>,
+) -> Result<Started<G>, HubFault>
+    requires words { words.old.next ≡ 0 }
+    requires opened { IsOpeningOf config.now seen.now }
+    ensures { IfOk result (λ started. AreReady config.now journals started.lists) }
+{
+    let collector = collector_of(alloc, config)?;
+    let gate = share(alloc, gate)?;
+    let sink = share(alloc, sink)?;
+    let mut lists = PartitionLists::of(alloc, config.parts as usize)?;
+    let all = start_all(
+        rt, alloc, config, journals, &gate, &sink, &collector, words, seen, &mut lists,
+    );
+    if let Err(fault) = all {
+        let PartitionLists {
+            queues,
+            threads,
+            ..
+        } = lists;
+        drop(queues);
+        let _ = join_all(rt, threads);
+        return Err(fault);
+    }
+    Ok(Started {
+        gate,
+        collector,
+        lists,
+    })
 }
 
 /// Starts a worker for each partition, with its shard, which keeps journals or none, and its queue. Where it fails, the threads started so far are in the lists.
