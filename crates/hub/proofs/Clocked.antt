@@ -19,7 +19,7 @@ use Rattle.history.specs.declared.entry.HistoryEntry.{HistoryEntry}
 use Rattle.history.specs.declared.entry.HistoryEntry.TheVariants.{Drew}
 use Rattle.history.specs.declared.entry.Draw.{Draw}
 use Rattle.history.specs.Clock.{IsDrawnBehind}
-use Rattle.history.proofs.Lists.{prefix_has, prefix_join, prefix_of_itself}
+use Rattle.history.proofs.Lists.{prefix_has, prefix_join}
 use Rattle.tenant_sessions.specs.declared.session.ClientSession.{ClientSession}
 use Rattle.shard.specs.declared.seat_name.SeatName.{SeatName}
 use Rattle.plain_store.proofs.Members.{in_right}

@@ -1,10 +1,10 @@
 -- What a client got that asked for a session: for `seat_with_check`.
 use Rattle.std.proofs.Common.{◌≡◌, ◌<◌, ℕ, true, List, length, get_or, Option, Some, None, Result, Ok, Err, ap, refl, subst, sym, ◌∙◌, slice_get}
-use Rattle.std.specs.Prelude.{IfErr, IfOk, IfSome, ◌↔◌}
+use Rattle.std.specs.Prelude.{IfErr, IfSome}
 use Rattle.std.proofs.lemmas.Option.{slice_get_read}
 use Rattle.stamps.specs.declared.bounds.Limits.{Limits}
 use Rattle.plain_store.specs.declared.refusal.Refusal.{Refusal}
-use Rattle.plain_store.specs.declared.refusal.Refusal.TheVariants.{Busy, RowsUsed, OutOfMemory}
+use Rattle.plain_store.specs.declared.refusal.Refusal.TheVariants.{Busy, OutOfMemory}
 use Rattle.traced_client.specs.Clients.{is_of_word}
 use Rattle.hub.specs.Registered.{IsDecidedBy, IsNamedBy, admission_test, check_of, clients_of, known_of, next_session}
 use Rattle.hub.specs.Seats.{SeatView}

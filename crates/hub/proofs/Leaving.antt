@@ -1,5 +1,5 @@
 -- What is kept of a client once its session ended.
-use Rattle.std.proofs.Common.{◌≡◌, ◌∙◌, ◌≤◌, ℕ, Bool, true, false, Option, Some, cond, nat_eq, max, eq-eqb, ap, refl, sym, subst, arith}
+use Rattle.std.proofs.Common.{◌≡◌, ◌∙◌, ℕ, Bool, true, false, Option, Some, cond, nat_eq, max, eq-eqb, ap, refl, sym, subst, arith}
 use Rattle.std.proofs.Math.Nat.{le-max_left, le-max_right}
 use Rattle.std.specs.Option.{option_map}
 use Rattle.hub.specs.declared.register.KnownClient.{KnownClient}

@@ -1,6 +1,6 @@
 -- What an operation leaves from step to step: for the functions that follow a move, or take replies.
-use Rattle.std.proofs.Common.{◌≡◌, ◌≤◌, ◌+◌, ◌∙◌, ℕ, [], List, Option, true, false, ap, arith, refl, subst, sym}
-use Rattle.std.specs.Prelude.{IsNone, IsSome}
+use Rattle.std.proofs.Common.{◌≡◌, ◌+◌, ◌∙◌, ℕ, [], List, Option, true, false, ap, arith, refl, subst, sym}
+use Rattle.std.specs.Prelude.{IsNone}
 use Rattle.std.proofs.lemmas.List.{append-nil}
 use mathlib.Core.List.{IsPrefix}
 use Rattle.entry_list.specs.declared.kinds.Entry.{Entry}
@@ -8,14 +8,12 @@ use Rattle.plain_store.specs.declared.answer.Answer.{Answer}
 use Rattle.plain_store.specs.History.{Intent as Asked}
 use Rattle.plain_store.specs.Words.{Setup, Stamp}
 use Rattle.history.specs.declared.rule.Naming.{Ghosts}
-use Rattle.history.proofs.Lists.{prefix_join}
 use Rattle.tenant_sessions.specs.Moves.{is_last, moved}
 use Rattle.tenant_sessions.specs.declared.moves.MoveKind.{MoveKind}
 use Rattle.tenant_sessions.specs.declared.running.Running.{Running}
 use Rattle.tenant_sessions.specs.declared.session.ClientSession.{ClientSession}
 use Rattle.hub.specs.Operating.{FollowsMove, TakesReplies}
 use Rattle.hub.specs.Replies.{Reads}
-use Rattle.hub.specs.Rooms.{HasRoom}
 use Rattle.hub.specs.Seats.{EndsSo, Extends, spare, told_by}
 use Rattle.hub.specs.Sights.{OperationSight, operation_of, sight_of}
 use Rattle.hub.specs.Taken.{replies_in}

@@ -1,6 +1,6 @@
 -- What a seat answers: for the functions of an operation.
 use Rattle.std.proofs.Common.{◌≡◌, ℕ, List, [], ◌∷◌, ◌++◌, refl, sym, ap, ◌∙◌, subst, Option, Some, None, inl, inr, Bool, true, false, cond, is_some, Result, Ok, Err}
-use Rattle.std.specs.Prelude.{OnOk, IfErr, IfOk, IfSome, IsSome, IsNone, nat_le}
+use Rattle.std.specs.Prelude.{OnOk, IfErr, IfOk, IsSome, IsNone, nat_le}
 use Rattle.std.proofs.Math.Logic.{∥∥₁_map}
 use Rattle.std.proofs.lemmas.List.{append_assoc, append-nil}
 use Rattle.plain_store.specs.declared.answer.Answer.{Answer}

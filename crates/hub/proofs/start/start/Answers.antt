@@ -1,4 +1,4 @@
-use Rattle.std.proofs.Common.{◌≡◌, ◌≤◌, ◌+◌, ap, arith, length, vec_capacity, vec_len}
+use Rattle.std.proofs.Common.{ap, arith, length, vec_capacity, vec_len}
 use Rattle.hub.proofs.start.start.Goals as goal
 
 -- the lists were empty before, with room for each partition

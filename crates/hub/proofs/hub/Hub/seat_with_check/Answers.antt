@@ -1,4 +1,4 @@
-use Rattle.std.proofs.Common.{◌≡◌, ap, refl, rules, sym, ◌∙◌, Err, Ok}
+use Rattle.std.proofs.Common.{ap, refl, ◌∙◌}
 use Rattle.plain_store.specs.declared.refusal.Refusal.TheVariants.{RowsUsed, OutOfMemory}
 use Rattle.shard.specs.declared.seat_name.SeatName.{SeatName}
 use Rattle.hub.specs.Hubs.{ConfigView}

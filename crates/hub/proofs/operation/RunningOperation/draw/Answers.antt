@@ -1,6 +1,5 @@
-use Rattle.std.proofs.Common.{ℕ, List, ◌<◌, ◌++◌, ◌∙◌, ap, subst}
+use Rattle.std.proofs.Common.{ℕ, ◌<◌, ◌++◌, ◌∙◌, ap, subst}
 use Rattle.std.specs.Prelude.{IfSome}
-use Rattle.entry_list.specs.declared.kinds.Entry.{Entry}
 use Rattle.entry_list.specs.SeatEntries.{SeatEntriesView}
 use Rattle.entry_list.specs.Raises.{raise_entries}
 use Rattle.hub.proofs.Clocked.{drawn_below, raised, raised_to}

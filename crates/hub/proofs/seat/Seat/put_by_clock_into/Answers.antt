@@ -1,10 +1,9 @@
-use Rattle.std.proofs.Common.{◌≡◌, None, ap, inl, refl, subst, sym, ◌∙◌}
+use Rattle.std.proofs.Common.{None, ap, inl, refl, subst, sym, ◌∙◌}
 use Rattle.plain_store.specs.declared.answer.Answer.{Answer}
 use Rattle.plain_store.specs.declared.answer.Answer.TheVariants.{Refused}
 use Rattle.hub.specs.Fresh.{AreCommittedIn}
 use Rattle.hub.specs.Limits.{max_calls}
 use Rattle.hub.specs.Replies.{IfDone}
-use Rattle.hub.specs.Seats.{SeatView}
 use Rattle.hub.specs.Clocks.{IsStampedBehind, ReportsDone}
 use Rattle.hub.proofs.Clocked.{later_raised, put_drawn, put_undrawn, refused_as, write_refused}
 use Rattle.hub.proofs.Done.{puts_ran}
