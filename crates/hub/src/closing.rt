@@ -53,7 +53,7 @@ pub fn look_at_calls<G: Naming, R: Wait>(
 
 /// What the partitions have left so far, in their order: their journals, and how many events these have.
 #[derive(Drop)]
-pub struct Left {
+pub struct LeftJournals {
     pub journals: Vec<Vec<Journal>>,
     pub counts: Vec<Counts>,
 }
@@ -66,8 +66,8 @@ pub fn take_all<G: Naming>(
     shards: Vec<Arc<Shard<G>>>,
     calls: Vec<u64>,
     seen: &Front<G>,
-    left: Left,
-) -> Left
+    left: LeftJournals,
+) -> LeftJournals
     requires shards { (length shards.items ≡ config.now.parts)
         × AreShardsFrom config.now 0 shards.items }
     requires calls { AreSeen config.now.parts seen.now calls.items }
@@ -79,7 +79,7 @@ pub fn take_all<G: Naming>(
         (config_view config.now) 0 result.journals.items result.counts.items }
     ensures traced { AllTraced seen.now 0 result.journals.items }
 {
-    let Left {
+    let LeftJournals {
         mut journals,
         mut counts,
     } = left;
@@ -90,7 +90,7 @@ pub fn take_all<G: Naming>(
         journals.push_reserved(of_book);
         counts.push_reserved(count);
     }
-    Left { journals, counts }
+    LeftJournals { journals, counts }
 }
 
 /// The journals of a partition that no thread has any more. None where its book is not there, is not that of this partition, or

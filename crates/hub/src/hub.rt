@@ -11,7 +11,7 @@ ghost use Rattle.std.specs.Prelude.{◌≡◌, ◌≤◌, ◌<◌, ◌+◌, ◌�
 
 use crate::clients::{AdmissionCheck, Clients, Departure};
 use crate::clocks::Clocks;
-use crate::closing::{Left, look_at_calls, seen_with, take_all};
+use crate::closing::{LeftJournals, look_at_calls, seen_with, take_all};
 use crate::dispatcher::Dispatcher;
 use crate::new_store::NewStore;
 use crate::seal::Sealed;
@@ -166,8 +166,10 @@ impl<G: Gate + Naming + Send + Sync + Drop + 'static> Hub<G> {
         drop(queues);
         let _ = join_all(rt, threads.into_inner());
         look_at_calls(rt, config.parts, shards.as_slice(), &mut calls, &mut seen);
-        let left = Left { journals, counts };
-        let Left { journals, counts } = take_all(alloc, &config, shards, calls, &seen, left);
+        let left = LeftJournals { journals, counts };
+        let LeftJournals { journals, counts } = take_all(
+            alloc, &config, shards, calls, &seen, left,
+        );
         let closed = Closed {
             config,
             journals,

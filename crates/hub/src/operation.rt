@@ -107,6 +107,7 @@ fn counter_below(drawn: Option<u64>) -> Option<Counter>
 /// The fault that was there, if there was one, and else that of no tenant where not all went well.
 fn first_fault(fault: Option<Fault>, is_well: bool) -> Option<Fault>
     ensures first { IsSome fault → result ≡ fault }
+    ensures well { is_well ≡ true → result ≡ fault }
     ensures none { IsNone result → IsTrue is_well }
 {
     if is_well {
