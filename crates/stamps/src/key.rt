@@ -1,5 +1,5 @@
 //! Keys.
-ghost use Rattle.std.specs.Prelude.{◌≡◌, ◌↔◌, ◌-◌, IsSome, IfSome, ◌<◌, ◌≤◌, length, take, drop, replicate};
+ghost use Rattle.std.specs.Prelude.{◌≡◌, ℕ, ◌↔◌, ◌-◌, ◌%◌, ◌^◌, bit_and, IsSome, IfSome, ◌<◌, ◌≤◌, length, take, drop, replicate};
 ghost use Rattle.stamps.specs.Bounds.{IsParts};
 ghost use Rattle.stamps.specs.Key.{IsKey, home_of};
 ghost use Rattle.stamps.specs.Limits.{max_key_len};
@@ -119,10 +119,28 @@ pub fn home(key: &Key, parts: u32) -> u32
     ensures partition { result ≡ home_of key.now parts }
     ensures in_range { result < parts }
 {
-    // All bytes of the array, whose number is known where this is compiled: those behind the key are zero.
-    key.padded()
-        .iter()
-        .map(|&byte| u32::from(byte))
-        .sum::<u32>()
-        % parts
+    // All bytes of the array, whose number is known where this is compiled: those behind the key are zero. The sum is used once, so that
+    // vectors are added.
+    let rest = rest_mask(parts)
+        & key
+            .padded()
+            .iter()
+            .map(|&byte| u32::from(byte))
+            .sum::<u32>();
+    if rest < parts { rest } else { rest % parts }
+}
+
+/// The bits of a sum on which its rest by the number of partitions depends: for the usual numbers the lowest few, which are the rest, so that
+/// nothing is divided. A division takes longer than the sum.
+#[inline(always)]
+fn rest_mask(parts: u32) -> u32
+    ensures { (sum : ℕ) → sum < 2 ^ 32 → bit_and result sum % parts ≡ sum % parts }
+{
+    match parts {
+        2 => 1,
+        4 => 3,
+        8 => 7,
+        16 => 15,
+        _ => u32::MAX,
+    }
 }
