@@ -46,7 +46,7 @@ impl RecordPlace {
     {
         self.is_there = true;
         if let Some(old) = &mut self.version {
-            *old = *version;
+            old.copy_from(version);
             return;
         }
         self.version = Some(*version);

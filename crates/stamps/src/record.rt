@@ -85,6 +85,19 @@ impl Record {
 }
 
 impl Record {
+    /// Makes of it a copy of another one, part by part in place: of value and write set it writes no more than either one needs.
+    pub fn copy_from(&mut self, other: &Record)
+        ensures { self.new ≡ other.now }
+    {
+        self.key = other.key;
+        self.tag = other.tag;
+        self.value.copy_from(&other.value);
+        self.stamp = other.stamp;
+        self.writes.copy_from(&other.writes);
+    }
+}
+
+impl Record {
     ghost use Rattle.stamps.specs.Record.{record_eq};
 
     /// Whether all parts are the same.

@@ -73,6 +73,21 @@ impl<const N: usize> Text<N> {
         }
     }
 
+    /// Makes of it the first `len` bytes of a shorter array, behind which this has zeros. Neither text has more bytes than that array, so
+    /// no others are written.
+    #[inline(always)]
+    pub(crate) fn set_padded<const M: usize>(&mut self, front: &[u8; M], len: usize)
+        requires shorter { M ≤ N }
+        requires small { N < 256 }
+        requires had { length self.old ≤ M }
+        requires fits { len ≤ M }
+        requires zeros { drop len front.now ≡ replicate (M - len) 0 }
+        ensures { self.new ≡ take len front.now }
+    {
+        self.bytes[..M].copy_from_slice(front);
+        self.len = len as u8;
+    }
+
     /// The whole array: the bytes of the text, and zeros behind them.
     pub(crate) fn padded(&self) -> &[u8; N]
         ensures bytes { take (length self.now) result.now ≡ self.now }
@@ -80,6 +95,17 @@ impl<const N: usize> Text<N> {
         ensures whole { length result.now ≡ N }
     {
         &self.bytes
+    }
+
+    /// The first `M` bytes of the array, where the text has no more: the bytes of the text, and zeros behind them.
+    #[inline(always)]
+    pub(crate) fn padded_front<const M: usize>(&self) -> &[u8; M]
+        requires shorter { M ≤ N }
+        requires fits { length self.now ≤ M }
+        ensures bytes { take (length self.now) result.now ≡ self.now }
+        ensures zeros { drop (length self.now) result.now ≡ replicate (M - length self.now) 0 }
+    {
+        self.bytes.first_chunk().unwrap()
     }
 
     /// How many bytes the text has.

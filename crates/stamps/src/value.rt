@@ -34,6 +34,9 @@ impl Value {
     /// The most bytes that a value has.
     pub const MAX_LEN: usize = limits::MAX_VALUE_LEN;
 
+    /// How many bytes a short value has at most. Short ones are written over one another without what is behind so many bytes.
+    pub const SHORT_LEN: usize = 32;
+
     /// The value of these bytes. `None` where they are more than 128, or one is not from `!` to `~`.
     pub fn read(bytes: &[u8]) -> Option<Value>
         ensures exact { IsSome result ↔ IsValue bytes.now }
@@ -68,6 +71,21 @@ impl Value {
     {
         Value {
             text: Text::of_padded(kept_front(front, len), len),
+        }
+    }
+
+    /// Makes of it a copy of another one, in place. Of two short ones it writes the first bytes alone.
+    #[inline(always)]
+    pub fn copy_from(&mut self, other: &Value)
+        ensures { self.new ≡ other.now }
+    {
+        let len = other.text.len();
+        if len <= Value::SHORT_LEN && self.text.len() <= Value::SHORT_LEN {
+            // A copy, since bytes that may be the same are copied one by one.
+            let front: [u8; Value::SHORT_LEN] = *other.text.padded_front();
+            self.text.set_padded(&front, len);
+        } else {
+            self.text = other.text;
         }
     }
 

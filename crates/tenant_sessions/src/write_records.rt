@@ -142,7 +142,7 @@ fn write_over(item: &Item, stamp: Stamp, writes: &WriteSet, old: &mut Record)
 {
     old.key = item.key;
     old.tag = item.tag;
-    old.value = item.value;
+    old.value.copy_from(&item.value);
     old.stamp = stamp;
     old.writes.copy_from(writes);
 }
