@@ -3,7 +3,7 @@ use Rattle.std.proofs.Common.{◌≡◌, ℕ, ◌<◌, ◌≤◌, ◌+◌, ◌-�
 use Rattle.std.specs.Prelude.{IsSome, is_some}
 use Rattle.std.specs.Option.{option_map}
 use Rattle.std.proofs.lemmas.Bool.{false≢true, and_parts, leb-true, lt-ltb, ltb-false, eqb-false}
-use Rattle.std.proofs.lemmas.List.{get_or_append_left, take_all, take-take}
+use Rattle.std.proofs.lemmas.List.{take-take}
 use Rattle.std.proofs.Math.Seq.{take-append-add}
 use Rattle.stamps.specs.Limits.{max_keys, max_key_len, max_tag_len, max_value_len}
 use Rattle.stamps.specs.Text.{IsText, is_name_byte, is_visible_byte}
@@ -19,7 +19,7 @@ use Rattle.packed.specs.Bodies.{packed_body, body_at, record_in, record_or, no_r
 use Rattle.packed.specs.Reading.{◌>>=◌, byte_at, text_at, key_from, key_at, tag_at, value_at, keys_at, writes_of, writes_at}
 use Rattle.packed.proofs.Texts.{text_again, key_again, tag_again, value_again}
 use Rattle.packed.proofs.Records.{writes_again}
-use Rattle.packed.proofs.KeyLoop.{with_front, SoFar, begins_not, stops}
+use Rattle.packed.proofs.KeyLoop.{begins_not}
 
 -- ---- the parts of a body
 
@@ -252,47 +252,10 @@ set_here count bytes keys rest some read there = go (leb (length keys) max_keys 
         (record { not_empty = some; at_most = leb-true (length keys) max_keys t.0; ascending = ascending_from keys t.1 }, rw (read, both) refl)
     go false none made = absurd (false≢true made)
 
--- while keys are still to be read, one is there
+-- the first key is there
 pub first_here : (count : ℕ) (bytes : List ℕ) → 0 < count → IsSome (writes_of count bytes) → IsSome (key_at bytes)
 first_here count bytes some there = go (key_at bytes) refl
   where
     go : (o : Option (List ℕ × List ℕ)) → key_at bytes ≡ o → IsSome o
     go None none = absurd (false≢true (subst IsSome (begins_not count bytes some none) there))
     go (Some x) is = refl
-
-pub key_left : (count : ℕ) (bytes : List ℕ) (keys : List (List ℕ)) (at : ℕ) (rest : List ℕ) → at < count → SoFar count bytes keys at rest → IsSome (writes_of count bytes) → IsSome (key_at rest)
-key_left count bytes keys at rest lt so_far there = go (key_at rest) refl
-  where
-    go : (o : Option (List ℕ × List ℕ)) → key_at rest ≡ o → IsSome o
-    go None none = absurd (false≢true (subst IsSome (stops count bytes keys at rest lt none so_far) there))
-    go (Some x) is = refl
-
--- ---- keys that are put one behind the other
-
--- the first ones of a set are one
-first_ones : (keys more : List (List ℕ)) → 0 < length keys → IsWriteSet (keys ++ more) → IsWriteSet keys
-first_ones keys more some h =
-    let long = length-append keys more in
-    let most = h.at_most in
-    record {
-      not_empty = some;
-      at_most = omega (arith, long, most);
-      ascending =
-          λ i j d before within.
-          let before_too : i < length keys = omega (arith, before, within) in
-          rw (← get_or_append_left keys more d i before_too, ← get_or_append_left keys more d j within) (h.ascending i j d before (omega (arith, long, within)));
-    }
-
--- keys that were read of a set are one, whatever is still to be read
-pub so_far_set : (count : ℕ) (bytes : List ℕ) (keys : List (List ℕ)) (at : ℕ) (rest : List ℕ) → length keys ≡ at → 0 < at → SoFar count bytes keys at rest
-    → IsSome (writes_of count bytes) → IsWriteSet keys
-unfolding writes_of
-so_far_set count bytes keys at rest full some so_far there =
-    let whole = take_all at keys (omega (arith, full)) in
-    go (keys_at (count - at) rest) (ap (λ (ks : List (List ℕ)). with_front ks (keys_at (count - at) rest)) (sym whole) ∙ so_far)
-  where
-    go : (left : Option (List (List ℕ) × List ℕ)) → with_front keys left ≡ keys_at count bytes → IsWriteSet keys
-    go None is = absurd (false≢true (rw (← is) at there))
-    go (Some more) is =
-        let long = length-append keys more.0 in
-        first_ones keys more.0 (omega (arith, full, some)) (set_here count bytes (keys ++ more.0) more.1 (omega (arith, long, full, some)) (sym is) there).0

@@ -1,6 +1,6 @@
 -- Reading keys one by one, as a loop does.
-use Rattle.std.proofs.Common.{◌≡◌, ℕ, suc, ◌+◌, ◌-◌, ◌<◌, List, [], ◌∷◌, ◌++◌, length, take, set, Option, Some, None, refl, sym, ap, ◌∙◌, append_assoc, length-append, arith}
-use Rattle.std.proofs.lemmas.List.{append-nil, take_all, take_more_set}
+use Rattle.std.proofs.Common.{◌≡◌, ℕ, suc, ◌+◌, ◌-◌, ◌<◌, List, [], ◌∷◌, ◌++◌, length, take, set, Option, Some, None, refl, sym, ap, ◌∙◌, append_assoc, arith}
+use Rattle.std.proofs.lemmas.List.{append-nil, take_more_set}
 use Rattle.packed.specs.Reading.{◌>>=◌, text_at, key_from, key_at, keys_at, writes_from, writes_of}
 
 -- a key is a text that may be one
@@ -83,14 +83,3 @@ written count bytes keys rest writes read made = rw (read, ← made) refl
 pub refused : (count : ℕ) (bytes : List ℕ) (keys : List (List ℕ)) (rest : List ℕ) → keys_at count bytes ≡ Some (take count keys, rest) → None ≡ writes_from (take count keys) → None ≡ writes_of count bytes
 unfolding writes_of
 refused count bytes keys rest read made = rw (read, ← made) refl
-
--- the same where the key is put behind the others
-pub goes_on_behind : (count : ℕ) (bytes : List ℕ) (keys : List (List ℕ)) (at : ℕ) (rest key after : List ℕ) → at < count → length keys ≡ at → key_at rest ≡ Some (key, after)
-    → SoFar count bytes keys at rest → SoFar count bytes (keys ++ key ∷ []) (at + 1) after
-goes_on_behind count bytes keys at rest key after lt full is so_far =
-    let k : count - at ≡ suc (count - (at + 1)) = omega arith in
-    let long = length-append keys (key ∷ []) in
-    ap (λ (ks : List (List ℕ)). with_front ks (keys_at (count - (at + 1)) after))
-    (take_all (at + 1) (keys ++ key ∷ []) (omega (arith, long, full)) ∙ ap (λ (ks : List (List ℕ)). ks ++ key ∷ []) (sym (take_all at keys (omega (arith, full)))))
-    ∙ sym (one_more (take at keys) (count - (at + 1)) rest key after is)
-    ∙ ap (λ (n : ℕ). with_front (take at keys) (keys_at n rest)) (sym k) ∙ so_far

@@ -4,3 +4,4 @@ pub mod KeyLoop
 pub mod Pieces
 pub mod Words
 pub mod BodyParts
+pub mod KeysIn

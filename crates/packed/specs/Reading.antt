@@ -4,6 +4,7 @@ use Rattle.std.specs.Prelude.{ℕ, zero, suc, ◌&&◌, ◌||◌, ◌==◌, nat_
 use Rattle.std.specs.Prelude.{length, take, drop}
 use Rattle.std.specs.Prelude.{Option, Some, None, option_and_then, if◌then◌else◌}
 use Rattle.std.specs.Int.{w64, from_le_bytes}
+use Rattle.std.specs.Option.{option_map_or}
 use Rattle.stamps.specs.Limits.{max_keys, max_key_len, max_tag_len, max_value_len, max_counter}
 use Rattle.stamps.specs.Text.{is_name_byte, is_visible_byte}
 use Rattle.stamps.specs.Stamp.{counter_of, client_of}
@@ -85,6 +86,10 @@ keys_at (suc n) bytes = do
   key ← key_at bytes
   more ← keys_at n key.1
   Some (key.0 ∷ more.0, more.1)
+
+-- so many keys alone, or none where fewer are there
+abbrev pub keys_in : ℕ → List ℕ → List (List ℕ)
+keys_in count bytes = option_map_or (λ read. read.0) (keys_at count bytes) []
 
 -- a write set of so many keys
 unfoldable pub writes_of : ℕ → List ℕ → Option (List (List ℕ) × List ℕ)

@@ -11,7 +11,7 @@ ghost use Rattle.packed.specs.Sizes.{max_body_bytes};
 
 use crate::laying::lay_body;
 use crate::value_decoding::{read_byte, text_at};
-use stamps::{Key, Record, Stamp, Tag, Value, WriteSet};
+use stamps::{Key, KeySource, Record, Stamp, Tag, Value, WriteSet};
 
 /// Packs a record without its stamp to the front of a buffer, and answers how many bytes these are, at most `MAX_BODY_BYTES`. What lies
 /// behind them is then any.
@@ -48,10 +48,8 @@ pub fn unpack_body(bytes: &[u8], stamp: Stamp, place: &mut Record)
     ensures { (len : ℕ) → IsPackedBody stamp (take len bytes.now)
         → place.new ≡ record_in stamp (take len bytes.now) }
 {
-    let (key, rest) = stored_key(bytes);
-    place.key = key;
-    let (tag, rest) = stored_tag(rest);
-    place.tag = tag;
+    let rest = unpack_key(bytes, &mut place.key);
+    let rest = unpack_tag(rest, &mut place.tag);
     let rest = unpack_value(rest, &mut place.value);
     place.stamp = stamp;
     unpack_writes(rest, &mut place.writes);
@@ -186,28 +184,79 @@ fn stored_value(bytes: &[u8]) -> (Value, &[u8])
     }
 }
 
-// Writes the value at the front over another one, and answers the bytes behind it.
+// Writes the key at the front over another one, and answers the bytes behind it.
+#[inline(always)]
+fn unpack_key<'a>(bytes: &'a [u8], place: &mut Key) -> &'a [u8]
+    requires { IsSome (key_at bytes.now) }
+    ensures { Some (place.new, result.now) ≡ key_at bytes.now }
+{
+    let (text, rest) = stored_text(bytes);
+    match wide_text(bytes) {
+        Some(front) => *place = Key::of_front(front, text.len()),
+        None => unpack_short_key(text, place),
+    }
+    rest
+}
+
+// Writes a key that stands near the end of the bytes over another one.
+#[cold]
+#[inline(never)]
+fn unpack_short_key(text: &[u8], place: &mut Key)
+    requires { IsKey text.now }
+    ensures { place.new ≡ text.now }
+{
+    *place = Key::of_stored(text);
+}
+
+// Writes the tag at the front over another one, and answers the bytes behind it.
+#[inline(always)]
+fn unpack_tag<'a>(bytes: &'a [u8], place: &mut Tag) -> &'a [u8]
+    requires { IsSome (tag_at bytes.now) }
+    ensures { Some (place.new, result.now) ≡ tag_at bytes.now }
+{
+    let (text, rest) = stored_text(bytes);
+    match wide_text(bytes) {
+        Some(front) => *place = Tag::of_front(front, text.len()),
+        None => unpack_short_tag(text, place),
+    }
+    rest
+}
+
+// Writes a tag that stands near the end of the bytes over another one.
+#[cold]
+#[inline(never)]
+fn unpack_short_tag(text: &[u8], place: &mut Tag)
+    requires { IsTag text.now }
+    ensures { place.new ≡ text.now }
+{
+    *place = Tag::of_stored(text);
+}
+
+// Writes the value at the front over another one, and answers the bytes behind it. A short one is copied without what a long one has more.
 #[inline(always)]
 fn unpack_value<'a>(bytes: &'a [u8], place: &mut Value) -> &'a [u8]
     requires { IsSome (value_at bytes.now) }
     ensures { Some (place.new, result.now) ≡ value_at bytes.now }
 {
     let (text, rest) = stored_text(bytes);
-    match wide_text(bytes) {
-        Some(front) => *place = Value::of_front(front, text.len()),
-        None => unpack_short(text, place),
+    if text.len() <= Value::SHORT_LEN
+        && let Some(front) = wide_text(bytes)
+    {
+        place.set_short(front, text.len());
+        return rest;
     }
-    rest
+    unpack_long(bytes, place)
 }
 
-// Writes a value that stands near the end of the bytes over another one.
-#[cold]
+// Does what `unpack_value` does, with a value that is long, or stands near the end of the bytes.
 #[inline(never)]
-fn unpack_short(text: &[u8], place: &mut Value)
-    requires { IsValue text.now }
-    ensures { place.new ≡ text.now }
+fn unpack_long<'a>(bytes: &'a [u8], place: &mut Value) -> &'a [u8]
+    requires { IsSome (value_at bytes.now) }
+    ensures { Some (place.new, result.now) ≡ value_at bytes.now }
 {
-    *place = Value::of_stored(text);
+    let (value, rest) = stored_value(bytes);
+    *place = value;
+    rest
 }
 
 // The write set at the end.
@@ -252,12 +301,25 @@ fn unpack_keys(count: usize, bytes: &[u8], place: &mut WriteSet)
     requires there { IsSome (writes_of count bytes.now) }
     ensures { (rest : List ℕ) × (Some (place.new, rest) ≡ writes_of count bytes.now) }
 {
-    let (first, after_first) = stored_key(bytes);
-    place.set_only(first);
-    let mut rest = after_first;
-    for at in 1..count {
-        let (key, after) = stored_key(rest);
-        place.push_stored(key);
-        rest = after;
+    let mut keys = StoredKeys { bytes, left: count };
+    place.set_from(&mut keys, count);
+}
+
+// Keys that lie one behind the other, so many.
+#[derive(Drop)]
+struct StoredKeys<'a> {
+    bytes: &'a [u8],
+    left: usize,
+}
+
+impl<'a> KeySource for StoredKeys<'a> {
+    ghost use Rattle.packed.specs.Reading.{keys_in};
+
+    ghost keys_left = { λ keys. keys_in keys.left keys.bytes.now };
+
+    #[inline(always)]
+    fn next_into(&mut self, place: &mut Key) {
+        self.bytes = unpack_key(self.bytes, place);
+        self.left -= 1;
     }
 }

@@ -8,12 +8,13 @@ ghost use Rattle.std.specs.List.{AllByRecursion};
 ghost use Rattle.stamps.specs.Limits.{max_keys};
 ghost use Rattle.stamps.specs.Stamp.{IsStamp};
 ghost use Rattle.stamps.specs.Key.{IsKey};
+ghost use Rattle.stamps.specs.Value.{IsValue};
 ghost use Rattle.packed.specs.Packing.{packed_text, packed_keys, packed_record, IsStoreRecord};
 ghost use Rattle.packed.specs.Bodies.{packed_body};
-ghost use Rattle.packed.specs.Sizes.{stamp_bytes, max_key_bytes, max_keys_bytes, max_record_bytes, max_body_bytes};
+ghost use Rattle.packed.specs.Sizes.{stamp_bytes, max_key_bytes, max_value_bytes, max_keys_bytes, max_record_bytes, max_body_bytes};
 
 use crate::sizes::STAMP_BYTES;
-use stamps::{Key, Record, Stamp};
+use stamps::{Key, Record, Stamp, Value};
 
 /// These bytes. Of what is written, any first part may count.
 #[inline(always)]
@@ -77,6 +78,21 @@ fn lay_key(bytes: &mut [u8], at: usize, key: &Key) -> usize
     lay_text(bytes, at, key.padded(), key.len())
 }
 
+/// A value behind its length. It takes up to `1 + MAX_VALUE_LEN` bytes. A short one is written without the rest of its array.
+#[inline(always)]
+fn lay_value(bytes: &mut [u8], at: usize, value: &Value) -> usize
+    requires { at + max_value_bytes ≤ length bytes.old }
+    ensures laid { take result bytes.new ≡ take at bytes.old ++ packed_text value.now }
+    ensures stored { IsValue value.now }
+    ensures few { result ≤ at + max_value_bytes }
+{
+    let len = value.len();
+    if len <= Value::SHORT_LEN {
+        return lay_text(bytes, at, value.padded_short(), len);
+    }
+    lay_text(bytes, at, value.padded(), len)
+}
+
 /// A stamp. It takes `STAMP_BYTES`.
 #[inline(always)]
 fn lay_stamp(bytes: &mut [u8], at: usize, stamp: Stamp) -> usize
@@ -115,7 +131,7 @@ pub(crate) fn lay_record(bytes: &mut [u8], at: usize, version: &Record) -> usize
 {
     let tag = lay_key(bytes, at, &version.key);
     let value = lay_text(bytes, tag, version.tag.padded(), version.tag.len());
-    let stamp = lay_text(bytes, value, version.value.padded(), version.value.len());
+    let stamp = lay_value(bytes, value, &version.value);
     let writes = lay_stamp(bytes, stamp, version.stamp);
     lay_keys(bytes, writes, version.writes.as_slice())
 }
@@ -130,6 +146,6 @@ pub(crate) fn lay_body(bytes: &mut [u8], version: &Record) -> usize
     let _number = version.stamp.number();
     let tag = lay_key(bytes, 0, &version.key);
     let value = lay_text(bytes, tag, version.tag.padded(), version.tag.len());
-    let writes = lay_text(bytes, value, version.value.padded(), version.value.len());
+    let writes = lay_value(bytes, value, &version.value);
     lay_keys(bytes, writes, version.writes.as_slice())
 }

@@ -5,6 +5,7 @@
 
 mod bounds;
 mod key;
+mod key_source;
 pub mod limits;
 mod record;
 mod stamp;
@@ -16,6 +17,7 @@ mod write_set;
 
 pub use bounds::{Client, Counter, Keep, Limits};
 pub use key::{Key, home};
+pub use key_source::KeySource;
 pub use record::{Item, Record};
 pub use stamp::Stamp;
 pub use tag::Tag;

@@ -1,13 +1,13 @@
 //! Values.
-ghost use Rattle.std.specs.Prelude.{◌≡◌, ◌↔◌, IsSome, IfSome, ◌≤◌, ◌-◌, length, take, drop, replicate};
+ghost use Rattle.std.specs.Prelude.{◌≡◌, ◌↔◌, IsSome, IfSome, ◌≤◌, ◌-◌, [], length, take, drop, replicate};
 ghost use Rattle.stamps.specs.Limits.{max_value_len};
-ghost use Rattle.stamps.specs.Value.{IsValue};
+ghost use Rattle.stamps.specs.Value.{IsValue, short_value_len};
 
 use crate::limits;
 use crate::text::{self, Text};
 use std::fmt;
 use std::marker::Model;
-use std::simd::u8x64;
+use std::simd::{u8x32, u8x64};
 
 /// What an item holds: 0 to 128 visible ASCII bytes, from `!` (0x21) to `~` (0x7E). A contract sees a value as its
 /// bytes.
@@ -74,6 +74,30 @@ impl Value {
         }
     }
 
+    /// Makes of it, in place, the value of the first `len` bytes of a short array, which are known to be one's. It checks none of them.
+    /// Other bytes may stand behind them. Over a short value it writes no more bytes than these.
+    #[inline(always)]
+    pub fn set_short(&mut self, front: &[u8; Value::SHORT_LEN], len: usize)
+        requires valid { IsValue (take len front.now) }
+        requires fits { len ≤ short_value_len }
+        ensures { self.new ≡ take len front.now }
+    {
+        if self.text.len() > Value::SHORT_LEN {
+            self.clear();
+        }
+        self.text.set_padded(&short_front(front, len), len);
+    }
+
+    /// Makes of it the value without a byte.
+    #[cold]
+    #[inline(never)]
+    fn clear(&mut self)
+        ensures { self.new ≡ [] }
+    {
+        let nothing = b"";
+        self.text = Text::new(nothing);
+    }
+
     /// Makes of it a copy of another one, in place. Of two short ones it writes the first bytes alone.
     #[inline(always)]
     pub fn copy_from(&mut self, other: &Value)
@@ -94,6 +118,14 @@ impl Value {
         ensures bytes { take (length self.now) result.now ≡ self.now }
     {
         self.text.padded()
+    }
+
+    /// The bytes of a short value, and zeros behind them: `SHORT_LEN` bytes in all.
+    pub fn padded_short(&self) -> &[u8; Value::SHORT_LEN]
+        requires { length self.now ≤ short_value_len }
+        ensures { take (length self.now) result.now ≡ self.now }
+    {
+        self.text.padded_front()
     }
 
     /// How many bytes it has, of the 128 at most.
@@ -122,6 +154,17 @@ impl fmt::Display for Value {
     fn fmt<W: fmt::Write>(&self, f: &mut fmt::Formatter<W>) -> fmt::Result {
         fmt::Display::fmt(self.text.as_str(), f)
     }
+}
+
+/// The first `len` bytes of a short array, and zeros behind them.
+#[inline(always)]
+fn short_front(front: &[u8; Value::SHORT_LEN], len: usize) -> [u8; Value::SHORT_LEN]
+    requires fits { len ≤ short_value_len }
+    ensures bytes { take len result ≡ take len front.now }
+    ensures zeros { drop len result ≡ replicate (short_value_len - len) 0 }
+{
+    let kept = u8x32::from_array(*front) & u8x32::from_array(*text::front_mask(len));
+    kept.to_array()
 }
 
 /// The first `len` bytes of an array, and zeros behind them. Whole vectors are copied, half of the bytes in each.

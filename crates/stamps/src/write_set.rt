@@ -4,7 +4,7 @@ ghost use Rattle.stamps.specs.Key.{IsAscending, IsTransactionKeys, sorted_keys};
 ghost use Rattle.stamps.specs.Limits.{max_keys};
 ghost use Rattle.stamps.specs.WriteSet.{IsWriteSet, contains_key, unused_key};
 
-use crate::{Key, limits};
+use crate::{Key, KeySource, limits};
 use std::fmt;
 use std::marker::Model;
 
@@ -122,6 +122,19 @@ impl WriteSet {
         self.len += 1;
     }
 
+    /// Makes of it, in place, the write set of the stored keys that are left, so many, which are known to be one's. It checks nothing, and
+    /// writes those places alone that have keys, or had.
+    #[inline(always)]
+    pub fn set_from<S: KeySource>(&mut self, source: &mut S, count: usize)
+        requires set { IsWriteSet (S.keys_left source.old) }
+        requires count { length (S.keys_left source.old) ≡ count }
+        ensures { self.new ≡ S.keys_left source.old }
+    {
+        free(&mut self.keys, count, usize::from(self.len));
+        read_each(&mut self.keys[..count], source);
+        self.len = count as u8;
+    }
+
     /// Whether there is a write set of these keys, in any order: they are 1 to `MAX_KEYS`, and none stands twice.
     pub fn are_keys(keys: &[Key]) -> bool
         ensures { IsTrue result ↔ IsTransactionKeys keys.now }
@@ -174,6 +187,17 @@ fn free(keys: &mut [Key], from: usize, used: usize)
     while left > from {
         left -= 1;
         keys[left] = unused();
+    }
+}
+
+/// Writes the stored keys that are left over these, which are as many.
+#[inline(always)]
+fn read_each<S: KeySource>(keys: &mut [Key], source: &mut S)
+    requires { length (S.keys_left source.old) ≡ length keys.old }
+    ensures { keys.new ≡ S.keys_left source.old }
+{
+    for at in 0..keys.len() {
+        source.next_into(&mut keys[at]);
     }
 }
 

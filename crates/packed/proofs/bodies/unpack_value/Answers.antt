@@ -1,6 +1,5 @@
 use Rattle.std.proofs.Common.{Some, sym, ap, subst, arith, ◌∙◌}
-use Rattle.stamps.specs.Value.{IsValue}
-use Rattle.stamps.specs.Limits.{max_value_len}
+use Rattle.stamps.specs.Value.{IsValue, short_value_len}
 use Rattle.packed.proofs.BodyParts.{text_of_value, value_here, text_found, front_text}
 use Rattle.packed.proofs.bodies.unpack_value.Goals as goal
 
@@ -11,25 +10,14 @@ pub wide_text-requires : goal.wide_text-requires
 wide_text-requires c =
     (omega arith, (text_found c.args.bytes.now c.stored_text.result.0.now c.stored_text.result.1.now c.stored_text.ensures).0)
 
-pub of_front-requires-clause-valid : goal.of_front-requires-clause-valid
-of_front-requires-clause-valid c =
+pub set_short-requires-clause-valid : goal.set_short-requires-clause-valid
+set_short-requires-clause-valid c =
     let here = value_here c.args.bytes.now c.stored_text.result.0.now c.stored_text.result.1.now c.stored_text.ensures c.requires in
-    let same = front_text c.args.bytes.now c.stored_text.result.0.now c.stored_text.result.1.now c.in-Some.front.now max_value_len c.stored_text.ensures c.in-Some.ensures here.0.at_most in
+    let same = front_text c.args.bytes.now c.stored_text.result.0.now c.stored_text.result.1.now c.in-Some.front.now short_value_len c.stored_text.ensures c.in-Some.ensures c.if-text-le-SHORT_LEN.true in
     subst IsValue (sym same) here.0
 
-pub of_front-requires-clause-fits : goal.of_front-requires-clause-fits
-of_front-requires-clause-fits c = (value_here c.args.bytes.now c.stored_text.result.0.now c.stored_text.result.1.now c.stored_text.ensures c.requires).0.at_most
-
-pub unpack_short-requires : goal.unpack_short-requires
-unpack_short-requires c = (value_here c.args.bytes.now c.stored_text.result.0.now c.stored_text.result.1.now c.stored_text.ensures c.requires).0
-
-pub returns-in-Some : goal.returns-in-Some
-returns-in-Some c =
+pub returns : goal.returns
+returns c =
     let here = value_here c.args.bytes.now c.stored_text.result.0.now c.stored_text.result.1.now c.stored_text.ensures c.requires in
-    let same = front_text c.args.bytes.now c.stored_text.result.0.now c.stored_text.result.1.now c.in-Some.front.now max_value_len c.stored_text.ensures c.in-Some.ensures here.0.at_most in
-    ap (λ one. Some (one, c.stored_text.result.1.now)) (c.of_front.ensures ∙ same) ∙ here.1
-
-pub returns-in-None : goal.returns-in-None
-returns-in-None c =
-    ap (λ one. Some (one, c.stored_text.result.1.now)) c.unpack_short.ensures
-    ∙ (value_here c.args.bytes.now c.stored_text.result.0.now c.stored_text.result.1.now c.stored_text.ensures c.requires).1
+    let same = front_text c.args.bytes.now c.stored_text.result.0.now c.stored_text.result.1.now c.in-Some.front.now short_value_len c.stored_text.ensures c.in-Some.ensures c.if-text-le-SHORT_LEN.true in
+    ap (λ one. Some (one, c.stored_text.result.1.now)) (c.set_short.ensures ∙ same) ∙ here.1
