@@ -20,7 +20,7 @@ const SMALL_BYTES: usize = 192;
 /// The room of a buffer for a small record, which is copied in whole pieces.
 const SMALL_ROOM: usize = SMALL_BYTES + 63;
 
-/// So many bytes at the front of a record have its key and its tag.
+/// So many bytes at the front of a record have its key and its tag. Records with short keys and a short value have no more.
 const FRONT_BYTES: usize = 64;
 
 /// The room of a buffer for the front of a record.
@@ -181,6 +181,19 @@ impl<'b> StoredNode<'b> {
 
     /// Writes the version's record over another one.
     fn copy_into(&self, place: &mut Record)
+        ensures { place.new ≡ self.now.version.prepared }
+    {
+        if self.len() > FRONT_BYTES {
+            self.copy_longer(place);
+            return;
+        }
+        let mut body = [0; FRONT_ROOM];
+        self.copy_by(&mut body, place);
+    }
+
+    /// Writes the version's record, which is more than a front, over another one.
+    #[inline(never)]
+    fn copy_longer(&self, place: &mut Record)
         ensures { place.new ≡ self.now.version.prepared }
     {
         if self.len() > SMALL_BYTES {
