@@ -93,7 +93,7 @@ pub(crate) const STAY: &str = "stay";
 /// The option of a server whose sessions are strict.
 pub(crate) const STRICT: &str = "strict";
 
-/// The option of a server whose puts read their keys first.
+/// The option of a server whose puts take their counters from their tenant's clock.
 pub(crate) const NEWEST: &str = "newest";
 
 /// The option of a server that records nothing.

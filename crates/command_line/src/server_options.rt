@@ -12,9 +12,9 @@ pub struct ServerOptions {
     pub stay: bool,
     /// Whether a line that can't be read ends a connection that has no seat.
     pub strict: bool,
-    /// Whether each put reads its keys first, so that its stamp is above all that was done there.
+    /// Whether each put takes its counter from its tenant's clock, so that its stamp is above each put that was done before.
     pub newest: bool,
-    /// Whether it records nothing: its journals are cut and dropped, and it has no verdict.
+    /// Whether it records nothing: it keeps neither journals nor transcripts, and has no verdict.
     pub unrecorded: bool,
     /// Whether it reports of how much its verdicts are. Without a verdict this changes nothing.
     pub counts: bool,

@@ -792,7 +792,7 @@ impl<'a, G: Gate + Naming> RunningOperation<'a, G> {
         }
     }
 
-    /// Enters a reply.
+    /// Enters a reply that was taken: to which call of the seat, from which partition, and its place in the journal there.
     fn push_took(&mut self, number: u64, partition: u32, place: u64, reply: &Reply)
         requires { 0 < self.old.entries.room }
         ensures room { self.new.entries.room + 1 ≡ self.old.entries.room }

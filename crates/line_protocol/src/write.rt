@@ -75,7 +75,7 @@ pub fn write_ready_as(counter: Counter, client: Client, out: &mut BytesMut) -> R
 }
 
 /// Appends the line that answers `info`, with its LF: [`VERSION`], the number of this store, which differs from run to run, and
-/// whether each put reads its keys first. It succeeds exactly where [`LINE_LIMIT`] bytes are spare, and takes no memory. Otherwise
+/// whether its puts are newest by themselves. It succeeds exactly where [`LINE_LIMIT`] bytes are spare, and takes no memory. Otherwise
 /// it is [`NoRoom`], and `out` is as it was.
 pub fn write_info(store: u64, newest: bool, out: &mut BytesMut) -> Result<(), NoRoom>
     ensures { WritesLine LINE_LIMIT (info_line store newest) out.old out.new result }

@@ -32,7 +32,7 @@ impl<J: Naming> Model for NamedClosed<J> {
 }
 
 impl<J: Naming> NamedClosed<J> {
-    /// What was left.
+    /// The recorded history that the store left.
     pub fn closed(&self) -> &Closed
         ensures { result.now ≡ self.now }
     {
@@ -83,7 +83,7 @@ impl<J: Naming> Model for NamedEndings<J> {
 }
 
 impl<J: Naming> NamedEndings<J> {
-    /// The endings.
+    /// What was left of each journal, with what is known of it.
     pub fn endings(&self) -> &LastEpochs
         ensures { result.now ≡ self.now }
     {

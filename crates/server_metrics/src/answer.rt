@@ -21,7 +21,7 @@ pub enum Status {
     NotFound,
     /// 405: only `GET` is answered.
     OtherMethod,
-    /// 431: its head has 8 KiB or more.
+    /// 431: its head has more than 8 KiB.
     TooLarge,
     /// 503: the server is not well.
     NotWell,

@@ -18,7 +18,7 @@ const MOST_READS: u32 = 8;
 const MOST_WRITES: u32 = 64;
 
 /// Reads the head of a request, in whatever pieces it comes, and says what it asks for: one that the input cuts is refused 400, and one
-/// of 8 KiB or more 431. `None` where nothing came, a read failed, or it is over.
+/// of more than 8 KiB 431. `None` where nothing came, a read failed, or it is over.
 pub fn hear<R: Read>(reader: &mut R, is_over: &AtomicBool) -> Option<PageRequest>
     ensures { IfSome result (IsHeardOf (R.remaining reader.old) (R.remaining reader.new)) }
 {

@@ -104,7 +104,7 @@ enum SessionEnd {
 }
 
 /// Answers the lines of one connection as [`run_session_as`] does, of a session without options: a line that can't be read
-/// is refused 40, and the session goes on, and a put reads nothing first.
+/// is refused 40, and the session goes on, and a put takes its counter from its client's session, not from a clock.
 pub fn run_session<'s, G: Gate + Naming, H: Wait, R: Read, W: Write>(
     rt: &H,
     alloc: Global,

@@ -138,7 +138,7 @@ impl<L, G: Naming, N> Server<L, G, N> {
         })
     }
 
-    /// The same server, whose sessions have these options. Else they have none: they are not strict, no put reads first, and the store's number is 0.
+    /// The same server, whose sessions have these options. Else they have none: they are not strict, no put takes its counter from a clock, and the store's number is 0.
     pub fn with_options(self, options: SessionOptions) -> Server<L, G, N>
         ensures listener { (listener_of result ≡ listener_of self)
             × (tenants_of result ≡ tenants_of self) }

@@ -13,7 +13,7 @@ pub(crate) struct SessionCount {
 }
 
 impl SessionCount {
-    /// None.
+    /// The count of a server that serves no connection yet.
     pub(crate) fn new() -> SessionCount {
         SessionCount {
             sessions: AtomicU64::new(0),

@@ -9,7 +9,7 @@ use line_protocol::Name;
 pub trait Tenants {
     ghost listed: { Self → List (List ℕ) };
 
-    /// The names.
+    /// The names, of which the n-th is that of tenant n.
     fn names(&self) -> &[Name]
         ensures { result.now ≡ listed self.now };
 }

@@ -20,7 +20,7 @@ const BUSY: u8 = 12;
 /// What a status port reports of.
 #[derive(Drop)]
 pub struct Watched<'s, G: Naming, C = Mutex<Checked>> {
-    /// The store.
+    /// The running store whose figures are read.
     pub hub: &'s Hub<G>,
     /// The names of its tenants.
     pub names: &'s [Name],

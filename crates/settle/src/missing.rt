@@ -79,7 +79,7 @@ fn are_other(its: &Limits, own: &Limits) -> bool
     its.slots != own.slots || its.items != own.items || its.clients != own.clients
 }
 
-/// The transcript of each seat's event is there.
+/// Fails where the transcript of a seat is missing of which a journal has an event.
 fn check_events(closed: &Closed, tenant: u32, places: &SessionOrder) -> Result<(), SettleFault>
     requires places { IsSessionOrder closed.now.transcripts.items tenant places.now }
     ensures { (limits : Limited) → IfErr result (IsFaulty closed.now tenant limits) }

@@ -11,7 +11,7 @@ use crate::shard::{ShardConfig, ShardState, answer, is_full, is_long};
 use history::Naming;
 use plain_store::Call;
 
-/// The seat of the collector.
+/// What stands for a seat in the event of a collection.
 const COLLECTOR: u64 = 0;
 
 /// How far a round has come. `collect_next` alone takes it further, by one tenant each.

@@ -84,7 +84,7 @@ pub struct FollowUp {
     pub cuts: bool,
 }
 
-/// One partition.
+/// What stands at one partition: its book behind a lock, and what threads read without it.
 #[derive(Drop)]
 pub struct Shard<J: Naming> {
     pub config: ShardConfig,

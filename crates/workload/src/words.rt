@@ -31,7 +31,7 @@ use std::time::Clock;
 /// - `ramp cell [--slots N] [--items N] [--clients N]` answers the calls of one cell, as [`line_runs::run_cell`] says.
 /// - `ramp sim [--parts P] [--slots N] [--items N] [--clients N] [--keep K] TENANT..` answers the steps of these tenants, none
 ///   named twice, which have the same limits.
-/// - `ramp serve` takes what `ramp sim` takes, and `[--port N] [--sessions N] [--stay] [--strict] [--newest] [--unrecorded] [--queue N]
+/// - `ramp serve` takes what `ramp sim` takes, and `[--port N] [--sessions N] [--stay] [--strict] [--newest] [--unrecorded] [--counts] [--queue N]
 ///   [--every N] [--epoch N] [--status N]`, and serves sessions of the tenants over TCP, as [`run_server`] says. With `--stay` the number of sessions
 ///   is of those at a time. With `--unrecorded` it keeps no record and has no verdict. With `--strict` a line that can't be read ends a connection that has no seat. With `--newest` each put is
 ///   above what was done before it, by the clock of its tenant.
@@ -160,8 +160,8 @@ fn serve_store<
     run_server(rt, alloc, config, names, options, reader, writer)
 }
 
-/// A server that records nothing has no journal to cut. Its seats keep no transcript and put by their tenant's clock, as where journals
-/// are cut, and this number says so to them.
+/// A server that records nothing has no journal to cut. Its seats keep no transcript, as where journals are cut, and this number says so
+/// to them.
 const UNRECORDED_EPOCH: u32 = 1;
 
 // After how many events a journal is cut.
