@@ -1,7 +1,7 @@
 -- For `StampList::mark_cut`, `KeptList::mark_cut`, `KeptList::note_cut` and `Chains::cut_below`. The list once a version is marked as cut.
-use Rattle.std.proofs.Common.{◌≡◌, ◌≢◌, inl, inr, ℕ, ◌==◌, ◌&&◌, ◌||◌, not, nat_lt, Bool, true, false, if◌then◌else◌, List, [], ◌∷◌, length, map, get_or, count_by, Option, Some, None, refl, sym, ap, ◌∙◌, arith}
+use Rattle.std.proofs.Common.{◌≡◌, ◌≢◌, inl, inr, ℕ, ◌<◌, ◌==◌, ◌&&◌, ◌||◌, not, nat_lt, Bool, true, false, if◌then◌else◌, List, [], ◌∷◌, ◌++◌, length, map, get_or, count_by, Option, Some, None, refl, sym, ap, ◌∙◌, arith}
 use Rattle.std.proofs.lemmas.Bool.{eq-eqb, ne_eqb, eqb-true, cases_Bool, false_from_ne_true}
-use Rattle.std.proofs.lemmas.List.{get_or-map, length-map}
+use Rattle.std.proofs.lemmas.List.{get_or-map, length-map, map-append}
 use Rattle.version_arena.specs.Arena.{entry}
 use Rattle.version_chain.specs.Node.{Node}
 use Rattle.version_chain.specs.declared.stamp_list.Kept.{Kept}
@@ -52,11 +52,31 @@ module _ (stamp slot : ℕ) where
   at_same : (other : ℕ) (kept : List Kept) → count_at other (map (cut_where stamp slot) kept) ≡ count_at other kept
   at_same other kept = count_cut (λ (k : Kept). k.stamp == other) (λ k. ap (λ n. n == other) (same_stamp k)) kept
 
+  -- a list without a version of the stamp stays as it is
+  pub none_cut : (kept : List Kept) → count_at stamp kept ≡ 0 → map (cut_where stamp slot) kept ≡ kept
+  none_cut [] none = refl
+  none_cut (k ∷ kept) none = elim (cases_Bool (k.stamp == stamp)) [
+    | inl at ↦ absurd (let one = cons (λ (x : Kept). x.stamp == stamp) k kept in let same = ap {B = ℕ} (λ b. if b then 1 else 0) at in omega (arith, one, same, none))
+    | inr other ↦
+        let this : cut_where stamp slot k ≡ k = ap (λ (b : Bool). if b then cut_at slot k else k) other in
+        let rest = none_cut kept (let one = cons (λ (x : Kept). x.stamp == stamp) k kept in omega (arith, one, none)) in
+        (λ i. this i ∷ rest i)
+  ]
+
   pub apart_cut : (one other : List Kept) → AreApart one other → AreApart (map (cut_where stamp slot) one) (map (cut_where stamp slot) other)
   apart_cut one other apart at = elim (apart at) [
     | inl none ↦ inl (at_same at one ∙ none)
     | inr none ↦ inr (at_same at other ∙ none)
   ]
+
+  pub apart_cut_first : (one other : List Kept) → AreApart one other → AreApart (map (cut_where stamp slot) one) other
+  apart_cut_first one other apart at = elim (apart at) [ inl none ↦ inl (at_same at one ∙ none) | inr none ↦ inr none ]
+
+  -- where the first list has the stamp, the other one has none
+  pub second_as_it_was : (one other : List Kept) → AreApart one other → 0 < count_at stamp one → map (cut_where stamp slot) (one ++ other) ≡ map (cut_where stamp slot) one ++ other
+  second_as_it_was one other apart any =
+      map-append (cut_where stamp slot) one other
+      ∙ ap (λ (ks : List Kept). map (cut_where stamp slot) one ++ ks) (none_cut other (elim (apart stamp) [ inl none ↦ absurd (omega (arith, any, none)) | inr none ↦ none ]))
 
   -- the version of the slot left its cell
   module _ (cells next : Cells) (chains after : Heads) (whose : after.tenant ≡ chains.tenant) (freed : FreesOnly cells next slot) where

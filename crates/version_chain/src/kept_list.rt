@@ -129,15 +129,16 @@ impl KeptList {
         }
     }
 
-    // Marks the version of this stamp and slot as cut, if one of the lists has it. A binary search in each finds the first of the
-    // stamp, and each of the stamp is visited.
+    // Marks the version of this stamp and slot as cut, if one of the lists has it. A binary search finds the first of the stamp, in the
+    // list of the late ones only where the main one has none of it; each of the stamp is visited.
     #[inline(never)]
     fn mark_cut(&mut self, stamp: Stamp, slot: Slot)
         ensures room { self.new.room ≡ self.old.room }
         ensures marked { self.new.kept ≡ map (cut_where stamp slot) self.old.kept }
     {
-        self.main.mark_cut(stamp, slot);
-        self.late.mark_cut(stamp, slot);
+        if !self.main.mark_cut(stamp, slot) {
+            let _ = self.late.mark_cut(stamp, slot);
+        }
     }
 
     /// Takes out the versions that their cells do not hold any more, which are those that are marked where the list is long. It goes

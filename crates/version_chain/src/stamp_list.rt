@@ -157,14 +157,27 @@ impl StampList {
         &self.kept[first..]
     }
 
-    /// Marks the version of this stamp and slot as cut, if the list has one. A binary search finds the first of the stamp, and
-    /// each of the stamp is visited.
-    pub(crate) fn mark_cut(&mut self, stamp: Stamp, slot: Slot)
+    /// Marks the version of this stamp and slot as cut, if the list has one, and answers whether it has any version of the stamp. A binary
+    /// search finds the first of the stamp, and each of the stamp is visited: what is cut is seldom among the last few.
+    pub(crate) fn mark_cut(&mut self, stamp: Stamp, slot: Slot) -> bool
         ensures room { self.new.room ≡ self.old.room }
         ensures marked { self.new.kept ≡ map (cut_where stamp slot) self.old.kept }
+        ensures any { IsTrue result ↔ (0 < count_at stamp self.old.kept) }
     {
-        let (first, end) = self.places(stamp);
+        let (first, end) = self.old_places(stamp);
         mark_run(&mut self.kept[first..end], slot);
+        first < end
+    }
+
+    // What `places` answers, by a binary search alone.
+    fn old_places(&self, stamp: Stamp) -> (usize, usize)
+        ensures ordered { result.0 ≤ result.1 }
+        ensures within { result.1 ≤ length self.now.kept }
+        ensures together { slice_range self.now.kept result.0 result.1
+            ≡ filter (λ k. k.stamp == stamp) self.now.kept }
+    {
+        let first = place_by_halves(&self.kept, stamp);
+        (first, end_of_run(&self.kept, first, stamp))
     }
 
     /// Takes out the versions that are marked as cut. It goes over the list once, and visits no cell.
@@ -241,6 +254,15 @@ fn place_from(list: &[Kept], stamp: Stamp) -> usize
         }
         first -= 1;
     }
+    place_by_halves(list, stamp)
+}
+
+// Behind the versions of lower stamps, where those of this stamp begin, by a binary search.
+fn place_by_halves(list: &[Kept], stamp: Stamp) -> usize
+    requires { Ascends list.now }
+    ensures within { result ≤ length list.now }
+    ensures place { EndsBelow list.now stamp result }
+{
     list.partition_point(|kept| kept.stamp < stamp)
 }
 

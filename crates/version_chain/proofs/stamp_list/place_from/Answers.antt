@@ -1,6 +1,4 @@
-use Rattle.std.proofs.Common.{nat_lt, rules, arith}
-use Rattle.std.proofs.lemmas.List.Sorted.{IsPartitionPoint-from_clause, IsPartitionedBy-ltb}
-use Rattle.version_chain.specs.declared.stamp_list.Kept.{Kept}
+use Rattle.std.proofs.Common.{arith}
 use Rattle.version_chain.proofs.StampParts.{begins_here, one_lower}
 use Rattle.version_chain.proofs.stamp_list.place_from.Goals as goal
 
@@ -18,8 +16,3 @@ pub loop-step-preserved : goal.loop-step-preserved
 loop-step-preserved c =
     let from = c.ends_from.ensures.from c.if-not-ends_from.false in
     (omega (arith, c.loop-step.invariant.0), one_lower c.args.list.now c.args.stamp c.loop-step.first from.0 from.1 c.loop-step.invariant.1)
-
-pub returns-clause-place : goal.returns-clause-place
-returns-clause-place c =
-    IsPartitionPoint-from_clause (λ (k : Kept). nat_lt k.stamp c.args.stamp) c.args.list.now c.partition_point.result c.partition_point.ensures.partitioned
-    (IsPartitionedBy-ltb (λ (k : Kept). k.stamp) c.args.list.now c.args.stamp c.requires) (λ a r f called. search rules)
