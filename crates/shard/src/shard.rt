@@ -23,19 +23,18 @@ use history::{Front, Naming};
 use partition::Caller;
 use plain_store::{Call, Refusal};
 use std::collections::VecDeque;
-use std::hint::spin_loop;
-use std::sync::atomic::AtomicU64;
+use std::sync::atomic::{AtomicU64, Ordering};
 use std::sync::{Arc, Mutex, MutexGuard, Wait};
 use std::thread;
 use traced_book::TracedBook;
 
 /// How often a seat looks whether a lock is free before it lets other threads run. A yield puts it behind all that are ready to
 /// run, so it looks for longer than most waits take.
-const LOOKS: u32 = 1000;
+const LOOKS: u32 = 100;
 
-/// How many hints it gives the processor between two looks. The kit has no instruction for one, so the looks follow each other at
-/// once.
-const WAITS: u32 = 4;
+/// How many times it reads a word that stays as it is, between two looks. A look takes the lock's cache line from the thread that is to
+/// release the lock, so looks that follow each other at once delay that. A hint to the processor compiles to nothing.
+const WAITS: u32 = 200;
 
 /// How often it lets other threads run before it sleeps.
 const YIELDS: u32 = 16;
@@ -202,11 +201,16 @@ impl<J: Naming> Shard<J> {
             if let Some(guard) = self.state.try_lock() {
                 return Some(guard);
             }
-            for _ in 0..WAITS {
-                spin_loop();
-            }
+            self.wait_a_little();
         }
         None
+    }
+
+    /// Lets some hundred cycles of the processor go by, without touching the lock.
+    fn wait_a_little(&self) {
+        for _ in 0..WAITS {
+            let _ = self.arrivals.load(Ordering::SeqCst);
+        }
     }
 
     /// Sees the history as it is now, and answers how many calls it has of this partition, one of so many: 0 where the state behind
