@@ -1,6 +1,7 @@
 //! What changed since the last base, packed ahead of the next one.
-ghost use Rattle.std.specs.Prelude.{◌≡◌, ◌<◌, ◌≤◌, ℕ, false, None, length, slice_set, slice_index_or, IfSome, OnOk};
-ghost use Rattle.prepare_commit.specs.Ahead.{PacksInto, StandsIn};
+ghost use Rattle.std.specs.Prelude.{◌≡◌, ◌<◌, ◌≤◌, ℕ, false, None, length, slice_set, slice_index_or, IfOk, IfSome, OnOk};
+ghost use Rattle.packed.specs.Cuts.{IsCut};
+ghost use Rattle.prepare_commit.specs.Ahead.{PacksInto, StandsIn, packed_in};
 ghost use Rattle.prepare_commit.specs.Begun.{IsFree, IsKeptSince, NotesMore};
 ghost use Rattle.prepare_commit.specs.Calls.{lists_of, AreKeptSince, HoldItems};
 ghost use Rattle.prepare_commit.specs.Spots.{begun_by};
@@ -9,6 +10,7 @@ use crate::changed::ChangedChains;
 use crate::copies::put_chain;
 use crate::items::{self, ChainedItem, ItemList, KnownItem};
 use crate::last_base::LastBase;
+use crate::part_entries::PartEntries;
 use crate::parts::{BasePart, EntryPosition};
 use crate::versions::Versions;
 use std::alloc::{AllocError, Global};
@@ -23,6 +25,23 @@ pub(crate) struct NewPart {
     pub(crate) entries: Vec<KnownItem>,
     pub(crate) found: VersionList,
     pub(crate) ends: Vec<usize>,
+}
+
+impl NewPart {
+    /// The part, in no more memory than it takes. The one error is that an allocation failed.
+    pub(crate) fn packed(self, alloc: Global) -> Result<BasePart, AllocError>
+        requires cut { IsCut 0 self.ends.items (length self.found) }
+        requires many { length self.ends.items ≡ length self.entries.items }
+        ensures { IfOk result (λ part. part ≡ packed_in self) }
+    {
+        let NewPart {
+            entries,
+            found,
+            ends,
+        } = self;
+        let chains = ChainList::of(found.fitted(alloc)?, ends);
+        Ok(BasePart::of(PartEntries::of(alloc, &entries)?, chains))
+    }
 }
 
 /// Packs items whose chains are noted, at most `MOST_AHEAD`, in a part that is put at `free`, and notes them no more. An item is found by
@@ -45,21 +64,16 @@ pub(crate) fn pack_noted(
     ensures kept { OnOk result (IsKeptSince (begun_by last.new) last.new.since items.now.items
         (lists_of block.now versions.now)) }
 {
+    let most = last.since.count().min(MOST_AHEAD);
     let mut part = NewPart {
-        entries: Vec::new(alloc),
+        entries: Vec::with_capacity(alloc, most)?,
         found: VersionList::new(alloc),
-        ends: Vec::new(alloc),
+        ends: Vec::with_capacity(alloc, most)?,
     };
     for _nth in 0..MOST_AHEAD {
         pack_one(block, items, versions, last, free, &mut part)?;
     }
-    let NewPart {
-        entries,
-        found,
-        ends,
-    } = part;
-    let chains = ChainList::of(found, ends);
-    last.parts.put(alloc, free, BasePart::of(entries, chains))?;
+    last.parts.put(alloc, free, part.packed(alloc)?)?;
     Ok(())
 }
 
@@ -82,10 +96,7 @@ fn pack_one(
     let Some(item) = take_known(block, items, versions, &mut last.since) else {
         return Ok(());
     };
-    last.spots[item.chain as usize] = EntryPosition {
-        part: free,
-        at: part.entries.len(),
-    };
+    last.spots[item.chain as usize] = EntryPosition::of(free, part.entries.len())?;
     part.entries.push(item.entry)?;
     put_chain(&mut part.found, &mut part.ends, block, versions, &item)
 }

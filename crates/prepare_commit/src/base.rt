@@ -3,7 +3,6 @@ ghost use Rattle.std.specs.Prelude.{◌≡◌, ◌↔◌, IfOk, IsTrue};
 ghost use Rattle.prepare_commit.specs.Bases.{HasLog, IsBase, empty_base};
 
 use crate::held::Held;
-use crate::items::KnownItem;
 use stamps::Stamp;
 use std::alloc::{AllocError, Global};
 use std::marker::Model;
@@ -131,13 +130,6 @@ fn has_room_of(one: &Base, other: &Base) -> bool
     ensures { IsTrue result ↔ (one.now.room ≡ other.now.room) }
 {
     one.slots == other.slots && one.items == other.items && one.clients == other.clients
-}
-
-/// Whether these are the same entries, in the same order.
-pub(crate) fn are_entries(one: &[KnownItem], other: &[KnownItem]) -> bool
-    ensures { IsTrue result ↔ (one.now ≡ other.now) }
-{
-    one == other
 }
 
 /// Whether these are the same marks, in the same order.

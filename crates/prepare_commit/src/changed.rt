@@ -56,6 +56,11 @@ impl ChangedChains {
         self.numbers.len() >= A_PART
     }
 
+    /// How many chains are noted.
+    pub(crate) fn count(&self) -> usize {
+        self.numbers.len()
+    }
+
     /// The numbers of the chains that are noted, each once.
     pub(crate) fn numbers(&self) -> &[u32]
         ensures { AreNoted self.now result.now }

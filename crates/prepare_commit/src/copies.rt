@@ -8,13 +8,14 @@ ghost use Rattle.prepare_commit.specs.Calls.{lists_of, versions_at, AreKeptSince
 ghost use Rattle.prepare_commit.specs.Layout.{HaveOwnChains};
 ghost use Rattle.prepare_commit.specs.Remembered.{is_changed};
 
+use crate::ahead::NewPart;
 use crate::held::Held;
 use crate::items::{ChainedItem, ItemList};
 use crate::last_base::LastBase;
-use crate::parts::{BasePart, EntryPosition, PartList, is_entry};
+use crate::parts::{EntryPosition, PartList, is_entry};
 use crate::versions::Versions;
 use std::alloc::{AllocError, Global};
-use version_chain::{Block, ChainList, VersionList};
+use version_chain::{Block, VersionList};
 
 /// What the items have. Of an item whose chain was noted the versions are packed, in a part that is put at `free`; any other lies in
 /// a part already, at the spot of its chain, and its chain is not visited. The one error is that an allocation failed.
@@ -33,16 +34,14 @@ pub(crate) fn held_items(
         ≡ holdings items.now.items (lists_of block.now versions.now)) }
 {
     let mut places = Vec::with_capacity(alloc, items.len())?;
-    let mut entries = Vec::new(alloc);
+    let most = last.since.count().min(items.len());
+    let mut entries = Vec::with_capacity(alloc, most)?;
     let mut found = VersionList::new(alloc);
-    let mut ends = Vec::new(alloc);
+    let mut ends = Vec::with_capacity(alloc, most)?;
     for nth in 0..items.len() {
         let item = items.get(nth);
         if last.since.has(item.chain) {
-            places.push(EntryPosition {
-                part: free,
-                at: entries.len(),
-            })?;
+            places.push(EntryPosition::of(free, entries.len())?)?;
             entries.push(item.entry)?;
             put_chain(&mut found, &mut ends, block, versions, item)?;
         } else {
@@ -50,11 +49,12 @@ pub(crate) fn held_items(
         }
     }
     let mut parts = last.parts.copied(alloc)?;
-    parts.put(
-        alloc,
-        free,
-        BasePart::of(entries, ChainList::of(found, ends)),
-    )?;
+    let part = NewPart {
+        entries,
+        found,
+        ends,
+    };
+    parts.put(alloc, free, part.packed(alloc)?)?;
     Ok(Held::of(parts, places))
 }
 
@@ -135,8 +135,8 @@ fn is_known(last: &LastBase, item: &ChainedItem, place: EntryPosition, same: &[b
     ensures spot { IsTrue result
         → slice_index_or last.now.spots.items item.now.chain no_place ≡ place }
 {
-    place.part < same.len()
-        && same[place.part]
+    (place.part as usize) < same.len()
+        && same[place.part as usize]
         && !last.since.has(item.chain)
         && is_place(last.spots[item.chain as usize], place)
 }
@@ -162,7 +162,7 @@ fn has_item(
     ensures { IfOk result (λ yes. (h : Holding) → held_at parts.now place ≡ Some h
         → (IsTrue yes ↔ (holding_of (lists_of block.now versions.now) item.now ≡ h))) }
 {
-    if !is_entry(&item.entry, parts.entry(place)) {
+    if !is_entry(&item.entry, &parts.entry(place)) {
         return Ok(false);
     }
     let mut found = VersionList::new(alloc);

@@ -36,7 +36,7 @@ pub(crate) fn add_items(items: &mut ItemList, held: &Held)
 {
     for place in 0..held.len() {
         let item = ChainedItem {
-            entry: *held.entry(place),
+            entry: held.entry(place),
             chain: place as u32,
         };
         items.insert(place, item);

@@ -61,9 +61,9 @@ impl Held {
     }
 
     /// The key and the floor of the n-th item, from 0.
-    pub(crate) fn entry(&self, nth: usize) -> &KnownItem
+    pub(crate) fn entry(&self, nth: usize) -> KnownItem
         requires { nth < length self.now }
-        ensures { result.now ≡ (slice_index_or self.now nth none_held).entry }
+        ensures { result ≡ (slice_index_or self.now nth none_held).entry }
     {
         self.parts.entry(self.places[nth])
     }

@@ -22,6 +22,7 @@ mod items;
 mod last_base;
 mod lone_cell;
 mod marks;
+mod part_entries;
 mod parts;
 mod place_hints;
 mod replica;

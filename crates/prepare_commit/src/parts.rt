@@ -2,24 +2,37 @@
 ghost use Rattle.std.specs.Prelude.{◌≡◌, ◌<◌, ◌≤◌, ◌++◌, ◌↔◌, ℕ, [], true, false, Some, length, IsTrue, IfOk, OnOk, slice_get, slice_index_or};
 ghost use Rattle.prepare_commit.specs.Begun.{Holding, beside, entries_of, held_at, put_at};
 
-use crate::base::are_entries;
 use crate::items::KnownItem;
+use crate::part_entries::PartEntries;
 use std::alloc::{AllocError, Global};
 use std::marker::Model;
 use std::sync::Arc;
 use version_chain::{ChainList, VersionList};
 
-/// A place in parts: the number of the part, and which of its entries it is.
+/// A place in parts: the number of the part, and which of its entries it is. Each base has one of each of its items, so it is as small as
+/// the most parts and the most items of a cell let it be.
 #[derive(Clone, Copy, PartialEq, Eq)]
 pub(crate) struct EntryPosition {
-    pub(crate) part: usize,
-    pub(crate) at: usize,
+    pub(crate) part: u16,
+    pub(crate) at: u16,
+}
+
+impl EntryPosition {
+    /// This place. There is an error from 65,536 parts or entries on, which no cell of this store comes to.
+    pub(crate) fn of(part: usize, at: usize) -> Result<EntryPosition, AllocError>
+        ensures { IfOk result (λ place. place ≡ record { part = part; at = at }) }
+    {
+        let (Ok(part), Ok(at)) = (u16::try_from(part), u16::try_from(at)) else {
+            return Err(AllocError);
+        };
+        Ok(EntryPosition { part, at })
+    }
 }
 
 /// Entries, and the versions of each. Contracts see the list of both together.
 #[derive(Drop)]
 pub(crate) struct BasePart {
-    entries: Vec<KnownItem>,
+    entries: PartEntries,
     chains: ChainList,
 }
 
@@ -29,16 +42,16 @@ impl Model for BasePart {
 
     ghost Value = { List Holding };
 
-    ghost view = { λ p. beside p.entries.items p.chains };
+    ghost view = { λ p. beside p.entries p.chains };
 
-    ghost invariant = { λ p. length p.chains ≡ length p.entries.items };
+    ghost invariant = { λ p. length p.chains ≡ length p.entries };
 }
 
 impl BasePart {
     /// These entries, and the versions of each.
-    pub(crate) fn of(entries: Vec<KnownItem>, chains: ChainList) -> BasePart
-        requires { length chains ≡ length entries.items }
-        ensures { result ≡ beside entries.items chains }
+    pub(crate) fn of(entries: PartEntries, chains: ChainList) -> BasePart
+        requires { length chains ≡ length entries }
+        ensures { result ≡ beside entries chains }
     {
         BasePart { entries, chains }
     }
@@ -51,11 +64,11 @@ impl BasePart {
     }
 
     /// The key and the floor of the item at a place, from 0.
-    fn entry(&self, at: usize) -> &KnownItem
+    fn entry(&self, at: usize) -> KnownItem
         requires { at < length self.now }
-        ensures { (h : Holding) → slice_get self.now at ≡ Some h → result.now ≡ h.entry }
+        ensures { (h : Holding) → slice_get self.now at ≡ Some h → result ≡ h.entry }
     {
-        &self.entries[at]
+        self.entries.get(at)
     }
 
     /// Puts the versions of an entry at the end of a list. The one error is that an allocation failed.
@@ -91,7 +104,7 @@ impl BasePart {
     fn is(&self, other: &BasePart) -> bool
         ensures { IsTrue result → self.now ≡ other.now }
     {
-        are_entries(&self.entries, &other.entries) && self.chains.is(&other.chains)
+        self.entries.is(&other.entries) && self.chains.is(&other.chains)
     }
 }
 
@@ -174,11 +187,11 @@ impl PartList {
     }
 
     /// The entry at a place.
-    pub(crate) fn entry(&self, place: EntryPosition) -> &KnownItem
+    pub(crate) fn entry(&self, place: EntryPosition) -> KnownItem
         requires { (h : Holding) × (held_at self.now place ≡ Some h) }
-        ensures { (h : Holding) → held_at self.now place ≡ Some h → result.now ≡ h.entry }
+        ensures { (h : Holding) → held_at self.now place ≡ Some h → result ≡ h.entry }
     {
-        self.part(place.part).entry(place.at)
+        self.part(place.part as usize).entry(place.at as usize)
     }
 
     /// Puts the versions at a place at the end of a list. The one error is that an allocation failed.
@@ -191,7 +204,8 @@ impl PartList {
         ensures { OnOk result ((h : Holding) → held_at self.now place ≡ Some h
             → list.new ≡ list.old ++ h.versions) }
     {
-        self.part(place.part).put_to(place.at, list)
+        self.part(place.part as usize)
+            .put_to(place.at as usize, list)
     }
 
     /// Whether the versions at a place are those of a list.
@@ -200,7 +214,8 @@ impl PartList {
         ensures { (h : Holding) → held_at self.now place ≡ Some h
             → (IsTrue result ↔ (h.versions ≡ list.now)) }
     {
-        self.part(place.part).is_list(place.at, list)
+        self.part(place.part as usize)
+            .is_list(place.at as usize, list)
     }
 
     /// Whether the same lies at a place as in another list at a place.
@@ -216,10 +231,12 @@ impl PartList {
             → held_at other.now theirs ≡ Some k
             → (IsTrue result ↔ (h ≡ k)) }
     {
-        is_entry(self.entry(place), other.entry(theirs))
-            && self
-                .part(place.part)
-                .is_chain(place.at, other.part(theirs.part), theirs.at)
+        is_entry(&self.entry(place), &other.entry(theirs))
+            && self.part(place.part as usize).is_chain(
+                place.at as usize,
+                other.part(theirs.part as usize),
+                theirs.at as usize,
+            )
     }
 
     /// Which parts are found to be the same in another list, at the same number. It compares their bytes. The one error is that an

@@ -94,7 +94,7 @@ fn count_kept(
 {
     let mut counts = vec![in alloc; 0usize; parts.len()]?;
     for chain in 0..chains {
-        let part = spots[chain as usize].part;
+        let part = spots[chain as usize].part as usize;
         if !since.has(chain) && part < counts.len() {
             counts[part] = counts[part].saturating_add(1);
         }
@@ -163,5 +163,5 @@ fn lies_in(spots: &[EntryPosition], since: &ChangedChains, chain: u32, part: usi
     ensures { IsTrue result ↔ ((slice_index_or since.now chain false ≡ false)
         × ((slice_index_or spots.now chain no_place).part ≡ part)) }
 {
-    !since.has(chain) && spots[chain as usize].part == part
+    !since.has(chain) && spots[chain as usize].part as usize == part
 }

@@ -46,6 +46,20 @@ impl VersionList {
         Ok(VersionList { list })
     }
 
+    /// The same versions, in just the memory that they take. The one error is that an allocation failed.
+    pub fn fitted(&self, alloc: Global) -> Result<VersionList, AllocError>
+        ensures { IfOk result (λ list. list ≡ self.now) }
+    {
+        let mut bytes = 0usize;
+        for at in 0..self.list.len() {
+            bytes = bytes.saturating_add(self.list.get(at).len());
+        }
+        let mut list = VersionList::new(alloc);
+        list.list.reserve(self.list.len(), bytes)?;
+        list.push_part(self, 0, self.len())?;
+        Ok(list)
+    }
+
     /// The number of versions.
     pub fn len(&self) -> usize
         ensures count { result ≡ length self.now }

@@ -33,5 +33,5 @@ returns-clause-packs c =
       within = packs.within;
       spots = length-set last.spots.items i.chain _ ∙ packs.spots;
       long = ap length c.in-Some.ensures.taken ∙ length-set last.since i.chain false ∙ packs.long;
-      kept = rw (c.in_ok-push.ensures.items, chain, beside_more entries before i.entry (chain_at chains i.chain) many, c.in-Some.ensures.taken, at_is) (packs_more last.parts c.args.free packs.within last.spots.items last.since items chains (beside entries before) i stands laid.apart spot packs.kept);
+      kept = rw (c.in_ok-push.ensures.items, chain, beside_more entries before i.entry (chain_at chains i.chain) many, c.in-Some.ensures.taken, c.in_ok-last.ensures, at_is) (packs_more last.parts c.args.free packs.within last.spots.items last.since items chains (beside entries before) i stands laid.apart spot packs.kept);
     }) c.put_chain.result c.put_chain.ensures.cut c.put_chain.ensures.chain

@@ -3,7 +3,7 @@ use Rattle.prepare_commit.specs.declared.items.ChainedItem.{ChainedItem}
 use Rattle.prepare_commit.specs.declared.items.KnownItem.{KnownItem}
 use Rattle.prepare_commit.specs.declared.parts.EntryPosition.{EntryPosition}
 use Rattle.version_chain.specs.declared.version.Version.{Version}
-use Rattle.prepare_commit.specs.Begun.{IsAsBegun, beside, held_at, holding_of, holdings, no_place}
+use Rattle.prepare_commit.specs.Begun.{IsAsBegun, LieAt, beside, held_at, holding_of, holdings, no_place, put_at}
 use Rattle.prepare_commit.specs.Layout.{chain_lists, chain_at}
 use Rattle.prepare_commit.specs.Remembered.{is_changed}
 use Rattle.prepare_commit.specs.Spots.{begun_by}
@@ -11,13 +11,10 @@ use Rattle.packed.specs.Cuts.{pieces}
 use Rattle.packed.proofs.Pieces.{as_many}
 use Rattle.prepare_commit.proofs.Chaining.{has_chain}
 use Rattle.prepare_commit.proofs.Places.{put_new, put_old, beside_long, beside_more}
-use Rattle.std.proofs.lemmas.List.{get_or_default, length_push}
+use Rattle.std.proofs.lemmas.List.{get_or_default, length_push, take_all}
 use Rattle.prepare_commit.proofs.Holding.{holdings_more}
 use Rattle.prepare_commit.proofs.copies.held_items.Goals as goal
-use Rattle.prepare_commit.proofs.copies.held_items.Goals.{then-has+in_ok-push+in_ok-push-2+in_ok-put_chain, else-has+in_ok-push-3}
-
-pub of-requires-2 : goal.of-requires-2
-of-requires-2 c = ap (λ (cs : List (List Version)). length cs) c.of.ensures ∙ as_many c.loop-nth.found 0 c.loop-nth.ends.items ∙ c.loop-nth.invariant.1
+use Rattle.prepare_commit.proofs.copies.held_items.Goals.{then-has+in_ok-of+in_ok-push+in_ok-push-2+in_ok-put_chain, else-has+in_ok-push-3}
 
 pub put_chain-requires-clause-chain : goal.put_chain-requires-clause-chain
 put_chain-requires-clause-chain c =
@@ -43,12 +40,12 @@ loop-nth-preserved c =
     let kept = subst (λ (j : ChainedItem). is_changed c.args.last.now.since j ≡ false → IsAsBegun (begun_by c.args.last.now) chains j) (sym c.get-item.ensures) (c.requires.kept.kept k i within) in
     let apart = subst (λ (j : ChainedItem). is_changed c.args.last.now.since j ≡ false → (get_or c.args.last.now.spots.items j.chain no_place).part ≢ c.args.free) (sym c.get-item.ensures) (c.requires.free k i within) in
     elim c.if-has.branch [
-      | then-has+in_ok-push+in_ok-push-2+in_ok-put_chain w ↦
+      | then-has+in_ok-of+in_ok-push+in_ok-push-2+in_ok-put_chain w ↦
           let cut = w.in_ok-put_chain.ensures.chain in
           let part = beside_more entries before i.entry (chain_at chains i.chain) many in
-          let place : EntryPosition = record { part = c.args.free; at = w.len-then-has.result } in
+          let place : EntryPosition = w.in_ok-of.field-0 in
           let place_is : place ≡ record { part = c.args.free; at = length (beside entries before) } =
-          (λ j. record { part = c.args.free; at = (w.len-then-has.ensures ∙ c.loop-nth.entries.ok.0 ∙ sym (beside_long entries before many)) j }) in
+          w.in_ok-of.ensures ∙ (λ j. record { part = c.args.free; at = (w.len-then-has.ensures ∙ c.loop-nth.entries.ok.0 ∙ sym (beside_long entries before many)) j }) in
           rw (w.places-is, w.entries-is, w.found-is, w.ends-is, more) (
             w.in_ok-put_chain.ensures.cut,
             sym (as_many w.put_chain.new.found 0 w.put_chain.new.ends.items) ∙ ap (λ (cs : List (List Version)). length cs) cut ∙ length_push before (chain_at chains i.chain) ∙ ap (λ n. n + 1) many ∙ sym (length_push entries i.entry) ∙ sym (ap (λ (es : List KnownItem). length es) w.in_ok-push-2.ensures.items),
@@ -64,3 +61,14 @@ loop-nth-preserved c =
                 (λ same. apart free (ap (λ (p : EntryPosition). p.part) (sym is) ∙ same)) (ap (held_at c.args.last.now.parts) is ∙ kept free)),
           )
     ]
+
+pub returns : goal.returns
+returns c =
+    let l = c.loop-nth in
+    let items = c.args.items.now.items in
+    let chains = chain_lists c.args.block.now c.args.versions.now.chains in
+    let parts = put_at c.args.last.now.parts c.args.free (beside l.entries.items (pieces l.found 0 l.ends.items)) in
+    let whole : take l.nth items ≡ items = take_all l.nth items (omega (arith, c.loop-nth-test.false, c.loop-nth.auto.nth-end, c.len-nth-end.ensures)) in
+    c.of-2.ensures (holdings items chains)
+    (rw (c.in_ok-put.ensures, c.in_ok-parts.ensures, c.in_ok-packed.ensures) (
+    subst (λ (is : List ChainedItem). LieAt parts l.places.items (holdings is chains)) whole l.invariant.2))

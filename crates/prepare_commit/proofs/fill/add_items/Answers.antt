@@ -14,7 +14,7 @@ loop-place-preserved c =
     let items = c.loop-place.items.items in
     let k = c.loop-place.place in
     let so_far = c.loop-place.invariant in
-    let item : ChainedItem = record { entry = c.entry.result.now; chain = k } in
+    let item : ChainedItem = record { entry = c.entry.result; chain = k } in
     let less : k < length c.args.held.now = omega (arith, c.loop-place-test.true, c.len-place-end.ensures) in
     let put : c.insert.new.self.items ≡ items ++ item ∷ [] = c.insert.ensures.items ∙ ap (λ n. insert items n item) (sym so_far.2) ∙ insert_end items item in (
       ap entries_of put ∙ map-append (λ (i : ChainedItem). i.entry) items (item ∷ [])

@@ -6,4 +6,4 @@ use Rattle.prepare_commit.proofs.parts.BasePart.len.Goals as goal
 pub returns : goal.returns
 returns c =
     let p = c.self.inside in
-    c.len.ensures ∙ p.entries.ok.0 ∙ sym (beside_long p.entries.items p.chains c.self.invariant) ∙ ap (λ (hs : List Holding). length hs) c.self.view_is
+    c.len.ensures ∙ sym (beside_long p.entries p.chains c.self.invariant) ∙ ap (λ (hs : List Holding). length hs) c.self.view_is
