@@ -26,7 +26,7 @@ use Rattle.plain_store.proofs.Members.{in_right}
 use Rattle.hub.specs.Clocks.{IsDrawRefusal, IsRaised, IsStampedBehind, IsWrittenBy, PutsByClock}
 use Rattle.hub.specs.Fresh.{AreCommittedIn}
 use Rattle.hub.specs.Limits.{last_call, max_calls}
-use Rattle.hub.specs.Operations.{IsLater, IsOperation, ReportsWrite}
+use Rattle.hub.specs.Operations.{IsLater, IsOperation, ReportsMove, ReportsWrite}
 use Rattle.hub.specs.Replies.{IfDone, IsDrawn, IsServedFor}
 use Rattle.hub.specs.Seats.{SeatView, is_unbegun, sight}
 use Rattle.hub.proofs.Operations.{later-same, unbegun-entered}
@@ -68,6 +68,7 @@ write_refused items seat answer refusal is unbegun = record {
   entered = unbegun-entered (Put seat.name.client items) seat answer refusal is unbegun;
   stamp = subst (λ (a : Answer). IfDone a (IsDrawn seat.name.client seat.counter seat.counter)) (sym is) tt;
   written = subst (λ (a : Answer). ReportsWrite items seat a seat) (sym is) (λ setup same. tt);
+  moved = subst (λ (a : Answer). ReportsMove (Put seat.name.client items) seat a seat) (sym is) (λ setup same. tt);
 }
 
 -- why it was refused is what was found
@@ -152,7 +153,7 @@ put_drawn items old drawn new answer raised draw done stamped written committed 
     record {
       between = drawn;
       raised = inr raised;
-      written = record { entered = done.entered; stamp = stamped; written = written };
+      written = record { entered = done.entered; stamp = stamped; written = written; moved = done.moved };
       later = later_raised old drawn new raised done.later;
       stopped = (λ same. sym stops ∙ done.stopped.0 same, λ at. done.stopped.1 (stops ∙ at));
       used_up = λ used. done.past.1 (stops ∙ used.0, subst (λ (n : ℕ). last_call < n) (sym (ap (λ (s : SeatView). s.sent) raised.rest)) used.1);

@@ -32,7 +32,7 @@ use Rattle.shard.specs.Journals.{served_call}
 use Rattle.tenant_sessions.specs.Showing.{IsCallFor}
 use Rattle.hub.specs.Fresh.{AreCommittedIn, IsNotMissed, IsReadFresh}
 use Rattle.hub.specs.Limits.{last_call, max_calls}
-use Rattle.hub.specs.Operations.{IsLater, PutsAll, ReportsWrite}
+use Rattle.hub.specs.Operations.{IsLater, PutsAll, ReportsMove, ReportsWrite}
 use Rattle.hub.specs.Replies.{IfDone, IsDrawn, IsOf, IsReplyIn, IsWriteOf}
 use Rattle.hub.specs.Seats.{SeatView, IsEntered, last_operation}
 use Rattle.hub.specs.Sights.{OperationSight}
@@ -175,11 +175,11 @@ puts_not_missed seen before tenant items own told legal pre committed fresh read
 -- so what an operation of a seat leaves that was to write items
 pub puts_ran : (items : List Item) (old new : SeatView) (answer : Answer) → IsEntered (Put old.name.client items) old answer new → ((answer ≡ Refused Stopped) ↔ (old.stopped ≡ true))
     → ((answer ≡ Refused RowsUsed) ↔ ((old.stopped ≡ false) × (last_call < old.sent))) → IsLater max_calls old new → IfDone answer (IsDrawn old.name.client old.counter new.counter) → ReportsWrite items old answer new
-    → ∥ IsLegal new.seen ∥₁ → ∥ HasParts new.seen old.parts ∥₁ → PutsAll items old answer new
-puts_ran items old new answer entered stopped past later stamp written legal of_store =
+    → ReportsMove (Put old.name.client items) old answer new → ∥ IsLegal new.seen ∥₁ → ∥ HasParts new.seen old.parts ∥₁ → PutsAll items old answer new
+puts_ran items old new answer entered stopped past later stamp written moved legal of_store =
     let setup : Setup = record { partitions = old.parts; room = record { slots = 0; items = 0; clients = 0 }; keep = 0 } in
     record {
-      operated = record { entered = entered; stopped = stopped; past = past; later = later };
+      operated = record { entered = entered; stopped = stopped; past = past; later = later; moved = moved };
       stamp = stamp;
       written = written;
       committed = if_done answer _ _ (λ own is key among.

@@ -16,6 +16,7 @@ mod Moved
 pub mod Evidence
 mod Reported
 mod Fresh
+mod Ended
 mod Done
 mod Leaving
 mod Deciding

@@ -1,5 +1,5 @@
 -- What an operation leaves from step to step: for the functions that follow a move, or take replies.
-use Rattle.std.proofs.Common.{◌≡◌, ◌+◌, ◌∙◌, ℕ, [], List, Option, true, false, ap, arith, refl, subst, sym}
+use Rattle.std.proofs.Common.{◌≡◌, ◌≤◌, ◌+◌, ◌∙◌, ℕ, [], List, Option, true, false, ap, arith, refl, subst, sym}
 use Rattle.std.specs.Prelude.{IsNone}
 use Rattle.std.proofs.lemmas.List.{append-nil}
 use mathlib.Core.List.{IsPrefix}
@@ -8,6 +8,7 @@ use Rattle.plain_store.specs.declared.answer.Answer.{Answer}
 use Rattle.plain_store.specs.History.{Intent as Asked}
 use Rattle.plain_store.specs.Words.{Setup, Stamp}
 use Rattle.history.specs.declared.rule.Naming.{Ghosts}
+use Rattle.history.proofs.Lists.{prefix_join}
 use Rattle.tenant_sessions.specs.Moves.{is_last, moved}
 use Rattle.tenant_sessions.specs.declared.moves.MoveKind.{MoveKind}
 use Rattle.tenant_sessions.specs.declared.running.Running.{Running}
@@ -43,7 +44,7 @@ module _ {G : Type 0} {naming : Ghosts G} where
     room = omega arith;
     ends = λ was. was;
     entered = λ start follows. follows;
-    read = λ sight setup asked start reads tells. reads;
+    read = λ sight setup asked start reads tells moves. reads;
     kept = ([], sym (append-nil old.entries.items));
     served = λ first last start are. are;
   }
@@ -64,9 +65,9 @@ module _ {G : Type 0} {naming : Ghosts G} where
         room = omega (arith, moves.room, room, spared);
         ends = λ was. subst (λ (p : Option AnswerRoom). EndsSo p after) (sym place) (moves.ends was);
         entered = λ start follows. follows-told start _ _ new.entries.items (sym told) (follows-same start _ mid.entries.items new.entries.items items (moves.entered start follows));
-        read = λ sight setup asked start reads tells.
+        read = λ sight setup asked start reads tells by.
             reads_same sight sight setup asked start mid.entries.items new.entries.items mid.session.running new.session.running _ _ refl items (ap (λ (s : ClientSession). s.running) session) told
-            (moves.read sight setup asked start reads tells);
+            (moves.read sight setup asked start reads tells by);
         kept = subst (λ (es : List Entry). Extends old.entries.items es) (sym items) moves.kept;
         served = λ first last start are.
             let later = served-later (sight_of old.name mid.seen) (sight_of old.name new.seen) first last start mid.entries.items (record { tenant = refl; seat = refl; seen = seen }) (moves.served first last start are) in
@@ -88,4 +89,27 @@ module _ {G : Type 0} {naming : Ghosts G} where
             served-same _ _ old.first old.first (old.first + old.dispatcher.sent) (old.first + staged.dispatcher.sent) start old.entries.items staged.entries.items (sights old.name old.name _ _ refl seen) refl (omega (arith, sent)) items are;
         counter = omega (arith, ap (λ (s : ClientSession). s.counter) session);
         goes_on = record { name = name; first = first; seen = prefix_is _ _ (sym seen); mark = mark };
+      }
+
+  -- all that is said of it stays, but for what is on its way
+  abbrev pub LeavesRest : (old new : RunningOperation G naming) → Type 0
+  LeavesRest old new =
+      (new.name ≡ old.name) × (new.first ≡ old.first) × (new.entries ≡ old.entries) × (new.seen ≡ old.seen) × (new.session ≡ old.session) × (new.place ≡ old.place) × (new.mark ≡ old.mark)
+      × (old.dispatcher.sent ≤ new.dispatcher.sent)
+
+  pub runs_as : (takes : ℕ) (own : Stamp) (old mid new : RunningOperation G naming) (before after : Answer) → LeavesRest mid new → TakesReplies takes own old before mid after → TakesReplies takes own old before new after
+  runs_as takes own old mid new before after (name, first, entries, seen, session, place, mark, sent) runs =
+      let items = ap (λ e. e.items) entries in
+      let told = ap (λ p. told_by p after) place in
+      let so_far = runs.goes_on in
+      record {
+        few = omega (arith, runs.few, ap replies_in items);
+        entered = λ start follows. follows-told start _ _ new.entries.items (sym told) (follows-same start _ mid.entries.items new.entries.items items (runs.entered start follows));
+        read = λ setup asked start stamped reads.
+            reads_same (operation_of old.name old.mark mid.seen) (operation_of old.name old.mark new.seen) setup asked start mid.entries.items new.entries.items mid.session.running new.session.running _ _
+            (operations old.name old.name _ _ _ _ refl refl seen) items (ap (λ (s : ClientSession). s.running) session) told (runs.read setup asked start stamped reads);
+        served = λ start are.
+            served-same _ _ old.first old.first (old.first + mid.dispatcher.sent) (old.first + new.dispatcher.sent) start mid.entries.items new.entries.items (sights old.name old.name _ _ refl seen) refl (omega (arith, sent)) items (runs.served start are);
+        counter = omega (arith, runs.counter, ap (λ (s : ClientSession). s.counter) session);
+        goes_on = record { name = name ∙ so_far.name; first = first ∙ so_far.first; seen = prefix_join _ _ _ so_far.seen (prefix_is _ _ (sym seen)); mark = mark ∙ so_far.mark };
       }

@@ -16,11 +16,12 @@ use Rattle.entry_list.specs.declared.kinds.Entry.TheVariants.{Began as began, To
 use Rattle.tenant_sessions.specs.declared.running.Running.{Running}
 use Rattle.tenant_sessions.specs.declared.moves.Move.{Move}
 use Rattle.tenant_sessions.specs.declared.moves.Move.TheVariants.{Wait, Decided, Done, Ask, Begins as BeginsCalls, Read, Listed, Restart, Ended, Ignored}
-use Rattle.tenant_sessions.specs.Moves.{answer_of}
-use Rattle.tenant_sessions.specs.Showing.{IfReads, IfLists, IfTells, TellsStamp, IsAnswerTo, IsShown, IsTakenFor, Shows}
+use Rattle.plain_store.specs.Moves.{Waits, Decides, Finishes, Asks, Begins, Lists, Restarts, Fails, Move as PlainMove, Reads as ReadsAll}
+use Rattle.tenant_sessions.specs.Moves.{answer_of, is_last, told as told_of}
+use Rattle.tenant_sessions.specs.Showing.{IfReads, IfLists, IfTells, TellsStamp, IsAnswerTo, IsMoveAt, IsShown, IsTakenFor, Shows}
 use Rattle.tenant_sessions.specs.Running.{MayBegin}
 use Rattle.plain_store.specs.declared.answer.Rows.{Rows}
-use Rattle.hub.specs.Replies.{IsUnder, IsOf, IsStampOf, IsReplyIn, AreAmong, IsFromReplies, IsWriteOf, IsReadOf, IsListOf, IsToldOf, IsToldFor, IfShows, IfDone, IfRead, IfListed, IfSays, IsReadBySeat, IfTold, Reads}
+use Rattle.hub.specs.Replies.{IsUnder, IsOf, IsStampOf, IsReplyIn, AreAmong, IsFromReplies, IsWriteOf, IsReadOf, IsListOf, IsToldOf, IsToldFor, IsMoveOf, IsMoveFor, IsMovedBy, answer_to, IfRuns, IfShows, IfDone, IfRead, IfListed, IfSays, IsReadBySeat, IfTold, Reads}
 use Rattle.hub.specs.Seats.{at_seat, told_by}
 use Rattle.shard.specs.Jobs.{refusal_of}
 use Rattle.hub.specs.Requests.{intent_of, test_of}
@@ -74,6 +75,11 @@ read_more name asked start entries e Answers read = record {
   among = among_more name asked (read.taken ++ read.last ∷ []) read.more e read.among;
   answers = read.answers;
 }
+
+-- what answers them may be told in other words
+pub from-so : (name : OperationSight) (asked : Asked) (start entries : List Entry) (P Q : List Message → Message → Type 0) → ((taken : List Message) (last : Message) → P taken last → Q taken last)
+    → IsFromReplies name asked start entries P → IsFromReplies name asked start entries Q
+from-so name asked start entries P Q so from = record { more = from.more; is = from.is; taken = from.taken; last = from.last; among = from.among; answers = so from.taken from.last from.answers }
 
 pub if_read : (answer : Answer) (P Q : List Reading → Type 0) → ((told : List Reading) → P told → Q told) → IfRead answer P → IfRead answer Q
 if_read (says.Refused refusal) P Q so is = tt
@@ -158,6 +164,19 @@ told_more : (name : OperationSight) (setup : Setup) (asked : Asked) (start entri
 told_more name setup asked start entries e None is = tt
 told_more name setup asked start entries e (Some answer) is = if_says asked answer _ _ (λ told. read_more name asked start entries e (λ taken last. IsAnswerTo setup asked taken last told)) is
 
+-- what is said of an answer that is no refusal
+pub if_runs : (answer : Answer) (P Q : Type 0) → (P → Q) → IfRuns answer P → IfRuns answer Q
+if_runs (says.Refused refusal) P Q so is = tt
+if_runs _ P Q so is = so is
+
+runs_so : (answer : Answer) (P : Type 0) → P → IfRuns answer P
+runs_so (says.Refused refusal) P is = tt
+runs_so _ P is = is
+
+move_more : (name : OperationSight) (setup : Setup) (asked : Asked) (start entries : List Entry) (e : Entry) (told : Option Answer) → IfTold told (IsMoveOf name setup asked start entries) → IfTold told (IsMoveOf name setup asked start (entries ++ e ∷ []))
+move_more name setup asked start entries e None is = tt
+move_more name setup asked start entries e (Some answer) is = read_more name asked start entries e _ is
+
 -- ---- a reply that is taken
 
 if_reads : (move : Move) (P Q : List Reading → Type 0) → ((told : List Reading) → P told → Q told) → IfReads move P → IfReads move Q
@@ -210,10 +229,11 @@ ignored_tells (Finds tag) P = tt
 pub reading-took : (name : OperationSight) (setup : Setup) (asked : Asked) (start entries : List Entry) (running after : Option Running) (message : Message) (move : Move) (e : Entry)
     → ((m : Message) → IsTakenFor message m → IsReplyIn name asked m e) → IsReadBySeat name setup asked start entries running
     → ((taken : List Message) → IsShown setup asked taken running → Shows setup asked taken message move (λ replies. IsShown setup asked replies after))
-    → IsReadBySeat name setup asked start (entries ++ e ∷ []) after × IfTells asked move (IsToldOf name setup asked start (entries ++ e ∷ []))
+    → IsReadBySeat name setup asked start (entries ++ e ∷ []) after × IfTells asked move (IsToldOf name setup asked start (entries ++ e ∷ [])) × IsMovedBy name setup asked start (entries ++ e ∷ []) move
 reading-took name setup asked start entries running after message move e enters reading shows = go (shows reading.taken reading.shown)
   where
-    go : Shows setup asked reading.taken message move (λ replies. IsShown setup asked replies after) → IsReadBySeat name setup asked start (entries ++ e ∷ []) after × IfTells asked move (IsToldOf name setup asked start (entries ++ e ∷ []))
+    go : Shows setup asked reading.taken message move (λ replies. IsShown setup asked replies after)
+        → IsReadBySeat name setup asked start (entries ++ e ∷ []) after × IfTells asked move (IsToldOf name setup asked start (entries ++ e ∷ [])) × IsMovedBy name setup asked start (entries ++ e ∷ []) move
     go (inl passed) =
         let P : Move → Type 0 = λ m. IfTells asked m (IsToldOf name setup asked start (entries ++ e ∷ [])) in (
           record {
@@ -224,6 +244,7 @@ reading-took name setup asked start entries running after message move e enters 
             shown = passed.1;
           },
           subst P (sym passed.0) (ignored_tells asked (IsToldOf name setup asked start (entries ++ e ∷ []))),
+          inl passed.0,
         )
     go (inr took) =
         let more = reading.more ++ e ∷ [] in
@@ -232,6 +253,7 @@ reading-took name setup asked start entries running after message move e enters 
           record { more = more; is = is; taken = reading.taken ++ took.meant ∷ []; among = among; shown = took.stands },
           if_tells asked move (IsAnswerTo setup asked reading.taken took.meant) (IsToldOf name setup asked start (entries ++ e ∷ []))
               (λ told answers. record { more = more; is = is; taken = reading.taken; last = took.meant; among = among; answers = answers }) took.told,
+          inr (record { more = more; is = is; taken = reading.taken; last = took.meant; among = among; answers = took.moved }),
         )
 
 -- ---- an answer that is entered
@@ -286,58 +308,81 @@ told_at_end (Writes stamp items) move rows P is = done_at_end move rows stamp (P
 told_at_end (Gets keys) move rows P is = read_at_end move rows P is
 told_at_end (Finds tag) move rows P is = list_at_end move rows P is
 
+-- the answer that a seat gives at the last move reports the plain store's
+answers_move : (plain : PlainMove) (rows : Rows) → is_last (told_of plain) ≡ true → answer_to plain ≡ Some (at_seat (answer_of (told_of plain) rows))
+answers_move Waits rows last = cc
+answers_move (Decides stamp calls) rows last = cc
+answers_move (Finishes stamp) rows last = refl
+answers_move (Asks calls) rows last = cc
+answers_move (Begins calls) rows last = cc
+answers_move (ReadsAll readings) rows last = refl
+answers_move (Lists readings) rows last = refl
+answers_move (Restarts key floor) rows last = refl
+answers_move (Fails refusal calls) rows last = refl
+
+moved_at_end : (name : OperationSight) (setup : Setup) (asked : Asked) (start entries : List Entry) (move : Move) (rows : Rows) (e : Entry) → is_last move ≡ true → IsMovedBy name setup asked start entries move
+    → IsMoveOf name setup asked start (entries ++ e ∷ []) (at_seat (answer_of move rows))
+moved_at_end name setup asked start entries move rows e last (inl ignored) = let no : true ≡ false = sym last ∙ ap is_last ignored in absurd cc
+moved_at_end name setup asked start entries move rows e last (inr from) =
+    let P : PlainMove → Move → Type 0 = λ plain m. answer_to plain ≡ Some (at_seat (answer_of m rows)) in
+    read_more name asked start entries e _ (from-so name asked start entries _ _
+    (λ taken last_one its. (its.0, its.1, subst (P its.0) its.2 (answers_move its.0 rows (ap is_last its.2 ∙ last)))) from)
+
 -- the answer that a move ends the operation with
 pub reads-answered : (name : OperationSight) (setup : Setup) (asked : Asked) (start entries : List Entry) (running : Option Running) (move : Move) (rows : Rows) (answer : Answer) (e : Entry)
-    → answer ≡ at_seat (answer_of move rows) → IsReadBySeat name setup asked start entries running → IfTells asked move (IsToldOf name setup asked start entries) → Reads name setup asked start (entries ++ e ∷ []) running (Some answer)
-reads-answered name setup asked start entries running move rows answer e is reading reads =
+    → answer ≡ at_seat (answer_of move rows) → is_last move ≡ true → IsReadBySeat name setup asked start entries running → IfTells asked move (IsToldOf name setup asked start entries) → IsMovedBy name setup asked start entries move
+    → Reads name setup asked start (entries ++ e ∷ []) running (Some answer)
+reads-answered name setup asked start entries running move rows answer e is last reading reads moves =
     let P : Answer → Type 0 = λ a. IfSays asked a (IsToldOf name setup asked start (entries ++ e ∷ [])) in
     record {
       reading = reading_more name setup asked start entries running e reading;
       answered = subst P (sym is) (told_at_end asked move rows (IsToldOf name setup asked start (entries ++ e ∷ []))
           (if_tells asked move _ _ (λ told. read_more name asked start entries e (λ taken last. IsAnswerTo setup asked taken last told)) reads));
+      moved = subst (IsMoveOf name setup asked start (entries ++ e ∷ [])) (sym is) (moved_at_end name setup asked start entries move rows e last moves);
     }
 
 -- a reply that was entered, with its session's move
 pub reads-took : (name : OperationSight) (setup : Setup) (asked : Asked) (start entries : List Entry) (running after : Option Running) (told : Option Answer) (message : Message) (move : Move) (e : Entry)
     → ((m : Message) → IsTakenFor message m → IsReplyIn name asked m e) → Reads name setup asked start entries running told
     → ((taken : List Message) → IsShown setup asked taken running → Shows setup asked taken message move (λ replies. IsShown setup asked replies after))
-    → Reads name setup asked start (entries ++ e ∷ []) after told × IfTells asked move (IsToldOf name setup asked start (entries ++ e ∷ []))
+    → Reads name setup asked start (entries ++ e ∷ []) after told × IfTells asked move (IsToldOf name setup asked start (entries ++ e ∷ [])) × IsMovedBy name setup asked start (entries ++ e ∷ []) move
 reads-took name setup asked start entries running after told message move e enters reads shows =
     let took = reading-took name setup asked start entries running after message move e enters reads.reading shows in
-    (record { reading = took.0; answered = told_more name setup asked start entries e told reads.answered }, took.1)
+    (record { reading = took.0; answered = told_more name setup asked start entries e told reads.answered; moved = move_more name setup asked start entries e told reads.moved }, took.1, took.2)
 
 -- nothing was entered yet
 pub reads-start : (name : OperationSight) (setup : Setup) (asked : Asked) (start : List Entry) (running : Option Running) → IsShown setup asked [] running → Reads name setup asked start start running None
 reads-start name setup asked start running shown = record {
   reading = record { more = []; is = sym (append-nil start); taken = []; among = tt; shown = shown };
   answered = tt;
+  moved = tt;
 }
 
 -- ---- for the functions of an operation
 
 -- the answer that an operation ends with was entered, and its place is used up
 pub reads-ended : {X : Type 0} (name : OperationSight) (setup : Setup) (asked : Asked) (start entries after : List Entry) (running next : Option Running) (place : Option X) (told : Option Answer) (move : Move) (answer : Answer)
-    → after ≡ entries ++ Answered answer ∷ [] → next ≡ running → IsNone place → ((rows : Rows) → answer ≡ at_seat (answer_of move rows))
-    → Reads name setup asked start entries running told → IfTells asked move (IsToldOf name setup asked start entries) → Reads name setup asked start after next (told_by place answer)
-reads-ended name setup asked start entries after running next (Some used) told move answer entered same none tells reads moved = cc
-reads-ended name setup asked start entries after running next None told move answer entered same none tells reads moved =
+    → after ≡ entries ++ Answered answer ∷ [] → next ≡ running → IsNone place → ((rows : Rows) → answer ≡ at_seat (answer_of move rows)) → is_last move ≡ true
+    → Reads name setup asked start entries running told → IfTells asked move (IsToldOf name setup asked start entries) → IsMovedBy name setup asked start entries move → Reads name setup asked start after next (told_by place answer)
+reads-ended name setup asked start entries after running next (Some used) told move answer entered same none tells last reads says moves = cc
+reads-ended name setup asked start entries after running next None told move answer entered same none tells last reads says moves =
     let rows : Rows = record { first = 0; last = 0 } in
     let P : List Entry → Type 0 = λ es. Reads name setup asked start es next (Some answer) in
     let Q : Option Running → Type 0 = λ o. Reads name setup asked start (entries ++ Answered answer ∷ []) o (Some answer) in
-    subst P (sym entered) (subst Q (sym same) (reads-answered name setup asked start entries running move rows answer (Answered answer) (tells rows) reads.reading moved))
+    subst P (sym entered) (subst Q (sym same) (reads-answered name setup asked start entries running move rows answer (Answered answer) (tells rows) last reads.reading says moves))
 
 -- a reply was entered, and its session took it
 pub reads-served : {X : Type 0} (name : OperationSight) (setup : Setup) (asked : Asked) (start entries next : List Entry) (session kept after : ClientSession) (place left : Option X) (answer : Answer) (message : Message) (move : Move) (number partition at : ℕ) (reply : Reply)
     → next ≡ entries ++ Took number partition at reply ∷ [] → kept ≡ session → left ≡ place → ((m : Message) → IsTakenFor message m → IsReplyIn name asked m (Took number partition at reply))
     → ((setup : Setup) (asked : Asked) (taken : List Message) → IsShown setup asked taken kept.running → Shows setup asked taken message move (λ replies. IsShown setup asked replies after.running))
     → Reads name setup asked start entries session.running (told_by place answer)
-    → Reads name setup asked start next after.running (told_by left answer) × IfTells asked move (IsToldOf name setup asked start next)
+    → Reads name setup asked start next after.running (told_by left answer) × IfTells asked move (IsToldOf name setup asked start next) × IsMovedBy name setup asked start next move
 reads-served name setup asked start entries next session kept after place left answer message move number partition at reply entered same stays enters shows reads =
     let P : ClientSession → Type 0 = λ s. Reads name setup asked start entries s.running (told_by place answer) in
     let took = reads-took name setup asked start entries kept.running after.running (told_by place answer) message move (Took number partition at reply) enters (subst P (sym same) reads) (shows setup asked) in
     let Q : Option Answer → Type 0 = λ o. Reads name setup asked start (entries ++ Took number partition at reply ∷ []) after.running o in
-    let R : List Entry → Type 0 = λ es. Reads name setup asked start es after.running (told_by left answer) × IfTells asked move (IsToldOf name setup asked start es) in
-    subst R (sym entered) (subst Q (ap (λ o. told_by o answer) (sym stays)) took.0, took.1)
+    let R : List Entry → Type 0 = λ es. Reads name setup asked start es after.running (told_by left answer) × IfTells asked move (IsToldOf name setup asked start es) × IsMovedBy name setup asked start es move in
+    subst R (sym entered) (subst Q (ap (λ o. told_by o answer) (sym stays)) took.0, took.1, took.2)
 
 -- a read that begins has keys that may be read
 good_keys : (opened runs bad : Bool) → cond opened (cond runs (Err Busy) (cond bad (Err BadItems) passed)) (Err Stopped) ≡ passed → bad ≡ false
@@ -372,6 +417,24 @@ under-asked own (Writes stamp items) call is under = subst (λ (s : Stamp). IsUn
 under-asked own (Gets keys) call is under = tt
 under-asked own (Finds tag) call is under = tt
 
+-- what was reported from the beginning on, by what was read of it since
+reads-whole : {X : Type 0} (name last : OperationSight) (setup : Setup) (asked : Asked) (started after : Option Running) (entries more : List Entry) (place left : Option X) (before answer : Answer) → IsShown setup asked [] started
+    → ((start : List Entry) → Reads name setup asked start entries started (told_by place before) → Reads last setup asked start more after (told_by left answer)) → IsSome place → IsNone left → Reads last setup asked entries more after (Some answer)
+reads-whole name last setup asked started after entries more place left before answer fresh read there none =
+    let P : Option Answer → Type 0 = λ o. Reads name setup asked entries entries started o in
+    let Q : Option Answer → Type 0 = λ o. Reads last setup asked entries more after o in
+    subst Q (told-some left answer none) (read entries (subst P (sym (told-none place before there)) (reads-start name setup asked entries started fresh)))
+
+-- so what is answered to a request reports the plain store's move
+pub moves-begun : {X : Type 0} (name last : OperationSight) (parts : ℕ) (own : Stamp) (request : SeatRequest) (session : ClientSession) (started after : Option Running) (entries more : List Entry) (place left : Option X) (before answer : Answer) → test_of session request ≡ passed
+    → ((setup : Setup) → setup.partitions ≡ parts → MayBegin (intent_of own request) → IsShown setup (intent_of own request) [] started)
+    → ((setup : Setup) (start : List Entry) → Reads name setup (intent_of own request) start entries started (told_by place before) → Reads last setup (intent_of own request) start more after (told_by left answer))
+    → IsSome place → IsNone left → IsMoveFor last parts own request answer entries more
+moves-begun name last parts own request session started after entries more place left before answer passes shown read there none setup same =
+    let asked = intent_of own request in
+    let fresh = shown setup same (may_begin session request asked own refl passes) in
+    runs_so answer _ (reads-whole name last setup asked started after entries more place left before answer fresh (read setup) there none).moved
+
 -- what a request writes, reads or finds that began, and whose answer was entered
 pub reads-begun : {X : Type 0} (name last : OperationSight) (parts : ℕ) (own : Stamp) (Drawn : Stamp → Type 0) (request : SeatRequest) (asked : Asked) (session started after : ClientSession) (entries more : List Entry) (place left : Option X) (before answer : Answer)
     → ((items : List Item) → asked ≡ Writes own items → Drawn own) → asked ≡ intent_of own request → test_of session request ≡ passed
@@ -385,11 +448,7 @@ reads-begun name last parts own Drawn request asked session started after entrie
 
     -- what was reported from the beginning on
     whole : (setup : Setup) → IsShown setup asked [] started.running → IfSays asked answer (IsToldOf last setup asked entries more)
-    whole setup fresh =
-        let P : Option Answer → Type 0 = λ o. Reads name setup asked entries entries started.running o in
-        let Q : Option Answer → Type 0 = λ o. Reads last setup asked entries more after.running o in
-        let first = subst P (sym (told-none place before there)) (reads-start name setup asked entries started.running fresh) in
-        (subst Q (told-some left answer none) (read setup entries first)).answered
+    whole setup fresh = (reads-whole name last setup asked started.running after.running entries more place left before answer fresh (read setup) there none).answered
 
     go : (request : SeatRequest) → asked ≡ intent_of own request → IsToldFor last parts Drawn request answer entries more
     go (ask.Put items) begins =
@@ -420,7 +479,21 @@ reads-refused name parts Drawn (ask.Get keys) refusal answer start entries is =
 reads-refused name parts Drawn (ask.Find tag) refusal answer start entries is = λ setup same.
     let P : Answer → Type 0 = λ a. IfListed a (IsListOf name setup tag start entries) in subst P (sym is) tt
 
+pub moves-refused : (name : OperationSight) (parts : ℕ) (own : Stamp) (request : SeatRequest) (refusal : Refusal) (answer : Answer) (start entries : List Entry) → answer ≡ says.Refused refusal → IsMoveFor name parts own request answer start entries
+moves-refused name parts own request refusal answer start entries is =
+    let P : Answer → Type 0 = λ a. IsMoveFor name parts own request a start entries in subst P (sym is) (λ setup same. tt)
+
 -- and what an operation answers is what it read, for all else reports a fault
+pub moves-run : (name : OperationSight) (parts : ℕ) (own : Stamp) (told : Result (Unit {0}) Fault) (request : SeatRequest) (start begun entries after : List Entry) (entered answer : Answer) → OnOk told (IsMoveFor name parts own request entered begun entries)
+    → begun ≡ start → OnOk told (answer ≡ entered) → IfErr told (λ f. answer ≡ says.Refused (refusal_of f)) → after ≡ entries → IsMoveFor name parts own request answer start after
+moves-run name parts own (Ok done) request start begun entries after entered answer moved started same refused kept =
+    let P : List Entry → Type 0 = λ es. IsMoveFor name parts own request answer start es in
+    let Q : List Entry → Type 0 = λ es. IsMoveFor name parts own request answer es entries in
+    let R : Answer → Type 0 = λ a. IsMoveFor name parts own request a begun entries in
+    subst P (sym kept) (subst Q started (subst R (sym same) moved))
+moves-run name parts own (Err f) request start begun entries after entered answer moved started same refused kept =
+    moves-refused name parts own request (refusal_of f) answer start after refused
+
 pub reads-run : (name : OperationSight) (parts : ℕ) (Drawn : Stamp → Type 0) (told : Result (Unit {0}) Fault) (request : SeatRequest) (start begun entries after : List Entry) (entered answer : Answer)
     → OnOk told (IsToldFor name parts Drawn request entered begun entries) → begun ≡ start → OnOk told (answer ≡ entered) → IfErr told (λ f. answer ≡ says.Refused (refusal_of f))
     → after ≡ entries → IsToldFor name parts Drawn request answer start after
@@ -463,6 +536,10 @@ told-later old new setup asked start entries None later is = tt
 told-later old new setup asked start entries (Some answer) later is =
     if_says asked answer _ _ (λ told. from-later old new asked start entries (λ taken last. IsAnswerTo setup asked taken last told) later) is
 
+move-later : (old new : OperationSight) (setup : Setup) (asked : Asked) (start entries : List Entry) (told : Option Answer) → IsLaterOperation old new → IfTold told (IsMoveOf old setup asked start entries) → IfTold told (IsMoveOf new setup asked start entries)
+move-later old new setup asked start entries None later is = tt
+move-later old new setup asked start entries (Some answer) later is = from-later old new asked start entries _ later is
+
 -- what was read so far is so by what is seen later
 pub reads-later : (old new : OperationSight) (setup : Setup) (asked : Asked) (start entries : List Entry) (running : Option Running) (told : Option Answer) → IsLaterOperation old new
     → Reads old setup asked start entries running told → Reads new setup asked start entries running told
@@ -471,6 +548,7 @@ reads-later old new setup asked start entries running told later reads =
     record {
       reading = record { more = r.more; is = r.is; taken = r.taken; among = among-later old new asked r.taken r.more later r.among; shown = r.shown };
       answered = told-later old new setup asked start entries told later reads.answered;
+      moved = move-later old new setup asked start entries told later reads.moved;
     }
 
 -- ---- what has the mark of a read or a search

@@ -1,9 +1,10 @@
 -- What is reported to a clock, and what a look at it shows.
-use Rattle.std.proofs.Common.{◌≡◌, ◌≤◌, ◌∙◌, ℕ, List, ◌∷◌, ◌++◌, Option, None, Some, true, false, ap, inl, inr, refl, subst, sym, arith, append_assoc}
+use Rattle.std.proofs.Common.{◌≡◌, ◌≤◌, ◌∙◌, ℕ, List, ◌∷◌, ◌++◌, ◌+◌, Option, None, Some, true, false, ap, inl, inr, refl, subst, sym, arith, append_assoc}
 use Rattle.std.specs.Prelude.{IfNone, IfSome}
 use Rattle.std.proofs.Math.Logic.{∥∥₁_elim, ∥∥₁_map₂}
 use Rattle.std.proofs.Math.Bridge.{le_prop}
 use mathlib.Core.List.{IsPrefix}
+use Rattle.stamps.specs.Stamp.{stamp}
 use Rattle.stamps.specs.declared.record.Item.{Item}
 use Rattle.plain_store.specs.Words.{Stamp}
 use Rattle.plain_store.specs.declared.answer.Answer.{Answer}
@@ -34,7 +35,7 @@ use Rattle.hub.proofs.Clocked.{drawn_later}
 use Rattle.hub.proofs.Done.{puts_not_missed}
 use Rattle.hub.proofs.Fresh.{legal_before}
 use Rattle.hub.proofs.Given.{served-later}
-use Rattle.hub.proofs.Replies.{from-later, if_done, if_done_as, if_listed, if_read}
+use Rattle.hub.proofs.Replies.{from-later, if_done, if_done_as, if_listed, if_read, if_runs}
 
 -- ---- a read looks
 
@@ -146,6 +147,9 @@ put_on items old mid now answer own is legal pre put =
             (λ own from. from-later (last_operation mid) (last_operation new) (Writes own items) _ mid.entries (λ taken last. IsWritersAnswer setup own items taken last)
             (record { tenant = refl; seat = refl; mark = refl; seen = pre }) from)
             (put.written.written setup same);
+        moved = λ setup same. if_runs answer _ _
+            (λ from. from-later (last_operation mid) (last_operation new) (Writes (stamp (put.between.counter + 1) put.between.name.client) items) _ mid.entries _ (record { tenant = refl; seat = refl; mark = refl; seen = pre }) from)
+            (put.written.moved setup same);
       };
       later = record {
         name = put.later.name;

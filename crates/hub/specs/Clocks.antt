@@ -16,7 +16,7 @@ use Rattle.history.specs.Entries.{clock_of}
 use Rattle.shard.specs.declared.seat_name.SeatName.{SeatName}
 use Rattle.hub.specs.Fresh.{AreCommittedIn}
 use Rattle.hub.specs.Limits.{last_call, max_calls}
-use Rattle.hub.specs.Operations.{IsLater, ReportsWrite}
+use Rattle.hub.specs.Operations.{IsLater, ReportsMove, ReportsWrite}
 use Rattle.hub.specs.Replies.{IfDone, IsDrawn}
 use Rattle.hub.specs.Seats.{SeatView, IsEntered}
 
@@ -34,11 +34,13 @@ pub record IsRaised (old new : SeatView) : Type 0 where
 abbrev pub MayBeRaised : (old new : SeatView) → Type 0
 MayBeRaised old new = (new ≡ old) ⊎ IsRaised old new
 
--- The items were written: that it is done, under the next stamp, answers replies that this operation entered.
+-- The items were written: that it is done, under the next stamp, answers replies that this operation entered, and so does each answer
+-- that is no refusal.
 pub record IsWrittenBy (items : List Item) (old : SeatView) (answer : Answer) (new : SeatView) : Type 0 where
   pub entered : IsEntered (Put old.name.client items) old answer new
   pub stamp : IfDone answer (IsDrawn old.name.client old.counter new.counter)
   pub written : ReportsWrite items old answer new
+  pub moved : ReportsMove (Put old.name.client items) old answer new
 
 -- why nothing is drawn: the clock gives none, or room to enter the raise was refused
 abbrev pub IsDrawRefusal : Refusal → Type 0

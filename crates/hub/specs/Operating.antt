@@ -8,7 +8,7 @@ use Rattle.plain_store.specs.History.{Intent}
 use Rattle.plain_store.specs.Words.{Setup, Stamp}
 use Rattle.history.specs.declared.rule.Naming.{Ghosts}
 use Rattle.hub.specs.Evidence.{IsUnderWay}
-use Rattle.hub.specs.Replies.{AreServed, IsStampOf, IsToldOf, Reads}
+use Rattle.hub.specs.Replies.{AreServed, IsMovedBy, IsStampOf, IsToldOf, Reads}
 use Rattle.hub.specs.Seats.{EndsSo, Extends, Follows, at_seat, spare, told_by}
 use Rattle.hub.specs.Sights.{OperationSight, operation_of, sight_of}
 use Rattle.hub.specs.Taken.{replies_in}
@@ -134,6 +134,7 @@ pub record FollowsMove {G : Type 0} {naming : Ghosts G} (taken : MoveKind) (old 
   pub entered : StillFollows old before new after
   pub read : (sight : OperationSight) (setup : Setup) (asked : Intent) (start : List Entry) → ReadsAt sight setup asked start old before
       → IfTells asked (moved taken old.readings.value) (IsToldOf sight setup asked start old.entries.items)
+      → IsMovedBy sight setup asked start old.entries.items (moved taken old.readings.value)
       → ReadsAt sight setup asked start new after
   pub kept : Extends old.entries.items new.entries.items
   pub served : (first last : ℕ) (start : List Entry) → AreServed (sight_of old.name old.seen) first last start old.entries.items

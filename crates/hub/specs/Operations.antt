@@ -1,6 +1,7 @@
 -- What each operation of a seat leaves, whatever it was asked for.
 use Rattle.std.specs.Prelude.{◌≡◌, ◌↔◌, ◌<◌, ◌≤◌, ◌+◌, ℕ, true, false, List}
 use mathlib.Core.List.{IsPrefix}
+use Rattle.stamps.specs.Stamp.{stamp}
 use Rattle.stamps.specs.declared.record.Item.{Item}
 use Rattle.plain_store.specs.declared.answer.Answer.{Answer}
 use Rattle.plain_store.specs.declared.answer.Answer.TheVariants.{Refused}
@@ -11,7 +12,8 @@ use Rattle.plain_store.specs.Words.{Key, Tag, Setup}
 use Rattle.hub.specs.Atomic.{IsReadAtomic}
 use Rattle.hub.specs.Fresh.{AreCommittedIn, IsFreshAt, IsFreshByEntry}
 use Rattle.hub.specs.Limits.{last_call, max_calls}
-use Rattle.hub.specs.Replies.{AreServed, IfDone, IfListed, IfRead, IsDrawn, IsListOf, IsReadOf, IsWriteOf}
+use Rattle.plain_store.specs.History.{Intent as Asked, Writes, Gets, Finds}
+use Rattle.hub.specs.Replies.{AreServed, IfDone, IfListed, IfRead, IfRuns, IsDrawn, IsListOf, IsMoveOf, IsReadOf, IsWriteOf}
 use Rattle.hub.specs.Seats.{SeatView, Extends, IsEntered, begun_entries, last_operation, sight}
 
 -- The seat is that of the same session, later: its entries stay, it sent at most so many calls more, and each reply that
@@ -25,12 +27,26 @@ pub record IsLater (most : ℕ) (old new : SeatView) : Type 0 where
   pub sent : (old.sent ≤ new.sent) × (new.sent ≤ old.sent + most)
   pub counter : old.counter ≤ new.counter
 
+-- what is said of what an act asks for, if it asks for something: a write writes under the next stamp of the seat's client
+abbrev pub IfAsks : SeatView → Act → (Asked → Type 0) → Type 0
+IfAsks seat (Put client items) P = P (Writes (stamp (seat.counter + 1) seat.name.client) items)
+IfAsks seat (Get client keys) P = P (Gets keys)
+IfAsks seat (Find client tag) P = P (Finds tag)
+IfAsks seat act P = Unit {0}
+
+-- What is answered, unless it is a refusal, reports the plain store's move at the last of replies that the operation entered.
+abbrev pub ReportsMove : Act → SeatView → Answer → SeatView → Type 0
+ReportsMove act old answer new =
+    IfAsks old act (λ asked. (setup : Setup) → setup.partitions ≡ old.parts
+    → IfRuns answer (IsMoveOf (last_operation new) setup asked (begun_entries old act) new.entries answer))
+
 -- An operation of this act was answered. A seat that was stopped answers 19, and one whose calls are used up 26.
 pub record IsOperation (act : Act) (old : SeatView) (answer : Answer) (new : SeatView) : Type 0 where
   pub entered : IsEntered act old answer new
   pub stopped : (answer ≡ Refused Stopped) ↔ (old.stopped ≡ true)
   pub past : (answer ≡ Refused RowsUsed) ↔ ((old.stopped ≡ false) × (last_call < old.sent))
   pub later : IsLater max_calls old new
+  pub moved : ReportsMove act old answer new
 
 -- ---- what is reported answers replies that the operation entered
 

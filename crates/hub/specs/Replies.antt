@@ -3,22 +3,27 @@ use Rattle.std.specs.Prelude.{◌≡◌, ◌<◌, ◌≤◌, ◌+◌, ◌⊎◌,
 use Rattle.stamps.specs.Stamp.{stamp}
 use Rattle.stamps.specs.declared.record.Item.{Item}
 use Rattle.plain_store.specs.declared.answer.Answer.{Answer}
-use Rattle.plain_store.specs.declared.answer.Answer.TheVariants.{Done, Read, Listed}
+use Rattle.plain_store.specs.declared.answer.Answer.TheVariants.{Done, Read, Listed, Restart, Ended, Refused}
 use Rattle.plain_store.specs.declared.calls.Call.{Call}
 use Rattle.plain_store.specs.declared.calls.Call.TheVariants.{Prepare, Commit}
 use Rattle.plain_store.specs.declared.message.Message.{Message}
 use Rattle.plain_store.specs.declared.reading.Reading.{Reading}
 use Rattle.plain_store.specs.Words.{Key, Stamp, Tag, Setup}
 use Rattle.plain_store.specs.History.{Intent as Asked, Writes, Gets, Finds}
+use Rattle.plain_store.specs.Moves.{Finishes, Lists, Restarts, Fails, Move as PlainMove, Reads as ReadsAll}
 use Rattle.entry_list.specs.declared.kinds.Entry.{Entry}
 use Rattle.entry_list.specs.declared.kinds.Entry.TheVariants.{Began, Took, Answered}
 use Rattle.tenant_sessions.specs.declared.running.Running.{Running}
-use Rattle.tenant_sessions.specs.Showing.{IsCallFor, IsWritersAnswer, IsReadersAnswer, IsFindersAnswer, IsAnswerTo, IsShown}
+use Rattle.tenant_sessions.specs.declared.moves.Move.{Move}
+use Rattle.tenant_sessions.specs.declared.moves.Move.TheVariants.{Ignored}
+use Rattle.tenant_sessions.specs.Showing.{IsCallFor, IsWritersAnswer, IsReadersAnswer, IsFindersAnswer, IsAnswerTo, IsMoveAt, IsShown}
+use Rattle.tenant_sessions.specs.Showing.{plain_move}
 use Rattle.history.specs.declared.entry.Mark.{Mark}
 use Rattle.shard.specs.Journals.{IsServedIn}
 use Rattle.hub.specs.Sights.{OperationSight, SeatSight}
 use Rattle.hub.specs.declared.seat_request.SeatRequest.{SeatRequest}
 use Rattle.hub.specs.declared.seat_request.SeatRequest.TheVariants.{Put, Get, Find}
+use Rattle.hub.specs.Requests.{intent_of}
 
 -- ---- which replies are entered
 
@@ -103,6 +108,32 @@ abbrev pub IsToldOf : OperationSight → Setup → Asked → List Entry → List
 IsToldOf sight setup asked start entries told =
     IsFromReplies sight asked start entries (λ taken last. IsAnswerTo setup asked taken last told)
 
+-- the answer that reports a move of the plain store which ends what was asked; that of an end names no rows
+abbrev pub answer_to : PlainMove → Option Answer
+answer_to (Finishes stamp) = Some (Done stamp)
+answer_to (ReadsAll readings) = Some (Read readings)
+answer_to (Lists readings) = Some (Listed readings)
+answer_to (Restarts key floor) = Some (Restart key floor)
+answer_to (Fails refusal calls) = Some (Ended refusal None)
+answer_to move = None
+
+-- What is answered reports the plain store's move at the last of replies that were entered after these entries: so where it is
+-- `restart` or `ended`, the plain store restarts or ends what was asked by the same replies.
+abbrev pub IsMoveOf : OperationSight → Setup → Asked → List Entry → List Entry → Answer → Type 0
+IsMoveOf sight setup asked start entries answer =
+    IsFromReplies sight asked start entries
+    (λ taken last. (move : PlainMove) × (plain_move setup asked taken last ≡ Some move) × (answer_to move ≡ Some answer))
+
+-- what is said of an answer that is no refusal
+abbrev pub IfRuns : Answer → Type 0 → Type 0
+IfRuns (Refused refusal) P = Unit {0}
+IfRuns answer P = P
+
+-- so of a request, which writes under this stamp if it writes
+abbrev pub IsMoveFor : OperationSight → ℕ → Stamp → SeatRequest → Answer → List Entry → List Entry → Type 0
+IsMoveFor sight parts own request answer start entries =
+    (setup : Setup) → setup.partitions ≡ parts → IfRuns answer (IsMoveOf sight setup (intent_of own request) start entries answer)
+
 -- what is said of an answer that reports what was read; a read lists nothing
 abbrev pub IfRead : Answer → (List Reading → Type 0) → Type 0
 IfRead (Read told) P = P told
@@ -165,13 +196,19 @@ pub record IsReadBySeat (sight : OperationSight) (setup : Setup) (asked : Asked)
   pub among : AreAmong sight asked taken more
   pub shown : IsShown setup asked taken running
 
+-- a move of the session is the plain store's at the last of replies that were entered after these entries, or it ignored the reply
+abbrev pub IsMovedBy : OperationSight → Setup → Asked → List Entry → List Entry → Move → Type 0
+IsMovedBy sight setup asked start entries move =
+    (move ≡ Ignored) ⊎ IsFromReplies sight asked start entries (λ taken last. IsMoveAt setup asked taken last move)
+
 -- what is said of an answer, if there is one
 abbrev pub IfTold : Option Answer → (Answer → Type 0) → Type 0
 IfTold None P = Unit {0}
 IfTold (Some answer) P = P answer
 
--- and what was answered by then, if anything was, is so read or found
+-- and what was answered by then, if anything was, is so read or found, and reports the plain store's move
 pub record Reads (sight : OperationSight) (setup : Setup) (asked : Asked) (start entries : List Entry)
     (running : Option Running) (told : Option Answer) : Type 0 where
   pub reading : IsReadBySeat sight setup asked start entries running
   pub answered : IfTold told (λ answer. IfSays asked answer (IsToldOf sight setup asked start entries))
+  pub moved : IfTold told (IsMoveOf sight setup asked start entries)

@@ -45,9 +45,10 @@ pub use hub::Hub;
 pub use new_store::NewStore;
 pub use partition::Usage;
 pub use read_laws::{
-    puts_by_clock_rise, seat_lists_are_atomic, seat_lists_are_fresh, seat_puts_are_committed,
+    puts_by_clock_rise, seat_lists_are_atomic, seat_lists_are_fresh,
+    seat_lists_restart_below_a_floor, seat_puts_are_committed, seat_puts_end_by_a_refusal,
     seat_reads_are_atomic, seat_reads_are_fresh, seat_reads_miss_no_put_that_was_done,
-    seat_reads_miss_no_put_that_was_reported,
+    seat_reads_miss_no_put_that_was_reported, seat_reads_restart_below_a_floor,
 };
 pub use seat::Seat;
 pub use shard::{Gate, Named, Sink, TenantUsage};

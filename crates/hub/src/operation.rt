@@ -277,7 +277,7 @@ impl<'a, G: Gate + Naming> RunningOperation<'a, G> {
     ghost use Rattle.plain_store.specs.Words.{Setup};
     ghost use Rattle.hub.specs.Sights.{OperationSight, operation_of, sight_of};
     ghost use mathlib.Core.List.{IsPrefix};
-    ghost use Rattle.hub.specs.Replies.{AreServed, IsDrawn, IsStampOf, IfShows, IsToldFor, IsUnder};
+    ghost use Rattle.hub.specs.Replies.{AreServed, IsDrawn, IsMoveFor, IsStampOf, IfShows, IsToldFor, IsUnder};
     ghost use Rattle.hub.specs.Evidence.{HasOwnReadEntry, IsLookedAt};
     ghost use Rattle.hub.specs.Clocks.{IsReported};
     ghost use Rattle.hub.specs.Evidence.{no_mark};
@@ -413,6 +413,10 @@ impl<'a, G: Gate + Naming> RunningOperation<'a, G> {
         ensures read { OnOk result
             (IsToldFor (operation_of self.old.name self.new.mark self.new.seen) parts
             (IsDrawn self.old.name.client self.old.session.counter self.new.session.counter)
+            request.now answer.new self.old.entries.items self.new.entries.items) }
+        ensures moved { OnOk result
+            (IsMoveFor (operation_of self.old.name self.new.mark self.new.seen) parts
+            (stamp (self.old.session.counter + 1) self.old.name.client)
             request.now answer.new self.old.entries.items self.new.entries.items) }
         ensures counter { self.old.session.counter ≤ self.new.session.counter }
         ensures served { StillServed self.old self.new }

@@ -1,8 +1,11 @@
 //! What holds of each read and of each put of a seat. Each law is the contract of a function that does nothing.
-ghost use Rattle.std.specs.Prelude.{◌≡◌, ◌<◌, ◌≤◌, ℕ, List};
+ghost use Rattle.std.specs.Prelude.{◌≡◌, ◌<◌, ◌≤◌, ℕ, List, None};
 ghost use mathlib.Core.List.{IsPrefix};
 ghost use Rattle.entry_list.specs.declared.kinds.Entry.{Entry};
+ghost use Rattle.plain_store.specs.declared.answer.Answer.TheVariants.{Ended, Restart};
 ghost use Rattle.plain_store.specs.declared.reading.Reading.{Reading};
+ghost use Rattle.plain_store.specs.declared.refusal.Refusal.{Refusal};
+ghost use Rattle.plain_store.specs.History.{Finds, Gets, Writes};
 ghost use Rattle.plain_store.specs.Words.{Item, Key, Stamp, Tag, Setup};
 ghost use Rattle.history.specs.Legal.{HasParts, IsLegal};
 ghost use Rattle.history.specs.declared.entry.HistoryEntry.{HistoryEntry};
@@ -11,7 +14,8 @@ ghost use Rattle.hub.specs.Atomic.{IsReadAtomic};
 ghost use Rattle.shard.specs.declared.seat_name.SeatName.{SeatName};
 ghost use Rattle.hub.specs.Clocks.{IsStampedBehind, WasReported};
 ghost use Rattle.hub.specs.Fresh.{AreCommittedIn, IsFreshAt, IsNotMissed, IsReadFresh};
-ghost use Rattle.hub.specs.Replies.{IsListOf, IsReadOf, IsWriteOf};
+ghost use Rattle.hub.specs.Ended.{WasCollected, WasRefused};
+ghost use Rattle.hub.specs.Replies.{IsFromReplies, IsListOf, IsMoveOf, IsReadOf, IsWriteOf};
 ghost use Rattle.hub.specs.Sights.{OperationSight};
 
 /// What a seat reads is read atomic: it was written by decided puts of the store's history, and of none of these a part is read beside
@@ -55,6 +59,33 @@ pub fn seat_puts_are_committed()
         → IsLegal sight.seen → HasParts sight.seen setup.partitions
         → IsWriteOf sight setup own items start entries
         → AreCommittedIn sight.seen sight.tenant items own }
+{}
+
+/// A read that is answered as restarting took a last reply by which the version that it had asked for lies below this floor of the key.
+pub fn seat_reads_restart_below_a_floor()
+    ensures { (sight : OperationSight) (setup : Setup) (keys : List Key)
+        (start entries : List Entry) (key : Key) (floor : Stamp)
+        → IsMoveOf sight setup (Gets keys) start entries (Restart key floor)
+        → IsFromReplies sight (Gets keys) start entries
+        (λ taken last. WasCollected key floor last) }
+{}
+
+/// So did a search.
+pub fn seat_lists_restart_below_a_floor()
+    ensures { (sight : OperationSight) (setup : Setup) (tag : Tag)
+        (start entries : List Entry) (key : Key) (floor : Stamp)
+        → IsMoveOf sight setup (Finds tag) start entries (Restart key floor)
+        → IsFromReplies sight (Finds tag) start entries
+        (λ taken last. WasCollected key floor last) }
+{}
+
+/// A put that is answered as ended took a last reply by which a PREPARE of it was refused so.
+pub fn seat_puts_end_by_a_refusal()
+    ensures { (sight : OperationSight) (setup : Setup) (own : Stamp) (items : List Item)
+        (start entries : List Entry) (refusal : Refusal)
+        → IsMoveOf sight setup (Writes own items) start entries (Ended refusal None)
+        → IsFromReplies sight (Writes own items) start entries
+        (λ taken last. WasRefused refusal last) }
 {}
 
 /// The stamp of a put by the clock is above that of each such put of the tenant whose end its seat had seen as it began, whatever keys

@@ -1,5 +1,6 @@
 //! A client's session.
 ghost use Rattle.std.specs.Prelude.{◌≡◌, ◌<◌, ◌≤◌, ◌+◌, ◌↔◌, ◌⊎◌, [], true, false, Some, OnOk, IfErr, IfSome, IfNone};
+ghost use Rattle.stamps.specs.Stamp.{stamp};
 ghost use Rattle.plain_store.specs.declared.step.Act.TheVariants.{Put};
 ghost use mathlib.Core.List.{IsPrefix};
 ghost use Rattle.history.specs.Legal.{HasParts, IsLegal};
@@ -9,7 +10,7 @@ ghost use Rattle.hub.specs.Limits.{last_call, max_calls};
 ghost use Rattle.hub.specs.Operations.{FindsTag, FindsTagAt, GetsAll, GetsAllAt, IsLater, PutsAll};
 ghost use Rattle.hub.specs.Clocks.{HasSeenMore};
 ghost use Rattle.hub.specs.Evidence.{HasEntryAt, IsOfClient, no_mark};
-ghost use Rattle.hub.specs.Replies.{IfShows, IsDrawn, IsToldFor};
+ghost use Rattle.hub.specs.Replies.{IfShows, IsDrawn, IsMoveFor, IsToldFor};
 ghost use Rattle.hub.specs.Registered.{HasLeft};
 ghost use Rattle.hub.specs.Requests.{act_of};
 ghost use Rattle.hub.specs.Seats.{SeatView, Extends, IsEntered, IsNamed, begun_entries, is_unbegun, last_operation, recorded};
@@ -176,6 +177,9 @@ impl<'a, G: Gate + Naming> Seat<'a, G> {
     /// That it is done is the writer's answer to replies that this operation entered, whatever they are, each given to just the
     /// call that was answered by it, but for its stamp: each item's PREPARE was accepted, and then the COMMIT done at each home.
     /// So each key is committed in the store's one history, and no read misses it that begins when its seat has seen as much.
+    ///
+    /// Each other answer that is no refusal reports the plain store's move at the last of such replies, too: it has ended because that
+    /// one refused a PREPARE.
     pub fn put_all<R: Wait>(&mut self, rt: &R, items: &[Item]) -> Answer
         ensures { PutsAll items.now self.old result self.new }
     {
@@ -198,6 +202,8 @@ impl<'a, G: Gate + Naming> Seat<'a, G> {
     /// whose write sets they told. So it is read atomic, by the puts of the store's one history: what it reports is what decided puts
     /// wrote, and none of them is shown in part. And it is fresh: no key is reported below a version that was committed before the
     /// read's entry in that history, whichever client had been told of it. All that this seat had seen stands before that entry.
+    ///
+    /// It restarts only by a reply whose floor is above the version that it had asked for.
     pub fn get_all<R: Wait>(&mut self, rt: &R, keys: &[Key]) -> Answer
         ensures { GetsAll keys.now self.old result self.new }
     {
@@ -307,6 +313,9 @@ impl<'a, G: Gate + Naming> Seat<'a, G> {
         ensures later { IsLater max_calls self.old self.new }
         ensures told { IsToldFor (last_operation self.new) self.old.parts
             (IsDrawn self.old.name.client self.old.counter self.new.counter) request.now answer.new
+            (begun_entries self.old (act_of self.old.name.client request.now)) self.new.entries }
+        ensures moved { IsMoveFor (last_operation self.new) self.old.parts
+            (stamp (self.old.counter + 1) self.old.name.client) request.now answer.new
             (begun_entries self.old (act_of self.old.name.client request.now)) self.new.entries }
         ensures few { replies_in self.new.entries ≤ replies_in self.old.entries + takes }
         // A read has its entry behind all that was seen before, and what its look at the clock showed.

@@ -9,9 +9,10 @@ use Rattle.plain_store.specs.declared.calls.ReadReply.{ReadReply}
 use Rattle.plain_store.specs.declared.calls.Reply.{Reply}
 use Rattle.plain_store.specs.declared.calls.Reply.TheVariants.{Prepare as ToPrepare, Committed as ToCommit, Get as ToGet}
 use Rattle.plain_store.specs.declared.message.Message.{Message}
+use Rattle.plain_store.specs.declared.reading.Reading.{Reading}
 use Rattle.plain_store.specs.Words.{Key, Tag, Stamp, Item, Record, Setup}
 use Rattle.plain_store.specs.History.{Intent, Writes, Gets, Finds}
-use Rattle.plain_store.specs.Moves.{Waits, Decides, Finishes, Reads, write_move, read_move, find_move}
+use Rattle.plain_store.specs.Moves.{Waits, Decides, Finishes, Reads, write_move, read_move, find_move, Move as PlainMove}
 use Rattle.plain_store.specs.Writing.{Outgoing, all_prepared, all_committed, commit_calls}
 use Rattle.plain_store.specs.Rounds.{needed, round_of}
 use Rattle.plain_store.specs.Finding.{keys_found, count_found, all_keys_found}
@@ -32,11 +33,14 @@ use Rattle.get_all.specs.Reader.{StandsFor, TakesRead, IfRead, told}
 use Rattle.get_all.specs.Reading.{ReadsWhole, is_wanted, read_answer, IsFirst, IsSecond}
 use Rattle.tenant_sessions.specs.Holding.{Machine, Write as MachineWrite, Read as MachineRead, Find as MachineFind}
 use Rattle.tenant_sessions.specs.Running.{RunningStands, RunsAs}
-use Rattle.tenant_sessions.specs.Showing.{IsReadersAnswer, IsFindersAnswer, IsShown, HasTaken, TellsStamp, IfLists, found_move, IfWritten, IfDecides, IfPrepared, IsCallFor, IsTakenFor, IsWritersAnswer, Offers, OffersWrite, Shows}
-use Rattle.tenant_sessions.specs.Moves.{Move}
+use Rattle.tenant_sessions.specs.Showing.{IsReadersAnswer, IsFindersAnswer, IsShown, HasTaken, TellsStamp, IfLists, found_move, IfWritten, IfDecides, IfPrepared, IsCallFor, IsTakenFor, IsWritersAnswer, IfReads, Offers, OffersWrite, Shows}
+use Rattle.tenant_sessions.specs.Moves.{Move, told as told_of}
 use Rattle.tenant_sessions.specs.Moves.{Ignored as Ignores}
 use Rattle.tenant_sessions.specs.declared.running.Running.{Running}
 use Rattle.tenant_sessions.proofs.Listed.{lists_whole}
+
+pub some_is : {X : Type 0} {x y : X} → Some x ≡ Some y → x ≡ y
+some_is e = cc
 
 some_setup : Setup
 some_setup = record { partitions = 1; room = record { slots = 0; items = 0; clients = 0 }; keep = 0 }
@@ -47,16 +51,26 @@ none_told _ e = cc
 
 pub taken_as : (keys : List Key) (taken : List Message) (message meant : Message) (answer : ReadMove) (reader : Reader) → IsTakenFor message meant
     → TakesRead keys taken meant answer reader → Offers keys taken message answer reader
-taken_as keys taken message meant answer reader same takes = go (is_wanted keys taken meant) (takes.answered some_setup Reads) takes.stands
+taken_as keys taken message meant answer reader same takes = go (is_wanted keys taken meant) refl (takes.answered some_setup Reads) takes.stands
   where
     reads : (a : ReadMove) → ((setup : Setup) → told setup Reads a ≡ read_answer setup keys Reads taken meant)
         → IfRead a (ReadsWhole keys (taken ++ meant ∷ [])) → IfRead a (IsReadersAnswer keys taken meant)
     reads (Read readings) answered whole = record { answers = λ setup. sym (answered setup); whole = whole }
     reads _ answered whole = tt
 
-    go : (b : Bool) → told some_setup Reads answer ≡ cond b (Some (read_move some_setup keys (taken ++ meant ∷ []) Reads meant.call meant.reply)) None → StandsFor keys reader (cond b (taken ++ meant ∷ []) taken) → Offers keys taken message answer reader
-    go false none stands = inl (none_told answer none, stands)
-    go true some stands = inr (meant, same, stands, reads answer (λ setup. takes.answered setup Reads) takes.whole)
+    go : (b : Bool) → is_wanted keys taken meant ≡ b → told some_setup Reads answer ≡ cond b (Some (read_move some_setup keys (taken ++ meant ∷ []) Reads meant.call meant.reply)) None → StandsFor keys reader (cond b (taken ++ meant ∷ []) taken)
+        → Offers keys taken message answer reader
+    go false wanted none stands = inl (none_told answer none, stands)
+    go true wanted some stands = inr (
+      meant,
+      same,
+      stands,
+      reads answer (λ setup. takes.answered setup Reads) takes.whole,
+      λ setup.
+          let move = read_move setup keys (taken ++ meant ∷ []) Reads meant.call meant.reply in
+          let is : read_answer setup keys Reads taken meant ≡ Some move = ap (λ b. cond b (Some move) None) wanted in
+          (move, is, takes.answered setup Reads ∙ is),
+    )
 
 -- the message as it is
 as_call : (call : Call) → IsCallFor call call
@@ -107,7 +121,16 @@ offered keys taken message key reply answer reader (Some s) call to first second
 pub shows_so : (setup : Setup) (request : Intent) (taken : List Message) (message : Message) (move : Move) (Stands Other : List Message → Type 0)
     → ((replies : List Message) → Stands replies → Other replies) → Shows setup request taken message move Stands → Shows setup request taken message move Other
 shows_so setup request taken message move Stands Other so (inl passed) = inl (passed.0, so taken passed.1)
-shows_so setup request taken message move Stands Other so (inr took) = inr (record { meant = took.meant; same = took.same; stands = so _ took.stands; told = took.told; decided = took.decided })
+shows_so setup request taken message move Stands Other so (inr took) = inr (record { meant = took.meant; same = took.same; stands = so _ took.stands; told = took.told; decided = took.decided; moved = took.moved })
+
+-- what a read does is shown by its move
+pub shows_read : (setup : Setup) (keys : List Key) (taken : List Message) (message : Message) (answer : ReadMove) (move : Move) (reader : Reader) → (answer ≡ Ignored → move ≡ Ignores)
+    → ((P : List Reading → Type 0) → IfRead answer P → IfReads move P) → IfPrepared move ⊥ → ((plain : PlainMove) → told setup Reads answer ≡ Some plain → told_of plain ≡ move)
+    → Offers keys taken message answer reader → Shows setup (Gets keys) taken message move (StandsFor keys reader)
+shows_read setup keys taken message answer move reader ignores reads decides tells (inl passed) = inl (ignores passed.0, passed.1)
+shows_read setup keys taken message answer move reader ignores reads decides tells (inr (meant, same, stands, read, plain)) =
+    let its = plain setup in
+    inr (record { meant = meant; same = same; stands = stands; told = reads _ read; decided = decides; moved = (its.0, its.1, tells its.0 its.2) })
 
 -- ---- a write
 
@@ -163,7 +186,7 @@ decided_by setup stamp items taken last outs answers =
 
 pub wrote_as : (setup : Setup) (stamp : Stamp) (items : List Item) (taken : List Message) (message meant : Message) (answer : WriteMove) (writer : Writer) → IsTakenFor message meant
     → TakesWrite setup stamp items taken meant answer writer → OffersWrite setup stamp items taken message answer writer
-wrote_as setup stamp items taken message meant answer writer same takes = go (is_wanted_written setup stamp items taken meant.partition meant.call) takes.answered takes.stands
+wrote_as setup stamp items taken message meant answer writer same takes = go (is_wanted_written setup stamp items taken meant.partition meant.call) refl takes.answered takes.stands
   where
     done : (a : WriteMove) → told_written setup stamp items a ≡ write_answer setup stamp items taken meant → IfWritten a (IsWritersAnswer setup stamp items taken meant)
     done (wrote.Done s) answered = finished setup stamp items taken meant s (sym answered)
@@ -173,10 +196,13 @@ wrote_as setup stamp items taken message meant answer writer same takes = go (is
     decides wrote.Decide answered = decided_by setup stamp items taken meant (commit_calls setup stamp items) answered
     decides _ answered = tt
 
-    go : (b : Bool) → told_written setup stamp items answer ≡ cond b (Some (write_move setup stamp items (taken ++ meant ∷ []) meant.call meant.reply)) None → StandsForWrite setup stamp items writer (cond b (taken ++ meant ∷ []) taken)
+    go : (b : Bool) → is_wanted_written setup stamp items taken meant.partition meant.call ≡ b
+        → told_written setup stamp items answer ≡ cond b (Some (write_move setup stamp items (taken ++ meant ∷ []) meant.call meant.reply)) None → StandsForWrite setup stamp items writer (cond b (taken ++ meant ∷ []) taken)
         → OffersWrite setup stamp items taken message answer writer
-    go false none stands = inl (none_told_written setup stamp items answer none, stands)
-    go true some stands = inr (meant, same, stands, done answer takes.answered, decides answer takes.answered)
+    go false wanted none stands = inl (none_told_written setup stamp items answer none, stands)
+    go true wanted some stands =
+        let move = write_move setup stamp items (taken ++ meant ∷ []) meant.call meant.reply in
+        inr (meant, same, stands, done answer takes.answered, decides answer takes.answered, (move, ap (λ b. cond b (Some move) None) wanted, some))
 
 -- a reply to a PREPARE of this key, as one to that of the write
 pub prepared_as : (setup : Setup) (stamp : Stamp) (items : List Item) (taken : List Message) (message : Message) (version : Record) (key : Key) (reply : PrepareReply) (answer : WriteMove) (writer : Writer)
@@ -201,16 +227,30 @@ committed_as setup stamp items taken message asked count answer writer call to t
 
 -- and what is offered is shown by the move
 pub shows_written : (setup : Setup) (stamp : Stamp) (items : List Item) (taken : List Message) (message : Message) (answer : WriteMove) (move : Move) (writer : Writer) → (answer ≡ wrote.Ignored → move ≡ Ignores)
-    → ((P : Type 0) → IfWritten answer P → TellsStamp stamp move P) → ((P : Type 0) → IfDecides answer P → IfPrepared move P) → OffersWrite setup stamp items taken message answer writer → Shows setup (Writes stamp items) taken message move (StandsForWrite setup stamp items writer)
-shows_written setup stamp items taken message answer move writer ignores tells decides (inl passed) = inl (ignores passed.0, passed.1)
-shows_written setup stamp items taken message answer move writer ignores tells decides (inr (meant, same, stands, told, decided)) =
-    inr (record { meant = meant; same = same; stands = stands; told = tells _ told; decided = decides _ decided })
+    → ((P : Type 0) → IfWritten answer P → TellsStamp stamp move P) → ((P : Type 0) → IfDecides answer P → IfPrepared move P)
+    → ((meant : Message) (plain : PlainMove) → StandsForWrite setup stamp items writer (taken ++ meant ∷ []) → IfWritten answer (IsWritersAnswer setup stamp items taken meant) → write_answer setup stamp items taken meant ≡ Some plain
+    → told_written setup stamp items answer ≡ Some plain → told_of plain ≡ move)
+    → OffersWrite setup stamp items taken message answer writer → Shows setup (Writes stamp items) taken message move (StandsForWrite setup stamp items writer)
+shows_written setup stamp items taken message answer move writer ignores tells decides moves (inl passed) = inl (ignores passed.0, passed.1)
+shows_written setup stamp items taken message answer move writer ignores tells decides moves (inr (meant, same, stands, told, decided, (plain, is, says))) =
+    inr (record { meant = meant; same = same; stands = stands; told = tells _ told; decided = decides _ decided; moved = (plain, is, moves meant plain stands told is says) })
 
 -- ---- a search
 
 none_told_found : (setup : Setup) (answer : FindMove) → told_found setup answer ≡ None → answer ≡ found.Ignored
 none_told_found setup found.Ignored e = refl
 none_told_found setup _ e = cc
+
+-- a search's move tells of the plain store's
+found_tells : (setup : Setup) (answer : FindMove) (plain : PlainMove) → told_found setup answer ≡ Some plain → told_of plain ≡ found_move answer
+found_tells setup found.Wait plain is = ap told_of (sym (some_is is))
+found_tells setup (found.Begin keys) plain is = ap told_of (sym (some_is is))
+found_tells setup (found.Ask late) plain is = ap told_of (sym (some_is is))
+found_tells setup (found.List items) plain is = ap told_of (sym (some_is is))
+found_tells setup (found.Restart key floor) plain is = ap told_of (sym (some_is is))
+found_tells setup found.TooMany plain is = ap told_of (sym (some_is is))
+found_tells setup found.Torn plain is = ap told_of (sym (some_is is))
+found_tells setup found.Ignored plain is = cc
 
 -- a search decides nothing
 decides_none : (answer : FindMove) → IfPrepared (found_move answer) ⊥
@@ -225,7 +265,7 @@ decides_none found.Ignored = tt
 
 module _ (setup : Setup) (tag : Tag) (taken : List Message) (message : Message) (before : TagSearch) (lent : Reader) (search : TagSearch) (reader : Reader) (answer : FindMove) (s : StandsForFind setup tag before lent taken) (few : length (keys_found message.reply) ≤ count_found message.reply) where
   pub found_as : (meant : Message) → IsTakenFor message meant → TakesFind setup tag taken meant answer search reader → Shows setup (Finds tag) taken message (found_move answer) (StandsForFind setup tag search reader)
-  found_as meant same takes = go (is_wanted_found setup taken meant) takes.answered takes.stands
+  found_as meant same takes = go (is_wanted_found setup taken meant) refl takes.answered takes.stands
     where
       lists : (a : FindMove) → told_found setup a ≡ find_answer setup tag taken meant → IfLists (found_move a) (IsFindersAnswer setup tag taken meant)
       lists (found.List items) answered =
@@ -233,10 +273,19 @@ module _ (setup : Setup) (tag : Tag) (taken : List Message) (message : Message) 
           record { answers = sym answered; whole = lists_whole setup tag taken meant before lent items s (subst P (sym same.reply) few) (sym answered) }
       lists _ answered = tt
 
-      go : (b : Bool) → told_found setup answer ≡ cond b (Some (find_move setup tag (taken ++ meant ∷ []) meant.partition meant.call meant.reply)) None → StandsForFind setup tag search reader (cond b (taken ++ meant ∷ []) taken)
-          → Shows setup (Finds tag) taken message (found_move answer) (StandsForFind setup tag search reader)
-      go false none stands = inl (ap found_move (none_told_found setup answer none), stands)
-      go true some stands = inr (record { meant = meant; same = same; stands = stands; told = lists answer takes.answered; decided = decides_none answer })
+      go : (b : Bool) → is_wanted_found setup taken meant ≡ b → told_found setup answer ≡ cond b (Some (find_move setup tag (taken ++ meant ∷ []) meant.partition meant.call meant.reply)) None
+          → StandsForFind setup tag search reader (cond b (taken ++ meant ∷ []) taken) → Shows setup (Finds tag) taken message (found_move answer) (StandsForFind setup tag search reader)
+      go false wanted none stands = inl (ap found_move (none_told_found setup answer none), stands)
+      go true wanted some stands =
+          let move = find_move setup tag (taken ++ meant ∷ []) meant.partition meant.call meant.reply in
+          inr (record {
+            meant = meant;
+            same = same;
+            stands = stands;
+            told = lists answer takes.answered;
+            decided = decides_none answer;
+            moved = (move, ap (λ b. cond b (Some move) None) wanted, found_tells setup answer move some);
+          })
 
   -- a reply to a GET of its read, in round one or in round two
   pub offered_found : (key : Key) (reply : ReadReply) (at : Option Stamp) → message.call ≡ Get key at → message.reply ≡ Some (ToGet reply)

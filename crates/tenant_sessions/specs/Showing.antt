@@ -8,7 +8,7 @@ use Rattle.plain_store.specs.declared.reading.Reading.{Reading}
 use Rattle.plain_store.specs.declared.refusal.Refusal.TheVariants.{TooMany, Torn}
 use Rattle.plain_store.specs.History.{Intent, Writes, Gets, Finds}
 use Rattle.plain_store.specs.Finding.{all_keys_found, carrying}
-use Rattle.plain_store.specs.Moves.{Finishes, Reads, Lists}
+use Rattle.plain_store.specs.Moves.{Finishes, Reads, Lists, Move as PlainMove}
 use Rattle.plain_store.specs.Rounds.{readings}
 use Rattle.plain_store.specs.Words.{Key, Stamp, Tag, Setup}
 use Rattle.plain_store.specs.Writing.{all_prepared, all_committed}
@@ -16,7 +16,7 @@ use Rattle.put_all.specs.declared.writer.Writer.{Writer}
 use Rattle.put_all.specs.declared.writer.WriteMove.{WriteMove}
 use Rattle.put_all.specs.declared.writer.WriteMove.TheVariants.{Decide as DecideWrite, Done as DoneWrite}
 use Rattle.put_all.specs.declared.writer.WriteMove.TheVariants.{Ignored as IgnoredWrite}
-use Rattle.put_all.specs.Writer.{StandsFor as StandsForWrite}
+use Rattle.put_all.specs.Writer.{StandsFor as StandsForWrite, told as told_written}
 use Rattle.put_all.specs.Writing.{write_answer}
 use Rattle.get_all.specs.declared.tag_search.FindMove.{FindMove}
 use Rattle.get_all.specs.declared.tag_search.FindMove.TheVariants as found
@@ -25,11 +25,12 @@ use Rattle.get_all.specs.declared.reader.ReadMove.{ReadMove}
 use Rattle.get_all.specs.declared.reader.ReadMove.TheVariants.{Ignored as IgnoredRead}
 use Rattle.get_all.specs.TagSearch.{StandsFor as StandsForFind}
 use Rattle.get_all.specs.Finding.{find_answer}
-use Rattle.get_all.specs.Reader.{StandsFor, IfRead}
+use Rattle.get_all.specs.Reader.{StandsFor, IfRead, told as told_read}
 use Rattle.get_all.specs.Reading.{read_answer, IsUnfractured, ReadsWhole}
 use Rattle.tenant_sessions.specs.Holding.{Machine, Write, Find}
 use Rattle.tenant_sessions.specs.Holding.{Read as ReadMachine}
 use Rattle.tenant_sessions.specs.Moves.{Move, Wait, Decided, Done, Ask, Begins, Read, Listed, Restart, Ended, Ignored}
+use Rattle.tenant_sessions.specs.Moves.{told as told_of}
 use Rattle.tenant_sessions.specs.declared.running.Running.{Running}
 
 -- a search by this tag that took these replies, in order, and no others
@@ -95,6 +96,17 @@ IsAnswerTo setup (Writes stamp items) taken last told = IsWritersAnswer setup st
 IsAnswerTo setup (Gets keys) taken last told = IsReadersAnswer keys taken last told
 IsAnswerTo setup (Finds tag) taken last told = IsFindersAnswer setup tag taken last told
 
+-- the plain store's move at the last of these replies, after those that were taken before; None where the last is ignored
+abbrev pub plain_move : Setup → Intent → List Message → Message → Option PlainMove
+plain_move setup (Writes stamp items) taken last = write_answer setup stamp items taken last
+plain_move setup (Gets keys) taken last = read_answer setup keys Reads taken last
+plain_move setup (Finds tag) taken last = find_answer setup tag taken last
+
+-- it is this one, which the move of a transaction reports
+abbrev pub IsMoveAt : Setup → Intent → List Message → Message → Move → Type 0
+IsMoveAt setup request taken last move =
+    (plain : PlainMove) × (plain_move setup request taken last ≡ Some plain) × (told_of plain ≡ move)
+
 -- A call is taken as it is, but for its stamp: a PREPARE and a COMMIT as those of the write, and a GET of round two as that
 -- of the version that is needed.
 abbrev pub IsCallFor : Call → Call → Type 0
@@ -125,14 +137,18 @@ OffersWrite setup stamp items taken message answer writer =
     ((answer ≡ IgnoredWrite) × StandsForWrite setup stamp items writer taken)
     ⊎ ((meant : Message) × IsTakenFor message meant × StandsForWrite setup stamp items writer (taken ++ meant ∷ [])
     × IfWritten answer (IsWritersAnswer setup stamp items taken meant)
-    × IfDecides answer (all_prepared stamp items (taken ++ meant ∷ []) ≡ true))
+    × IfDecides answer (all_prepared stamp items (taken ++ meant ∷ []) ≡ true)
+    × ((plain : PlainMove) × (write_answer setup stamp items taken meant ≡ Some plain)
+    × (told_written setup stamp items answer ≡ Some plain)))
 
 -- The reader ignores a message, or takes its reply as that to one of its calls, whatever the message is.
 abbrev pub Offers : List Key → List Message → Message → ReadMove → Reader → Type 0
 Offers keys taken message answer reader =
     ((answer ≡ IgnoredRead) × StandsFor keys reader taken)
     ⊎ ((meant : Message) × IsTakenFor message meant × StandsFor keys reader (taken ++ meant ∷ [])
-    × IfRead answer (IsReadersAnswer keys taken meant))
+    × IfRead answer (IsReadersAnswer keys taken meant)
+    × ((setup : Setup) → (plain : PlainMove) × (read_answer setup keys Reads taken meant ≡ Some plain)
+    × (told_read setup Reads answer ≡ Some plain)))
 
 -- the move by which the finder's answer is reported
 abbrev pub found_move : FindMove → Move
@@ -209,7 +225,8 @@ IfDecided (Writes stamp items) answer replies = IfPrepared answer (all_prepared 
 IfDecided (Gets keys) answer replies = IfPrepared answer ⊥
 IfDecided (Finds tag) answer replies = IfPrepared answer ⊥
 
--- The message's reply was taken, as one to the call in whose place it came. Stands: which replies are then taken
+-- The message's reply was taken, as one to the call in whose place it came, and the move is the plain store's. Stands: which replies
+-- are then taken
 pub record IsTakenAs (setup : Setup) (request : Intent) (taken : List Message) (message : Message) (answer : Move)
     (Stands : List Message → Type 0) : Type 0 where
   pub meant : Message
@@ -217,6 +234,7 @@ pub record IsTakenAs (setup : Setup) (request : Intent) (taken : List Message) (
   pub stands : Stands (taken ++ meant ∷ [])
   pub told : IfTells request answer (IsAnswerTo setup request taken meant)
   pub decided : IfDecided request answer (taken ++ meant ∷ [])
+  pub moved : IsMoveAt setup request taken meant answer
 
 -- whatever the message is, it is ignored, or its reply is taken
 abbrev pub Shows : Setup → Intent → List Message → Message → Move → (List Message → Type 0) → Type 0

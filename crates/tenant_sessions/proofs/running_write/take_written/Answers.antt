@@ -1,7 +1,8 @@
-use Rattle.std.proofs.Common.{refl}
+use Rattle.std.proofs.Common.{refl, sym, ap, ◌∙◌}
 use Rattle.tenant_sessions.proofs.WriteMoves.{write_waits, write_decides, write_finishes, write_ends, write_ignores}
 use Rattle.put_all.specs.declared.writer.WriteMove.TheVariants as wrote
-use Rattle.tenant_sessions.proofs.Shown.{shows_written}
+use Rattle.tenant_sessions.specs.Moves.{Ended, told as told_of}
+use Rattle.tenant_sessions.proofs.Shown.{shows_written, some_is}
 use Rattle.tenant_sessions.proofs.running_write.take_written.Goals as goal
 
 pub returns-in-Wait-clause-takes : goal.returns-in-Wait-clause-takes
@@ -31,20 +32,21 @@ returns-in-Ignored-clause-takes c = λ setup items taken readings parts s is.
 
 pub returns-in-Wait-clause-shown : goal.returns-in-Wait-clause-shown
 returns-in-Wait-clause-shown c = λ setup items taken readings s.
-    shows_written setup c.args.stamp items taken c.args.message.now wrote.Wait _ c.offer.new.writer (λ no. cc) (λ P told. tt) (λ P decided. tt) (c.in-Wait.ensures.shown setup c.args.stamp items taken s)
+    shows_written setup c.args.stamp items taken c.args.message.now wrote.Wait _ c.offer.new.writer (λ no. cc) (λ P told. tt) (λ P decided. tt) (λ meant plain stands wrote is says. ap told_of (sym (some_is says))) (c.in-Wait.ensures.shown setup c.args.stamp items taken s)
 
 pub returns-in-Decide-clause-shown : goal.returns-in-Decide-clause-shown
 returns-in-Decide-clause-shown c = λ setup items taken readings s.
-    shows_written setup c.args.stamp items taken c.args.message.now wrote.Decide _ c.offer.new.writer (λ no. cc) (λ P told. refl) (λ P decided. decided) (c.in-Decide.ensures.shown setup c.args.stamp items taken s)
+    shows_written setup c.args.stamp items taken c.args.message.now wrote.Decide _ c.offer.new.writer (λ no. cc) (λ P told. refl) (λ P decided. decided) (λ meant plain stands wrote is says. ap told_of (sym (some_is says))) (c.in-Decide.ensures.shown setup c.args.stamp items taken s)
 
 pub returns-in-Done-clause-shown : goal.returns-in-Done-clause-shown
 returns-in-Done-clause-shown c = λ setup items taken readings s.
-    shows_written setup c.args.stamp items taken c.args.message.now (wrote.Done _) _ c.offer.new.writer (λ no. cc) (λ P told. (refl, told)) (λ P decided. tt) (c.in-Done.ensures.shown setup c.args.stamp items taken s)
+    shows_written setup c.args.stamp items taken c.args.message.now (wrote.Done _) _ c.offer.new.writer (λ no. cc) (λ P told. (refl, told)) (λ P decided. tt) (λ meant plain stands wrote is says. ap told_of (some_is (sym is ∙ wrote.answers))) (c.in-Done.ensures.shown setup c.args.stamp items taken s)
 
 pub returns-in-Refused-clause-shown : goal.returns-in-Refused-clause-shown
 returns-in-Refused-clause-shown c = λ setup items taken readings s.
-    shows_written setup c.args.stamp items taken c.args.message.now (wrote.Refused c.in-Refused.refusal) _ c.offer.new.writer (λ no. cc) (λ P told. tt) (λ P decided. tt) (c.in-Refused.ensures.shown setup c.args.stamp items taken s)
+    shows_written setup c.args.stamp items taken c.args.message.now (wrote.Refused c.in-Refused.refusal) _ c.offer.new.writer (λ no. cc) (λ P told. tt) (λ P decided. tt)
+    (λ meant plain stands wrote is says. ap told_of (sym (some_is says)) ∙ ap (λ calls. Ended c.in-Refused.refusal calls) (sym (c.discards_of.ensures.ending setup items _ stands))) (c.in-Refused.ensures.shown setup c.args.stamp items taken s)
 
 pub returns-in-Ignored-clause-shown : goal.returns-in-Ignored-clause-shown
 returns-in-Ignored-clause-shown c = λ setup items taken readings s.
-    shows_written setup c.args.stamp items taken c.args.message.now wrote.Ignored _ c.offer.new.writer (λ no. refl) (λ P told. tt) (λ P decided. tt) (c.in-Ignored.ensures.shown setup c.args.stamp items taken s)
+    shows_written setup c.args.stamp items taken c.args.message.now wrote.Ignored _ c.offer.new.writer (λ no. refl) (λ P told. tt) (λ P decided. tt) (λ meant plain stands wrote is says. cc) (c.in-Ignored.ensures.shown setup c.args.stamp items taken s)

@@ -2,10 +2,10 @@ use Rattle.std.proofs.Common.{◌≡◌, ◌∙◌, [], List, true, false, ap, a
 use Rattle.std.proofs.lemmas.List.{append-nil}
 use Rattle.plain_store.specs.declared.answer.Rows.{Rows}
 use Rattle.plain_store.specs.declared.reading.Reading.{Reading}
-use Rattle.tenant_sessions.specs.Moves.{moved, answer_of}
+use Rattle.tenant_sessions.specs.Moves.{moved, answer_of, is_last}
 use Rattle.tenant_sessions.specs.Showing.{IfTells}
 use Rattle.history.specs.declared.entry.HistoryEntry.{HistoryEntry}
-use Rattle.hub.specs.Replies.{AreServed, IsToldOf}
+use Rattle.hub.specs.Replies.{AreServed, IsMovedBy, IsToldOf}
 use Rattle.hub.specs.Sights.{sight_of}
 use Rattle.hub.specs.Seats.{at_seat}
 use Rattle.hub.proofs.Entries.{ends-so, follows-told, no-place, told-none, told-some}
@@ -31,10 +31,12 @@ returns-clause-moves g c =
       entered = λ start follows.
           follows-told start _ _ now.entries.items (sym (told-some now.place answer entered.answered))
           (entered.entered start (follows-told start _ _ before.entries.items (told-none before.place c.args.answer.now (sym c.is_some.ensures ∙ c.if-not-is_some.false)) follows));
-      read = λ name setup asked start reads moves.
+      read = λ name setup asked start reads moves by.
           let R : List Reading → Type 0 = λ told. IfTells asked (moved c.args.taken.now told) (IsToldOf name setup asked start before.entries.items) in
+          let S : List Reading → Type 0 = λ told. IsMovedBy name setup asked start before.entries.items (moved c.args.taken.now told) in
+          let T : List Reading → Type 0 = λ told. is_last (moved c.args.taken.now told) ≡ true in
           reads-ended name setup asked start _ now.entries.items _ now.session.running now.place _ (moved c.args.taken.now c.deref.result.now) answer entered.answer (ap (λ (s : ClientSession). s.running) entered.only.session) entered.answered
-          c.tell_end.ensures.exact reads (subst R (sym c.deref.ensures) moves);
+          c.tell_end.ensures.exact (subst T (sym c.deref.ensures) c.requires.last) reads (subst R (sym c.deref.ensures) moves) (subst S (sym c.deref.ensures) by);
       kept = entered.kept;
       served = λ first last start are.
           let S : List HistoryEntry → Type 0 = λ s. AreServed (sight_of before.name s) first last start now.entries.items in
@@ -54,7 +56,7 @@ returns-then-not-is_some-clause-moves g c =
       room = omega arith;
       ends = λ was. was;
       entered = λ start follows. follows;
-      read = λ name setup asked start reads moves. reads;
+      read = λ name setup asked start reads moves by. reads;
       kept = ([], sym (append-nil before.entries.items));
       served = λ first last start are. are;
     }

@@ -41,7 +41,7 @@ returns-clause-read g c name setup asked start stamped its own marked pre reads 
     (subst (λ (from : Message). IsTakenFor from m) c.deref-message.ensures same) in
     let served = reads-served name setup asked start c.args.self.now.entries.items c.push_took.new.self.entries.items c.args.self.now.session c.push_took.new.self.session c.move_into.new.self c.args.self.now.place c.push_took.new.self.place c.args.answer.now _ _ _ _ _ _
     c.push_took.ensures.took c.push_took.ensures.only.session c.push_took.ensures.place enters c.move_into.ensures.shown reads in
-    c.follow.ensures.moves.read name setup asked start served.0 served.1
+    c.follow.ensures.moves.read name setup asked start served.0 served.1 served.2
 
 -- what was under way is, with what is seen now
 pub returns-clause-under_way : goal.returns-clause-under_way

@@ -1,11 +1,11 @@
-use Rattle.std.proofs.Common.{◌<◌, ◌≤◌, ◌+◌, Option, refl, sym, ap, is_some, ◌∙◌, subst, arith}
+use Rattle.std.proofs.Common.{◌≡◌, ◌<◌, ◌≤◌, ◌+◌, Option, refl, sym, ap, is_some, ◌∙◌, subst, arith, rules}
 use Rattle.std.proofs.Math.Logic.{∥∥₁_map}
 use Rattle.history.proofs.Lists.{prefix_join}
 use Rattle.hub.specs.Sights.{operation_of, sight_of}
 use Rattle.hub.proofs.Evidence.{under_way_later, under_way_same}
 use Rattle.hub.proofs.Given.{IsLaterOperation, IsLaterSight, operations, served-later, served-same, sights}
 use Rattle.hub.proofs.Replies.{reads-later}
-use Rattle.hub.proofs.Moved.{runs_begun}
+use Rattle.hub.proofs.Moved.{LeavesRest, runs_as, runs_begun}
 use Rattle.hub.proofs.Rooms.{places_with, room_for_fewer}
 use Rattle.tenant_sessions.specs.CallsLeft.{calls_left}
 use Rattle.tenant_sessions.specs.declared.session.ClientSession.{ClientSession}
@@ -13,6 +13,7 @@ use Rattle.hub.specs.Rooms.{HasRoom}
 use Rattle.hub.specs.Seats.{EndsSo, spare, told_by}
 use Rattle.hub.specs.Taken.{replies_in}
 use Rattle.hub.specs.declared.operation.AnswerRoom.{AnswerRoom}
+use Rattle.hub.proofs.operation.RunningOperation.exchange.Goals.{else-loop-taken-test, then-loop-taken-test+then-taken-most, then-loop-taken-test+else-taken-most+else-not-awaits+in_default}
 use Rattle.hub.proofs.operation.RunningOperation.exchange.Goals as goal
 
 pub stage_calls-requires-clause-room : goal.stage_calls-requires-clause-room
@@ -110,3 +111,31 @@ loop-taken-preserved g c =
         };
       };
     }
+
+-- behind the last reply, only what is on its way changed, and whether there was a fault
+other : goal.returns-clause-runs
+other g c =
+    let before = c.loop-taken.self in
+    runs_as c.args.takes c.args.own c.args.self.now before _ c.args.answer.now c.loop-taken.answer (search rules) c.loop-taken.invariant.runs
+
+pub returns-clause-runs : goal.returns-clause-runs
+returns-clause-runs g c =
+    let before = c.loop-taken.self in
+    let runs = c.loop-taken.invariant.runs in
+    elim c.loop-taken-test.branch [
+      | else-loop-taken-test w ↦
+          let is = w.self-is in
+          let sent : c.loop-taken-test.self.1.1.0.sent ≡ before.dispatcher.sent = λ i. (is i).1.1.0.sent in
+          runs_as c.args.takes c.args.own c.args.self.now before _ c.args.answer.now c.loop-taken.answer
+          (λ i. (is i).1.0, λ i. (is i).1.1.1.1.1.1.1.1.1.0, λ i. (is i).1.1.1.1.0, λ i. (is i).1.1.1.1.1.0, λ i. (is i).1.1.1.0, λ i. (is i).1.1.1.1.1.1.1.1.1.1.0, λ i. (is i).1.1.1.1.1.1.0, omega (arith, sent)) runs
+      | then-loop-taken-test+then-taken-most w ↦
+          let is = w.self-is in
+          let sent : c.loop-taken-test.self.1.1.0.sent ≡ w.dispatch-sent.new.self.sent = λ i. (is i).1.1.0.sent in
+          runs_as c.args.takes c.args.own c.args.self.now before _ c.args.answer.now c.loop-taken.answer
+          (λ i. (is i).1.0, λ i. (is i).1.1.1.1.1.1.1.1.1.0, λ i. (is i).1.1.1.1.0, λ i. (is i).1.1.1.1.1.0, λ i. (is i).1.1.1.0, λ i. (is i).1.1.1.1.1.1.1.1.1.1.0, λ i. (is i).1.1.1.1.1.1.0, omega (arith, sent, w.dispatch-sent.ensures.hands.sent)) runs
+      | then-loop-taken-test+else-taken-most+else-not-awaits+in_default w ↦
+          let is = w.self-is in
+          let sent : c.loop-taken-test.self.1.1.0.sent ≡ w.next_reply.new.self.sent = λ i. (is i).1.1.0.sent in
+          runs_as c.args.takes c.args.own c.args.self.now before _ c.args.answer.now c.loop-taken.answer
+          (λ i. (is i).1.0, λ i. (is i).1.1.1.1.1.1.1.1.1.0, λ i. (is i).1.1.1.1.0, λ i. (is i).1.1.1.1.1.0, λ i. (is i).1.1.1.0, λ i. (is i).1.1.1.1.1.1.1.1.1.1.0, λ i. (is i).1.1.1.1.1.1.0, omega (arith, sent, w.dispatch-sent.ensures.hands.sent, w.next_reply.ensures.takes.sent)) runs
+    ]

@@ -10,14 +10,14 @@ use Rattle.history.specs.declared.entry.Mark.{Mark}
 use Rattle.history.proofs.Lists.{prefix_join}
 use Rattle.hub.specs.Evidence.{HasBegunIn}
 use Rattle.hub.proofs.Evidence.{begun_of_puts, intent_drawn, stamp_drawn, under_way_begun, under_way_same}
-use Rattle.hub.specs.Replies.{AreServed, IsDrawn, IsToldFor}
+use Rattle.hub.specs.Replies.{AreServed, IsDrawn, IsMoveFor, IsToldFor}
 use Rattle.hub.specs.Sights.{operation_of, sight_of}
 use Rattle.plain_store.specs.declared.answer.Answer.TheVariants.{Refused}
 use Rattle.shard.specs.declared.jobs.Fault.{Fault}
 use Rattle.hub.proofs.Entries.{answered-outcome, follows-start, told-none, told-some, follows-told, ends_later, final_recorded, on_ok, well_ended}
 use Rattle.hub.proofs.Given.{served-answered, served-later}
 use Rattle.hub.proofs.Refusals.{refused-inside, apart, same_refusal}
-use Rattle.hub.proofs.Replies.{reads-begun, reads-refused, may_begin, shows_refused, shows_since, stamp-begun}
+use Rattle.hub.proofs.Replies.{moves-begun, moves-refused, reads-begun, reads-refused, may_begin, shows_refused, shows_since, stamp-begun}
 use Rattle.hub.proofs.Rooms.{room_for_fewer, makes_room}
 use Rattle.hub.proofs.operation.RunningOperation.perform.Goals as goal
 
@@ -78,6 +78,26 @@ returns-in-Some-clause-read g c =
     let counted = ap drawn_counter is in
     (refl, omega (arith, counted, begun.counter, c.exchange.ensures.runs.counter)))
     refl c.in-Ok.ensures.passed (λ setup same may. begun.shown setup same) (λ setup start reads. c.exchange.ensures.runs.read setup asked start stamped reads) c.requires.place none))
+
+pub returns-in-Some-clause-moved : goal.returns-in-Some-clause-moved
+returns-in-Some-clause-moved g c =
+    let before = c.args.self.now in
+    let name = before.name in
+    let request = c.args.request.now in
+    let own : Stamp = stamp (before.session.counter + 1) name.client in
+    let asked : Intent = intent_of own request in
+    let started = c.start.new.session in
+    let begun = c.in-Ok.ensures.begun in
+    let now = c.exchange.new.self in
+    let stamped = stamp-begun own c.last_stamp-own.result request asked refl (stamp_drawn before.session.counter started.counter name.client c.last_stamp-own.result asked c.last_stamp-own.ensures.client c.last_stamp-own.ensures.value begun.counter) in
+    let P : Mark → Type 0 = λ m. IsMoveFor (operation_of name m now.seen) c.args.parts own request c.exchange.new.answer before.entries.items now.entries.items in
+    well_ended _ _ _ c.outcome.result c.outcome.ensures
+    (λ well none. subst P (sym c.exchange.ensures.runs.goes_on.mark)
+    (moves-begun (operation_of name c.in-Some.mark c.enter_begun.new.seen) (operation_of name c.in-Some.mark now.seen) c.args.parts own request before.session started.running now.session.running before.entries.items now.entries.items before.place now.place c.args.answer.now c.exchange.new.answer
+    c.in-Ok.ensures.passed (λ setup same may. begun.shown setup same) (λ setup start reads. c.exchange.ensures.runs.read setup asked start stamped reads) c.requires.place none))
+
+pub returns-in-Err-clause-moved : goal.returns-in-Err-clause-moved
+returns-in-Err-clause-moved g c = moves-refused (operation_of c.args.self.now.name c.enter_answer.new.self.mark c.enter_answer.new.self.seen) c.args.parts _ c.args.request.now c.in-Err.refusal _ _ _ c.tell_refusal.ensures
 
 -- the calls that it sends first are of the put that was entered, if it is one
 pub exchange-requires-clause-puts : goal.exchange-requires-clause-puts

@@ -23,7 +23,7 @@ returns g c =
     lists_fresh (last_operation now) since.entry.entry.before setup c.args.tag _ now.entries told legal since.entry.entry.marked is reading stamp has committed)))
     ran.since (ran.told setup refl) in
     record {
-      operated = record { entered = ran.entered; stopped = ran.stopped; past = ran.past; later = ran.later };
+      operated = record { entered = ran.entered; stopped = ran.stopped; past = ran.past; later = ran.later; moved = ran.moved };
       listed = ran.told;
       atomic = if_listed c.run.new.answer _ _ (λ told is. ∥∥₁_map ran.legal (λ legal. lists_atomic (last_operation now) setup c.args.tag _ now.entries told legal is)) (ran.told setup refl);
       fresh = if_listed c.run.new.answer _ _ (λ told is. fresh_before c.run.result seen now.seen now.name told is) looked;

@@ -20,7 +20,7 @@ returns g c =
     reads_fresh (last_operation now) since.entry.entry.before c.args.keys.now _ now.entries told legal since.entry.entry.marked is reading stamp has committed)))
     ran.since ran.told in
     record {
-      operated = record { entered = ran.entered; stopped = ran.stopped; past = ran.past; later = ran.later };
+      operated = record { entered = ran.entered; stopped = ran.stopped; past = ran.past; later = ran.later; moved = ran.moved };
       read = ran.told;
       atomic = if_read c.run.new.answer _ _ (λ told is. ∥∥₁_map ran.legal (λ legal. reads_atomic (last_operation now) c.args.keys.now _ now.entries told legal is)) ran.told;
       fresh = if_read c.run.new.answer _ _ (λ told is. fresh_before c.run.result seen now.seen now.name told is) looked;

@@ -41,7 +41,7 @@ returns-in-Err-clause-reported g c = subst (λ (a : Answer). ReportsDone None c.
 pub returns-then-not-is_done-clause-put : goal.returns-then-not-is_done-clause-put
 returns-then-not-is_done-clause-put g c =
     let ran = c.run.ensures in
-    let put = puts_ran c.args.items.now c.draw.new.self c.run.new.self c.run.new.answer ran.entered ran.stopped ran.past ran.later ran.told.0 ran.told.1 ran.legal ran.of_store in
+    let put = puts_ran c.args.items.now c.draw.new.self c.run.new.self c.run.new.answer ran.entered ran.stopped ran.past ran.later ran.told.0 ran.told.1 ran.moved ran.legal ran.of_store in
     put_drawn c.args.items.now c.args.self.now c.draw.new.self c.run.new.self c.run.new.answer c.in_default-draw.ensures.raised c.in_default-draw.ensures.drawn put.operated put.stamp put.written put.committed
 
 pub returns-then-not-is_done-clause-reported : goal.returns-then-not-is_done-clause-reported
@@ -53,7 +53,7 @@ returns-clause-put g c =
     let mid = c.run.new.self in
     let answer = c.run.new.answer in
     let ran = c.run.ensures in
-    let put = puts_ran c.args.items.now c.draw.new.self c.run.new.self c.run.new.answer ran.entered ran.stopped ran.past ran.later ran.told.0 ran.told.1 ran.legal ran.of_store in
+    let put = puts_ran c.args.items.now c.draw.new.self c.run.new.self c.run.new.answer ran.entered ran.stopped ran.past ran.later ran.told.0 ran.told.1 ran.moved ran.legal ran.of_store in
     let done = done_is answer (sym c.is_done.ensures ∙ c.if-not-is_done.false) in
     put_reported c.args.items.now c.args.self.now mid c.report.new.self answer done.0 done.1 c.report.ensures.legal c.report.ensures.more
     (put_drawn c.args.items.now c.args.self.now c.draw.new.self mid answer c.in_default-draw.ensures.raised c.in_default-draw.ensures.drawn put.operated put.stamp put.written put.committed)
@@ -65,7 +65,7 @@ returns-clause-reported g c =
     let mid = c.run.new.self in
     let answer = c.run.new.answer in
     let ran = c.run.ensures in
-    let put = puts_ran c.args.items.now c.draw.new.self c.run.new.self c.run.new.answer ran.entered ran.stopped ran.past ran.later ran.told.0 ran.told.1 ran.legal ran.of_store in
+    let put = puts_ran c.args.items.now c.draw.new.self c.run.new.self c.run.new.answer ran.entered ran.stopped ran.past ran.later ran.told.0 ran.told.1 ran.moved ran.legal ran.of_store in
     let done = done_is answer (sym c.is_done.ensures ∙ c.if-not-is_done.false) in
     let later = later_raised old drawn mid c.in_default-draw.ensures.raised ran.later in
     reports_done c.report.result c.args.items.now old mid c.report.new.self answer done.0 done.1 put.committed (ap (λ n. n.tenant) later.name) later.seen c.report.ensures.more c.report.ensures.reported

@@ -1,5 +1,6 @@
 use Rattle.std.proofs.Common.{◌≡◌, ◌≤◌, ◌+◌, ℕ, ap, subst, sym, refl, ◌∙◌, ◌++◌, ◌∷◌, [], List, Some, Result, Ok, Err, false, arith}
 use Rattle.std.specs.Prelude.{is_err, OnOk}
+use Rattle.stamps.specs.Stamp.{stamp}
 use Rattle.std.proofs.Math.Logic.{∥∥₁_map}
 use Rattle.entry_list.specs.declared.kinds.Entry.{Entry}
 use Rattle.tenant_sessions.specs.declared.session.ClientSession.{ClientSession}
@@ -7,7 +8,7 @@ use Rattle.entry_list.specs.declared.kinds.Entry.TheVariants.{Began}
 use Rattle.history.specs.declared.entry.HistoryEntry.{HistoryEntry}
 use Rattle.history.specs.Legal.{HasParts, IsLegal}
 use Rattle.hub.specs.Limits.{max_calls}
-use Rattle.hub.specs.Replies.{IfShows, IsDrawn, IsToldFor}
+use Rattle.hub.specs.Replies.{IfShows, IsDrawn, IsMoveFor, IsToldFor}
 use Rattle.shard.specs.declared.jobs.Fault.{Fault}
 use Rattle.shard.specs.declared.seat_name.SeatName.{SeatName}
 use Rattle.hub.specs.Requests.{act_of}
@@ -22,7 +23,7 @@ use Rattle.hub.proofs.Taking.{replies-other}
 use Rattle.hub.proofs.Entries.{follows-extends, extends-after, answer-entered, on_ok, fault-left, recorded-goes-on}
 use Rattle.hub.proofs.Given.{prefix_is, operations, served-began, served-same, sights}
 use Rattle.hub.proofs.Operations.{entered-as, later-same, unbegun-entered}
-use Rattle.hub.proofs.Replies.{reads-refused, reads-run, shows_refused, shows_run}
+use Rattle.hub.proofs.Replies.{moves-refused, moves-run, reads-refused, reads-run, shows_refused, shows_run}
 use Rattle.hub.proofs.Reported.{entry_at}
 use Rattle.hub.proofs.seat.Seat.run.Goals as goal
 
@@ -117,6 +118,35 @@ returns-clause-told g c =
 pub returns-in-Some-clause-told : goal.returns-in-Some-clause-told
 returns-in-Some-clause-told g c =
     reads-refused (last_operation c.args.self.now) c.args.self.now.parts _ c.args.request.now c.in-Some.refusal _ _ _ c.tell_refusal.ensures
+
+-- what is answered reports the plain store's move
+pub returns-clause-moved : goal.returns-clause-moved
+returns-clause-moved g c =
+    let seat = c.args.self.now in
+    let begun = c.prepare.new.self in
+    let ran = c.perform-told.new.self in
+    let request = c.args.request.now in
+    let answer = c.finish.new.answer in
+    let entries = c.finish.new.self.entries in
+    let client = seat.name.client in
+    let start = seat.entries ++ Began (act_of client request) ∷ [] in
+    let started = c.in-Ok.ensures.began ∙ (λ i. (c.self.view_is i).entries ++ Began (act_of (c.self.view_is i).name.client request) ∷ []) in
+    let parts : c.parts-parts.result ≡ seat.parts = c.parts-parts.ensures.value ∙ ap (λ (s : SeatView). s.parts) c.self.view_is in
+    let named = c.in-Ok.ensures.keeps.name ∙ ap (λ (s : SeatView). s.name) c.self.view_is in
+    let counted = ap (λ (s : ClientSession). s.counter) c.in-Ok.ensures.keeps.session ∙ ap (λ (s : SeatView). s.counter) c.self.view_is in
+    let now = last_operation c.finish.new.self in
+    let its = operation_of begun.name ran.mark ran.seen in
+    let same : now ≡ its = operations _ _ _ _ _ _ ((ap (λ (s : SeatView). s.name) c.finish.ensures.stays) ∙ c.count-sent.ensures.keeps.name ∙ c.perform-told.ensures.goes_on.name) ((ap (λ (s : SeatView). s.mark) c.finish.ensures.stays) ∙ c.count-sent.ensures.keeps.mark) ((ap (λ (s : SeatView). s.seen) c.finish.ensures.stays) ∙ c.count-sent.ensures.keeps.seen) in
+    let P : ℕ → Type 0 = λ n. IsMoveFor now n (stamp (seat.counter + 1) client) request answer start entries in
+    let Q : ℕ → Type 0 = λ n. IsMoveFor now c.parts-parts.result (stamp (n + 1) client) request answer start entries in
+    let R : SeatName → Type 0 = λ s. IsMoveFor now c.parts-parts.result (stamp (begun.session.counter + 1) s.client) request answer start entries in
+    let U : OperationSight → Type 0 = λ v. IsMoveFor v c.parts-parts.result (stamp (begun.session.counter + 1) begun.name.client) request answer start entries in
+    subst P parts (subst Q counted (subst R named (subst U (sym same) (moves-run its c.parts-parts.result _ c.perform-told.result request start _ ran.entries.items entries c.perform-told.new.answer answer
+    c.perform-told.ensures.moved started c.finish.ensures.served c.finish.ensures.refused ((ap (λ (s : SeatView). s.entries) c.finish.ensures.stays) ∙ ap (λ e. e.items) c.count-sent.ensures.entries)))))
+
+pub returns-in-Some-clause-moved : goal.returns-in-Some-clause-moved
+returns-in-Some-clause-moved g c =
+    moves-refused (last_operation c.args.self.now) c.args.self.now.parts _ c.args.request.now c.in-Some.refusal _ _ _ c.tell_refusal.ensures
 
 -- that it began is no reply
 pub returns-clause-few : goal.returns-clause-few
