@@ -23,7 +23,7 @@ ROOM = re.compile(r"(?<![\w.])(?:529|716|717|745|1452|3001|3003)\b(?!\.)")
 BOUND = re.compile(r"(?<!<)[<≤] ?(?:16|32|64|128)(?![\w.])|2 \^ 40(?!\w)")
 """The limits of `stamps` that contracts and definitions bound something by: keys, bytes of a key, a tag and a value, partitions, tenants, counters."""
 TO_SEAT = """
-server_sessions/src/line_session.rt: answer_lines answer_piece answer_waiting answer
+server_sessions/src/line_session.rt: answer_lines answer_piece answer
 server_sessions/src/given.rt: ask_seat
 """
 TO_CELL = """

@@ -2,7 +2,7 @@
 ghost use Rattle.std.specs.Prelude.{◌≡◌, ◌<◌, ◌≤◌, IfOk, None, Some, vec_len};
 ghost use Rattle.plain_store.specs.Numbers.{number_of};
 ghost use Rattle.server_sessions.specs.Counting.{IsReceipt, counted_as, numbers};
-ghost use Rattle.server_sessions.specs.TenantCounting.{counted_for, counted_of_tenant};
+ghost use Rattle.server_sessions.specs.TenantCounting.{counted_for, counted_of_tenant, place_of, receipt_of};
 
 use crate::tenant_counts::{
     ServedCounts, TenantCount, TenantCounted, TenantCounts, counted_of_tenant,
@@ -83,7 +83,9 @@ impl AnswerCounts {
     }
 
     /// How often this was counted of the tenant of this number.
-    pub fn of_tenant(&self, tenant: u32, what: TenantCount) -> u64 {
+    pub fn of_tenant(&self, tenant: u32, what: TenantCount) -> u64
+        ensures { place_of tenant what ≡ None → result ≡ 0 }
+    {
         self.tenants.of(tenant, what)
     }
 
@@ -113,9 +115,11 @@ impl AnswerCounts {
         lines
     }
 
-    /// Counts the end of a tenant's session.
-    pub(crate) fn count_end(&self, tenant: u32) {
-        let _closed = self.tenants.count(tenant, TenantCount::Closed);
+    /// Counts the end of a tenant's session, and answers the receipt.
+    pub(crate) fn count_end(&self, tenant: u32) -> TenantCounted
+        ensures { result ≡ receipt_of TenantCount.Closed tenant }
+    {
+        self.tenants.count(tenant, TenantCount::Closed)
     }
 
     /// Counts a line's answer, and answers the receipt. Of this tenant it is counted first: so whoever reads the counts of causes before

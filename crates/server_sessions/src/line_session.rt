@@ -13,7 +13,7 @@ ghost use Rattle.line_runs.specs.declared.fault.RunFault.TheVariants.{Write as I
 ghost use Rattle.server_sessions.specs.Answered.{BreaksOffIn, IsEndOf, TakesBytes, TakesInput};
 ghost use Rattle.server_sessions.specs.declared.line_session.SessionEnd.TheVariants.{Unread};
 ghost use Rattle.server_sessions.specs.Answering.{Greets, IsEndOfInput, IsGreeted, last_line, no_options, refused_as};
-ghost use Rattle.server_sessions.specs.Departed.{GivesBack};
+ghost use Rattle.server_sessions.specs.Departed.{GivesBack, IsEndCounted};
 ghost use Rattle.server_sessions.specs.Counting.{IsCounted, counted_last, counted_said};
 ghost use Rattle.server_sessions.specs.Promised.{AnswersLine, EndsAtLine, HasRun, KeepsTelling, MayAnswer};
 ghost use Rattle.server_sessions.specs.Receipts.{IsRunBy, kept_of};
@@ -25,6 +25,7 @@ use crate::answer_counts::{AnswerCounts, Counted};
 use crate::given::{Given, ask_seat, put_answer};
 use crate::open_seat::open_seat;
 use crate::session_options::SessionOptions;
+use crate::tenant_counts::TenantCounted;
 use bytes::BytesMut;
 use hub::{Departure, Front, Gate, Hub, Naming, Seat, Transcript};
 use line_protocol::{
@@ -49,13 +50,14 @@ struct Terms<'s> {
 }
 
 /// The receipt of a session that was run, and what it left: by which store its lines were answered, and on which terms. If it opened a seat, that
-/// has left the hub: its client's number is free again. `run_session_as` alone makes one.
+/// has left the hub, where its client's number is free again, and was counted as closed. `run_session_as` alone makes one.
 #[derive(Drop)]
 pub struct SessionRun<'s, G: Naming> {
     hub: &'s Hub<G>,
     terms: Terms<'s>,
     left: Option<SessionLeft<G>>,
     departure: Option<Departure>,
+    closed: Option<TenantCounted>,
 }
 
 impl<G: Naming> SessionRun<'_, G> {
@@ -181,6 +183,7 @@ pub fn run_session_as<'s, G: Gate + Naming, H: Wait, R: Read, W: Write>(
             terms,
             left: None,
             departure: None,
+            closed: None,
         };
         return (run, Err(RunFault::OutOfMemory));
     };
@@ -194,12 +197,13 @@ pub fn run_session_as<'s, G: Gate + Naming, H: Wait, R: Read, W: Write>(
     let ended = answer_lines(rt, hub, &mut connection, &mut out, reader, writer);
     let tenant = connection.tenant();
     let terms = connection.terms;
-    let (left, departure) = end_seat(rt, connection.seat, terms.counts);
+    let (left, departure, closed) = end_seat(rt, connection.seat, terms.counts);
     let run = SessionRun {
         hub,
         terms,
         left,
         departure,
+        closed,
     };
     match ended {
         Ok(ending) => {
@@ -211,25 +215,29 @@ pub fn run_session_as<'s, G: Gate + Naming, H: Wait, R: Read, W: Write>(
     }
 }
 
-// Ends the seat, if one was opened, which gives its client's number back, and counts that where answers are counted.
+// Ends the seat, if one was opened, which gives its client's number back, and counts that where answers are counted, with the receipts.
 fn end_seat<G: Gate + Naming, H: Wait>(
     rt: &H,
     seat: Option<Seat<'_, G>>,
     counts: Option<&AnswerCounts>,
-) -> (Option<SessionLeft<G>>, Option<Departure>)
-    ensures { IsEndOf seat.entry result.0 × GivesBack result.0 result.1 }
+) -> (
+    Option<SessionLeft<G>>,
+    Option<Departure>,
+    Option<TenantCounted>,
+)
+    ensures { IsEndOf seat.entry result.0 × GivesBack result.0 result.1
+        × IsEndCounted counts.entry result.0 result.2 }
 {
-    match seat {
-        Some(seat) => {
-            if let Some(counts) = counts {
-                counts.count_end(seat.tenant());
-            }
-            let seen = seat.seen();
-            let (transcript, departure) = seat.end_with_departure(rt);
-            (Some((transcript, seen)), Some(departure))
-        }
-        None => (None, None),
-    }
+    let Some(seat) = seat else {
+        return (None, None, None);
+    };
+    let closed = match counts {
+        Some(counts) => Some(counts.count_end(seat.tenant())),
+        None => None,
+    };
+    let seen = seat.seen();
+    let (transcript, departure) = seat.end_with_departure(rt);
+    (Some((transcript, seen)), Some(departure), closed)
 }
 
 // Counts the last answer, where answers are counted, also of this tenant, if there is one, and answers the receipt.
@@ -366,7 +374,7 @@ fn ending_of(lines: &Lines) -> SessionEnd
     }
 }
 
-// Answers the lines of a piece, until the session ends.
+// Answers the lines of a piece, until the session ends, each if its peer is still there. There is room for the next answer then.
 fn answer_piece<'s, G: Gate + Naming, H: Wait, W: Write>(
     rt: &H,
     hub: &'s Hub<G>,
@@ -400,52 +408,22 @@ fn answer_piece<'s, G: Gate + Naming, H: Wait, W: Write>(
             Ok(taken) => rest = &rest[taken..],
             Err(refusal) => return Ok(Some(SessionEnd::Refused(refusal))),
         }
-        let ending = answer_waiting(rt, hub, connection, lines, out, writer)?;
-        if ending.is_some() {
-            return Ok(ending);
+        let Some(line) = lines.next_line() else {
+            continue;
+        };
+        find_peer(out, writer)?;
+        if let Some(ending) = connection.answer(rt, hub, line) {
+            return Ok(Some(ending));
+        }
+        let ends = connection.ends();
+        let counted = connection.count();
+        connection.put_answer(counted, out);
+        make_room(out, writer)?;
+        if ends {
+            return Ok(Some(SessionEnd::Silent));
         }
     }
     Ok(None)
-}
-
-// Answers the line that waits, if one does and its peer is still there. There is room for the next answer then.
-fn answer_waiting<'s, G: Gate + Naming, H: Wait, W: Write>(
-    rt: &H,
-    hub: &'s Hub<G>,
-    connection: &mut Connection<'s, G>,
-    lines: &mut Lines,
-    out: &mut BytesMut,
-    writer: &mut W,
-) -> Result<Option<SessionEnd>, RunFault>
-    requires { MayAnswer LINE_LIMIT out.old.spare connection.old.seat
-        connection.old.terms.names.now }
-    ensures keeps { let terms = connection.old.terms in
-        KeepsTelling terms.options.newest hub.now.epoch connection.new.terms.names.now
-        connection.old.seat connection.new.seat (W.contents writer.old) (W.contents writer.new)
-        out.old.items out.new.items LINE_LIMIT out.new.spare result }
-    ensures waits { OnOk result (HasNoLineFeed lines.new) }
-    ensures terms { connection.new.terms ≡ connection.old.terms }
-    ensures answered { let terms = connection.old.terms in
-        IfOk result (λ ending. TakesBytes terms.options hub.now terms.names.now ending
-        connection.old.seat connection.new.seat lines.old lines.new
-        (W.contents writer.old) (W.contents writer.new) out.old.items out.new.items) }
-    ensures broke { let terms = connection.old.terms in
-        IfErr result (λ _. BreaksOffIn terms.options hub.now terms.names.now
-        connection.old.seat connection.new.seat lines.old
-        (W.contents writer.old) (W.contents writer.new) out.old.items) }
-{
-    let Some(line) = lines.next_line() else {
-        return Ok(None);
-    };
-    find_peer(out, writer)?;
-    if let Some(ending) = connection.answer(rt, hub, line) {
-        return Ok(Some(ending));
-    }
-    let ends = connection.ends();
-    let counted = connection.count();
-    connection.put_answer(counted, out);
-    make_room(out, writer)?;
-    Ok(if ends { Some(SessionEnd::Silent) } else { None })
 }
 
 // A fault where answers wait to be written and it is known that nobody takes them.

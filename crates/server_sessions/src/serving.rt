@@ -140,9 +140,9 @@ fn serve_connection<J: Naming, H: Wait + Clock, L, N: Tenants>(
     let clock = LineClock::new(rt, server.times());
     let mut reader = server.peer(stream, &clock);
     let mut writer = server.peer(stream, &clock);
-    server.count().begin();
+    let begun = server.count().begin();
     let (session, _) = answer_peer(rt, alloc, hub, server, &mut reader, &mut writer);
-    server.count().end();
+    begun.end();
     if server.is_ending() {
         reader.part();
     }

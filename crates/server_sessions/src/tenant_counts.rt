@@ -1,5 +1,5 @@
 //! How many sessions, operations and refusals each tenant had.
-ghost use Rattle.std.specs.Prelude.{◌≡◌};
+ghost use Rattle.std.specs.Prelude.{◌≡◌, IfSome, IsSomeAnd, None, Some, slice_get};
 ghost use Rattle.server_sessions.specs.TenantCounting.{counted_of_tenant, place_of, receipt_of};
 
 use crate::answer_counts::AnswerCounts;
@@ -68,11 +68,10 @@ impl TenantCounts {
     }
 
     /// How often this was counted of a tenant.
-    pub(crate) fn of(&self, tenant: u32, what: TenantCount) -> u64 {
-        let Some(place) = place_of(tenant, what) else {
-            return 0;
-        };
-        match self.counts.get(place) {
+    pub(crate) fn of(&self, tenant: u32, what: TenantCount) -> u64
+        ensures { place_of tenant what ≡ None → result ≡ 0 }
+    {
+        match self.at(tenant, what) {
             Some(count) => count.load(Ordering::SeqCst),
             None => 0,
         }
@@ -82,17 +81,18 @@ impl TenantCounts {
     pub(crate) fn count(&self, tenant: u32, what: TenantCount) -> TenantCounted
         ensures { result ≡ receipt_of what tenant }
     {
-        if let Some(place) = place_of(tenant, what) {
-            self.add_one(place);
+        if let Some(count) = self.at(tenant, what) {
+            count.fetch_add(1, Ordering::SeqCst);
         }
         TenantCounted { tenant, what }
     }
 
-    // Adds one to the count at this place, if there is one.
-    fn add_one(&self, place: usize) {
-        if let Some(count) = self.counts.get(place) {
-            count.fetch_add(1, Ordering::SeqCst);
-        }
+    // A tenant's count of this kind, if there is one.
+    fn at(&self, tenant: u32, what: TenantCount) -> Option<&AtomicU64>
+        ensures { IfSome result (λ count. IsSomeAnd (place_of tenant what)
+            (λ place. slice_get self.now.counts.items place ≡ Some count.now)) }
+    {
+        self.counts.get(place_of(tenant, what)?)
     }
 }
 
