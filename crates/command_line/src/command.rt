@@ -90,8 +90,8 @@ With --counts a line of how much was judged follows for each tenant:
   judged TENANT calls N                 with --epoch
 
 With --status N, GET http://127.0.0.1:N/metrics has numbers for each tenant and partition, in the text format
-of Prometheus. GET http://127.0.0.1:N/health answers 200, or 503 where an epoch was not right or not checked,
-or a partition is missing.
+of Prometheus. GET http://127.0.0.1:N/health answers 200, or 507 where a limit is used up, or 503 where an
+epoch was not right or not checked, or a partition is missing.
 
 Example, and then, in another terminal, nc 127.0.0.1 7000:
   ramp serve --port 7000 --sessions 2 t
