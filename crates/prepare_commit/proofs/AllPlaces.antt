@@ -15,7 +15,7 @@ use Rattle.version_chain.specs.declared.version.Version.{Version}
 use Rattle.version_chain.specs.declared.stamp_list.Kept.{Kept}
 use Rattle.version_chain.specs.Heads.{Heads}
 use Rattle.version_chain.specs.Chain.{Cells, HoldsChains, chain_versions, follow}
-use Rattle.version_chain.specs.Listed.{is_at_stamp, chain_in, Lists, IsSwept}
+use Rattle.version_chain.specs.Listed.{is_at_stamp, chain_in, Lists, IsSweptAt}
 use Rattle.version_chain.proofs.Listing.{second_of}
 use Rattle.version_chain.proofs.Places.{places, weight, tally, chain_placed, place_stamp, place_named}
 use Rattle.prepare_commit.specs.declared.items.ChainedItem.{ChainedItem}
@@ -46,7 +46,7 @@ one_named tenant stamp key (Some cell) named =
     let right = ap (λ b. one_if (b && bytes_eq v.prepared.key key)) named in
     omega (arith, all, left, right)
 
-module _ (start : Cells) (chains : Heads) (stamp : ℕ) (stands : HoldsChains start chains) (lists : Lists start chains) (swept : IsSwept start chains) where
+module _ (start : Cells) (chains : Heads) (stamp : ℕ) (stands : HoldsChains start chains) (lists : Lists start chains) (swept : IsSweptAt stamp chains.tenant start chains.kept) where
   abbrev p_of : Key → Version → Bool
   p_of key v = is_version key stamp v.prepared
 
@@ -61,7 +61,7 @@ module _ (start : Cells) (chains : Heads) (stamp : ℕ) (stands : HoldsChains st
   places_count =
       sym (sum_by-alike (λ (k : Kept). weight chains.tenant stamp (λ (v : Version). true) (entry start k.slot)) (λ _. 1) (places chains stamp)
       (λ i d within. each (entry start (get_or (places chains stamp) i d).slot) (at_place i d within)) ∙ count_by-all (places chains stamp))
-      ∙ tally start chains stands lists.named stamp (λ (v : Version). true)
+      ∙ tally start chains stands lists stamp (λ (v : Version). true)
       ∙ (λ i. sum_by (λ from. count_by (λ (v : Version). and-true (v.prepared.stamp == stamp) i) (follow start (length start) from)) chains.heads)
       ∙ sym (sum_by-map (count_by (λ (v : Version). v.prepared.stamp == stamp)) (follow start (length start)) chains.heads)
     where
@@ -80,7 +80,7 @@ module _ (start : Cells) (chains : Heads) (stamp : ℕ) (stands : HoldsChains st
         by true e = refl
         by false e = elim (cases_lt 0 (count_by (λ (v : Version). v.prepared.stamp == stamp) (chain_versions start chains chain))) [
           | inl more ↦
-              let there = counted (λ (k : Kept). chain_in start k.slot == chain) (places chains stamp) (chain_placed start chains stands lists.named stamp chain known more) in
+              let there = counted (λ (k : Kept). chain_in start k.slot == chain) (places chains stamp) (chain_placed start chains stands lists stamp chain known more) in
               let any = any_is (λ (k : Kept). chain_in start k.slot == chain) (places chains stamp) there.0 there.1 there.2 in
               absurd (both_ways (is_done start (places chains stamp) j chain) e (ap (list_any (λ (k : Kept). chain_in start k.slot == chain)) all_taken ∙ any))
           | inr none ↦ sym (unmarked stamp (chain_versions start chains chain) (omega arith))
@@ -103,7 +103,7 @@ module _ (start : Cells) (chains : Heads) (stamp : ℕ) (stands : HoldsChains st
           ∙ count-flat_map (p_of key) (λ (k : Kept). version_in (entry start k.slot)) (places chains stamp)
           ∙ sum_by-alike (λ (k : Kept). count_by (p_of key) (version_in (entry start k.slot))) (λ (k : Kept). weight chains.tenant stamp (λ (v : Version). bytes_eq v.prepared.key key) (entry start k.slot)) (places chains stamp)
           (λ i d within. one_named chains.tenant stamp key (entry start (get_or (places chains stamp) i d).slot) (at_place i d within))
-          ∙ tally start chains stands lists.named stamp (λ (v : Version). bytes_eq v.prepared.key key)
+          ∙ tally start chains stands lists stamp (λ (v : Version). bytes_eq v.prepared.key key)
           ∙ (λ i. sum_by (λ from. count_by (λ (v : Version). and_comm (v.prepared.stamp == stamp) (bytes_eq v.prepared.key key) i) (follow start (length start) from)) chains.heads)
           ∙ sym (sum_by-map (count_by (p_of key)) (follow start (length start)) chains.heads)
           ∙ sym (count_all items (held_in start chains) have (used_is start chains stands) (p_of key))

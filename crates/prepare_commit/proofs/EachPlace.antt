@@ -20,11 +20,10 @@ use Rattle.version_chain.specs.declared.version.Version.{Version}
 use Rattle.version_chain.specs.declared.stamp_list.Kept.{Kept}
 use Rattle.version_chain.specs.Heads.{Heads}
 use Rattle.version_chain.specs.Chain.{Cells, HoldsChains, OtherChainsKept, chain_versions, follow, at_stamp}
-use Rattle.version_chain.specs.Changes.{ListsExactly}
-use Rattle.version_chain.specs.Listed.{is_at_stamp, is_named, chain_of, chain_in, with_latest, Lists, IsSwept, NoneMove}
+use Rattle.version_chain.specs.Listed.{is_at_stamp, is_named, chain_of, chain_in, with_latest, Lists, IsSweptAt, NoneMove}
 use Rattle.version_chain.specs.Sharing.{ChangesOwn}
 use Rattle.version_chain.proofs.Changing.{own_next}
-use Rattle.version_chain.proofs.Listing.{lists_same, swept_same}
+use Rattle.version_chain.proofs.Listing.{lists_same, swept_at_same}
 use Rattle.version_chain.proofs.MarkingListed.{marks}
 use Rattle.version_chain.proofs.Places.{places, place_stamp, place_named}
 use Rattle.version_chain.proofs.Replacing.{same_or_not}
@@ -63,9 +62,10 @@ abbrev pub marked_together : ℕ → List ChainedItem → List (List Version) �
 marked_together stamp items chains = together (item_chains items (map (map (marked_at stamp)) chains))
 
 -- what is known where the first place is committed
-pub record Begins (block : Cells) (chains : Heads) (index : Index) (changed since : List Bool) : Type 0 where
+pub record Begins (block : Cells) (chains : Heads) (stamp : ℕ) (index : Index) (changed since : List Bool) : Type 0 where
   pub stands : HoldsChains block chains
-  pub list : ListsExactly block chains
+  pub list : Lists block chains
+  pub swept : IsSweptAt stamp chains.tenant block chains.kept
   pub few : chains.used < 2 ^ 32
   pub long : length changed ≡ length chains.heads
   pub as_long : length since ≡ length chains.heads
@@ -77,7 +77,7 @@ pub record SoFar (start now : Cells) (chains heads : Heads) (stamp j : ℕ) (old
   pub rest : heads ≡ with_latest chains heads.latest
   pub own : ChangesOwn start now chains heads
   pub listed : Lists now chains
-  pub swept : IsSwept now chains
+  pub swept : IsSweptAt stamp chains.tenant now chains.kept
   pub stays : NoneMove start now chains.tenant
   pub places_stay : (slot : ℕ) → chain_in now slot ≡ chain_in start slot
   pub chained : (chain : ℕ) → chain < length chains.heads → chain_versions now chains chain ≡ once_done stamp (is_done start (places chains stamp) j chain) (chain_versions start chains chain)
@@ -238,7 +238,7 @@ module _ (start now : Cells) (chains heads : Heads) (stamp j : ℕ) (old index :
       rest = rest_next;
       own = own_next start now next chains heads after was.own own;
       listed = lists_same now next chains facts.0 was.listed;
-      swept = swept_same now next chains facts.0 was.swept;
+      swept = swept_at_same now next chains stamp facts.0 was.swept;
       stays = λ slot when. facts.0 slot when ∙ was.stays slot when;
       places_stay = λ slot. places_stay slot ∙ was.places_stay slot;
       chained = chained_next;

@@ -3,7 +3,7 @@ use Rattle.std.proofs.Common.{◌≡◌, ◌≢◌, ℕ, List, sym, ap, subst}
 use Rattle.version_chain.specs.declared.version.Version.{Version}
 use Rattle.version_chain.specs.Chain.{Cells, OthersKept}
 use Rattle.version_chain.proofs.Neighbours.{versions_kept, Stands-kept}
-use Rattle.version_chain.proofs.SharedBlock.{lists_kept, swept_kept}
+use Rattle.version_chain.proofs.SharedBlock.{lists_kept}
 use Rattle.prepare_commit.specs.Begun.{IsKeptSince}
 use Rattle.prepare_commit.specs.Content.{Content}
 use Rattle.prepare_commit.specs.Layout.{chain_lists, together, item_chains, entries_of, HoldsTogether}
@@ -27,7 +27,6 @@ module _ (old new : Cells) (tenant : ℕ) (others : OthersKept old new tenant) (
     versions = record {
       stands = Stands-kept old new tenant others cell.chains different lies.versions.stands;
       listed = lists_kept old new tenant others cell.chains different lies.versions.listed;
-      swept = λ is. swept_kept old new tenant others cell.chains different (lies.versions.swept is);
     };
     remembers = subst (λ (lists : List (List Version)). Remembers cell.last cell.changed cell.items lists) (sym same_lists) lies.remembers;
     remembers_least = subst (λ (lists : List (List Version)). Remembers cell.least (in_either cell.left cell.changed) cell.items lists) (sym same_lists) lies.remembers_least;

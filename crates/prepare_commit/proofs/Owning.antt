@@ -1,7 +1,7 @@
--- For `Versions`, the calls that sweep first. What a call of one tenant does to the block.
+-- For `Versions`: sweep_at and discard. What a call of one tenant does to the block.
 use Rattle.std.proofs.Common.{◌≡◌, length, refl, sym, ap, subst, arith}
 use Rattle.version_chain.specs.Heads.{Heads}
-use Rattle.version_chain.specs.Chain.{Cells, HoldsChains, HasShare}
+use Rattle.version_chain.specs.Chain.{Cells, HoldsChains}
 use Rattle.version_chain.specs.Listed.{with_kept}
 use Rattle.version_chain.specs.Sharing.{ChangesOwn}
 use Rattle.version_chain.proofs.Changing.{own_next}
@@ -11,9 +11,6 @@ use Rattle.version_chain.proofs.Listing.{stands_with}
 module _ (cells : Cells) (heads new : Heads) (rest : new ≡ with_kept heads new.kept) where
   pub still_stands : HoldsChains cells heads → HoldsChains cells new
   still_stands stands = subst (HoldsChains cells) (sym rest) (stands_with cells heads new.kept stands)
-
-  pub still_shared : HasShare cells heads → HasShare cells new
-  still_shared share = subst (HasShare cells) (sym rest) share
 
   pub own_after : (last : Cells) (end : Heads) → ChangesOwn cells last new end → ChangesOwn cells last heads end
   own_after last end own = own_next cells cells last heads new end (record {

@@ -103,7 +103,7 @@ pub record IsNew (room : Room) (cell : Parts) : Type 0 where
   pub share : cell.chains.share ≡ room.slots
   pub used : cell.chains.used ≡ 0
   pub lies : (block : Cells) → count_by (is_of_tenant cell.chains.tenant) block ≡ 0
-      → AreIn block cell.chains cell.is_swept
+      → AreIn block cell.chains
   pub empty : (block : Cells)
       → held_in block cell.chains ≡ record { share = room.slots; used = 0; chains = replicate room.items [] }
   pub no_items : cell.items ≡ []

@@ -30,12 +30,12 @@ versions_at block versions chain = chain_at (chain_lists block versions.chains) 
 
 -- the chains lie in the block, of which as many cells are free as their tenant may still use
 pub record HaveShare (block : Cells) (versions : Versions) : Type 0 where
-  pub lies : AreIn block versions.chains versions.is_swept
+  pub lies : AreIn block versions.chains
   pub share : HasShare block versions.chains
 
 -- the chains lie in the block still, and nothing of another tenant changed
 pub record ChangesVersions (old_block : Cells) (old : Versions) (new_block : Cells) (new : Versions) : Type 0 where
-  pub lies : AreIn new_block new.chains new.is_swept
+  pub lies : AreIn new_block new.chains
   pub own : ChangesOwn old_block new_block old.chains new.chains
 
 -- of as many chains as before, what was noted still is, and each was noted that holds something else now
@@ -67,7 +67,7 @@ HasAt stamp held count =
 
 -- the chains lie in the block, and those of the items have all versions
 pub record HoldItems (block : Cells) (versions : Versions) (items : List ChainedItem) : Type 0 where
-  pub lies : AreIn block versions.chains versions.is_swept
+  pub lies : AreIn block versions.chains
   pub have : HaveAll items (held_in block versions.chains)
 
 -- so many versions were freed; nothing of another tenant changed

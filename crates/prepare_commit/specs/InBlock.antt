@@ -1,9 +1,9 @@
 -- A cell whose versions lie in a block that the caller passes to each of its calls.
-use Rattle.std.specs.Prelude.{ℕ, Bool, List, Option, IsTrue}
+use Rattle.std.specs.Prelude.{ℕ, Bool, List, Option}
 use Rattle.plain_store.specs.Words.{Room}
 use Rattle.version_chain.specs.Heads.{Heads}
 use Rattle.version_chain.specs.Chain.{Cells, HoldsChains}
-use Rattle.version_chain.specs.Listed.{Lists, IsSwept}
+use Rattle.version_chain.specs.Listed.{Lists}
 use Rattle.secondary_index.specs.Index.{Index}
 use Rattle.prepare_commit.specs.declared.items.ChainedItem.{ChainedItem}
 use Rattle.prepare_commit.specs.Content.{Content}
@@ -16,8 +16,6 @@ use Rattle.prepare_commit.specs.Begun.{BegunBase, IsKeptSince}
 pub record Parts : Type 0 where
   pub room : Room
   pub chains : Heads
-  -- a sweep followed each cut
-  pub is_swept : Bool
   pub items : List ChainedItem
   pub index : Index
   pub marks : List ℕ
@@ -46,7 +44,6 @@ abbrev pub begun_with : Parts → BegunBase → List Bool → Parts
 begun_with cell begun since = record {
   room = cell.room;
   chains = cell.chains;
-  is_swept = cell.is_swept;
   items = cell.items;
   index = cell.index;
   marks = cell.marks;
@@ -58,18 +55,16 @@ begun_with cell begun since = record {
   since = since;
 }
 
--- the chains stand in the block, which has no other version of their tenant, and their list names just these versions,
--- where a sweep followed each cut
-pub record AreIn (block : Cells) (chains : Heads) (is_swept : Bool) : Type 0 where
+-- the chains stand in the block, which has no other version of their tenant, and their list names these versions
+pub record AreIn (block : Cells) (chains : Heads) : Type 0 where
   pub stands : HoldsChains block chains
   pub listed : Lists block chains
-  pub swept : IsTrue is_swept → IsSwept block chains
 
 -- the cell's versions lie in the block, which has no other version of its tenant; an item whose chain is not noted as
 -- changed has nothing that another collection like the last would give up, and no floor that it would raise; and one
 -- whose chain did not change since a base was made is as it was then
 pub record LiesIn (block : Cells) (cell : Parts) : Type 0 where
-  pub versions : AreIn block cell.chains cell.is_swept
+  pub versions : AreIn block cell.chains
   pub remembers : Remembers cell.last cell.changed cell.items (chain_lists block cell.chains)
   pub remembers_least : Remembers cell.least (in_either cell.left cell.changed) cell.items (chain_lists block cell.chains)
   pub since : IsKeptSince cell.begun cell.since cell.items (chain_lists block cell.chains)

@@ -113,7 +113,6 @@ impl Model for Cell {
     ghost view = { λ c. record {
       room = record { slots = c.slots; items = c.items; clients = c.clients };
       chains = c.versions.chains;
-      is_swept = c.versions.is_swept;
       items = c.entries.items;
       index = c.index;
       marks = c.marks.items;
@@ -329,8 +328,9 @@ impl Cell {
     /// Each item then stands under the tag of its latest committed version: one of which a version of this stamp became
     /// the latest has moved.
     ///
-    /// It finds the versions of the stamp among the last few listed, or by a binary search, and visits them alone. To move an item it
-    /// reads the slot of its chain's latest committed version, where any item has a tag, and shifts the index where the tag is another one.
+    /// It finds the versions of the stamp among the last few listed, or by a binary search, and visits them alone. Where one is listed
+    /// that is gone, it sweeps the list first. To move an item it reads the slot of its chain's latest committed version, where any
+    /// item has a tag, and shifts the index where the tag is another one.
     pub fn commit(&mut self, block: &mut Block, stamp: Stamp) -> u32
         requires { LiesIn block.old self.old }
         ensures served { IsServed block.old self.old block.new self.new
@@ -342,8 +342,8 @@ impl Cell {
         self.commit_counted(block, stamp, &mut Visits::new())
     }
 
-    /// What `commit` does, and the versions that are looked at, but for those by which it finds the first, are counted in
-    /// `visits`: as many as are answered. What is done in the tag index is not counted. At most 2^61 were counted before.
+    /// What `commit` does, and the versions that are looked at, but for those by which it finds the first, and whether they are held,
+    /// are counted in `visits`: as many as are answered. What is done in the tag index is not counted. At most 2^61 were counted before.
     pub fn commit_counted(&mut self, block: &mut Block, stamp: Stamp, visits: &mut Visits) -> u32
         requires lies { LiesIn block.old self.old }
         requires before { visits.old ≤ 2 ^ 61 }
@@ -354,7 +354,7 @@ impl Cell {
             → content_in block.new self.new ≡ content_in block.old self.old }
         ensures visits { visits.new ≡ visits.old + result }
     {
-        self.versions.sweep(block);
+        self.versions.sweep_at(block, stamp);
         let (first, end) = self.versions.chains.places_at(stamp);
         let mut count = 0;
         for place in 0..end - first {
@@ -382,8 +382,7 @@ impl Cell {
     ///   client's mark is raised to the stamp. Committed versions and entries stay, and each item stands under the same
     ///   tag as before.
     ///
-    /// It finds the versions of the stamp as `commit` does, and searches for it in the chain of each. Where it gave up
-    /// any, it visits them once more and shifts the listed versions of greater stamps.
+    /// It finds the versions of the stamp as `commit` does, and searches for it in the chain of each.
     #[cold]
     #[inline(never)]
     pub fn discard(&mut self, block: &mut Block, stamp: Stamp) -> DiscardReply

@@ -14,8 +14,7 @@ use version_chain::Block;
 
 /// Raises each item's floor to the stamp of its last committed version that a collection keeps, gives up the versions
 /// below the floors, and answers how many they were. Where the last collection kept as many or fewer, it visits the items alone whose
-/// chains changed since; else, where the one that kept the least did, those whose chains changed since that one; else all. It sweeps
-/// the list of the kept versions once where it gave up any.
+/// chains changed since; else, where the one that kept the least did, those whose chains changed since that one; else all.
 pub(crate) fn collect(
     block: &mut Block,
     items: &mut ItemList,
@@ -44,13 +43,11 @@ pub(crate) fn collect(
         (lists_of block.new versions.new) }
 {
     let freed = cut(block, items, versions, changed, left, *last, *least, keep);
-    versions.sweep(block);
     remember(changed, left, last, least, keep);
     freed
 }
 
-/// A collection that does not sweep the list of the kept versions. Where the last one kept more, it notes with those that were left the
-/// chains that changed.
+/// Cuts the chains that a collection visits. Where the last one kept more, it notes with those that were left the chains that changed.
 fn cut(
     block: &mut Block,
     items: &mut ItemList,

@@ -2,9 +2,9 @@
 ghost use Rattle.std.specs.Prelude.{◌≡◌, ◌≢◌, ◌+◌, ◌<◌, ◌≤◌, ◌==◌, ◌^◌, ℕ, List, ◌++◌, All, length, None, map, filter, count_by, nat_le, slice_set, IsTrue, true, IfOk};
 ghost use Rattle.prepare_commit.specs.declared.items.ChainedItem.{ChainedItem};
 ghost use Rattle.version_chain.specs.Chain.{HoldsChains, at_stamp, first_record, without_open};
-ghost use Rattle.version_chain.specs.Changes.{HasChain, IsRunOf, ListsExactly};
+ghost use Rattle.version_chain.specs.Changes.{HasChain, IsRunOf};
 ghost use Rattle.version_chain.specs.Heads.{no_versions};
-ghost use Rattle.version_chain.specs.Listed.{with_kept, Lists, IsSwept};
+ghost use Rattle.version_chain.specs.Listed.{with_kept, Lists, IsSweptAt};
 ghost use Rattle.plain_store.specs.Stamps.{kth_greatest};
 ghost use Rattle.prepare_commit.specs.Calls.{lists_of, versions_at, ChangesVersions, HaveShare, NotesChanged};
 ghost use Rattle.prepare_commit.specs.Content.{IsLatest};
@@ -25,8 +25,6 @@ use version_chain::{Block, Chains, Insert, StoredRecord, Version, VersionList};
 #[derive(Drop)]
 pub(crate) struct Versions {
     pub(crate) chains: Chains,
-    // Whether a sweep followed each cut, so that the list of the kept versions names no other cell.
-    pub(crate) is_swept: bool,
 }
 
 impl Versions {
@@ -39,11 +37,10 @@ impl Versions {
         tenant: u32,
     ) -> Result<Versions, AllocError>
         ensures { let none = no_versions tenant slots chains in
-            IfOk result (λ v. v ≡ record { chains = none; is_swept = true }) }
+            IfOk result (λ v. v ≡ record { chains = none }) }
     {
         Ok(Versions {
             chains: Chains::open(alloc, slots, chains, tenant)?,
-            is_swept: true,
         })
     }
 
@@ -93,7 +90,7 @@ impl Versions {
     }
 
     /// Puts a record into a chain, not committed as yet. It visits what a search for the record's stamp does, and shifts
-    /// the listed versions of greater stamps. Where no sweep followed a cut, it sweeps first.
+    /// the listed versions of greater stamps.
     #[inline(always)]
     pub(crate) fn insert(&mut self, block: &mut Block, chain: u32, version: &Record) -> Insert
         requires known { chain < length (lists_of block.old self.old) }
@@ -103,13 +100,11 @@ impl Versions {
         ensures changed { ChangesVersions block.old self.old block.new self.new }
         ensures not_added { result ≢ Insert.Added → block.new ≡ block.old }
     {
-        sweep_unless(self.is_swept, block, &mut self.chains);
-        self.is_swept = true;
         self.chains.insert_from(block, chain, version)
     }
 
     /// Puts a version with its mark into a chain, which has none of its stamp, while a slot is free. It visits what a
-    /// search for the version's stamp does. Where no sweep followed a cut, it sweeps first.
+    /// search for the version's stamp does.
     pub(crate) fn put(&mut self, block: &mut Block, chain: u32, version: &Version)
         requires known { chain < length (lists_of block.old self.old) }
         requires share { HaveShare block.old self.old }
@@ -121,8 +116,6 @@ impl Versions {
         ensures used { self.new.chains.used ≡ self.old.chains.used + 1 }
         ensures changed { ChangesVersions block.old self.old block.new self.new }
     {
-        sweep_unless(self.is_swept, block, &mut self.chains);
-        self.is_swept = true;
         self.chains.put(block, chain, version);
     }
 
@@ -136,10 +129,10 @@ impl Versions {
     }
 
     /// Gives up the versions of a chain below a stamp, and answers how many they were. It visits the versions of the
-    /// chain. Until a sweep, the list of the kept versions still names them.
+    /// chain.
     pub(crate) fn cut_below(&mut self, block: &mut Block, chain: u32, floor: Stamp) -> u32
         requires known { chain < length (lists_of block.old self.old) }
-        requires lies { AreIn block.old self.old.chains self.old.is_swept }
+        requires lies { AreIn block.old self.old.chains }
         ensures changed { ChangesVersions block.old self.old block.new self.new }
         ensures kept { lists_of block.new self.new ≡ slice_set (lists_of block.old self.old) chain
             (filter (λ v. nat_le floor v.prepared.stamp) (versions_at block.old self.old chain)) }
@@ -147,18 +140,12 @@ impl Versions {
         ensures freed { result + length (versions_at block.new self.new chain)
             ≡ length (versions_at block.old self.old chain) }
     {
-        let freed = self.chains.cut_below(block, chain, floor);
-        if freed == 0 {
-            return 0;
-        }
-        self.is_swept = false;
-        freed
+        self.chains.cut_below(block, chain, floor)
     }
 
     /// Gives up the versions of a stamp that are not committed, answers how many they were, and notes the chains of all versions of the
     /// stamp. It finds these by a binary search of the list of the kept versions, reads in which chain each stands, and visits them, each counted in `visits`; where one is
-    /// not committed, it also searches for the stamp in its chain. Where it gave up any, it visits them once more and shifts the listed
-    /// versions of greater stamps. Where no sweep followed a cut, it sweeps first.
+    /// not committed, it also searches for the stamp in its chain.
     pub(crate) fn discard(
         &mut self,
         block: &mut Block,
@@ -166,7 +153,7 @@ impl Versions {
         since: &mut ChangedChains,
         visits: &mut Visits,
     ) -> u32
-        requires lies { AreIn block.old self.old.chains self.old.is_swept }
+        requires lies { AreIn block.old self.old.chains }
         requires as_long { length since.old ≡ length (lists_of block.old self.old) }
         requires few { self.old.chains.used < 2 ^ 32 }
         requires before { visits.old ≤ 2 ^ 61 }
@@ -181,36 +168,22 @@ impl Versions {
         ensures since { NotesChanged since.old since.new
             (lists_of block.old self.old) (lists_of block.new self.new) }
     {
-        sweep_unless(self.is_swept, block, &mut self.chains);
-        self.is_swept = true;
+        self.sweep_at(block, stamp);
         let (first, end) = self.chains.places_at(stamp);
         note_at(block, &self.chains, stamp, first, end, since);
         self.chains.discard_at(block, stamp, visits)
     }
 
-    /// Takes what was cut out of the list of the kept versions, where no sweep followed a cut. It goes over that list
-    /// once.
-    pub(crate) fn sweep(&mut self, block: &Block)
-        requires { AreIn block.now self.old.chains self.old.is_swept }
-        ensures changed { ChangesVersions block.now self.old block.now self.new }
-        ensures exact { ListsExactly block.now self.new.chains }
+    /// Sweeps the list of the kept versions where it has one of this stamp that is gone. It looks into the cells of those of the
+    /// stamp, and only where one is gone into all.
+    #[inline(always)]
+    pub(crate) fn sweep_at(&mut self, block: &Block, stamp: Stamp)
+        requires { AreIn block.now self.old.chains }
+        ensures lies { AreIn block.now self.new.chains }
+        ensures swept { IsSweptAt stamp self.new.chains.tenant block.now self.new.chains.kept }
         ensures rest { self.new.chains ≡ with_kept self.old.chains self.new.chains.kept }
     {
-        sweep_unless(self.is_swept, block, &mut self.chains);
-        self.is_swept = true;
-    }
-}
-
-// Sweeps the list of the kept versions, unless that was done.
-#[inline(always)]
-fn sweep_unless(is_swept: bool, block: &Block, chains: &mut Chains)
-    requires listed { Lists block.now chains.old }
-    requires swept { IsTrue is_swept → IsSwept block.now chains.old }
-    ensures list { ListsExactly block.now chains.new }
-    ensures rest { chains.new ≡ with_kept chains.old chains.new.kept }
-{
-    if !is_swept {
-        chains.sweep(block);
+        self.chains.sweep_at(block, stamp);
     }
 }
 
@@ -224,7 +197,8 @@ fn note_at(
     since: &mut ChangedChains,
 )
     requires stands { HoldsChains block.now chains.now }
-    requires list { ListsExactly block.now chains.now }
+    requires list { Lists block.now chains.now }
+    requires swept { IsSweptAt stamp chains.now.tenant block.now chains.now.kept }
     requires long { length since.old ≡ length chains.now.heads }
     requires run { IsRunOf stamp chains.now.kept first end }
     ensures long { length since.new ≡ length since.old }

@@ -1,12 +1,13 @@
 -- For the calls of `Chains` and their callers. What each call leaves, whatever it was asked for.
-use Rattle.std.proofs.Common.{ℕ, refl, ◌∙◌, arith}
+use Rattle.std.proofs.Common.{ℕ, Option, refl, ◌∙◌, arith}
 use Rattle.version_chain.specs.declared.stamp_list.Kept.{Kept}
 use Rattle.version_chain.specs.declared.version.Version.{Version}
 use Rattle.std.specs.Prelude.{List}
 use Rattle.version_chain.specs.Heads.{Heads}
 use Rattle.version_chain.specs.Chain.{Cells, HoldsChains, HasShare}
-use Rattle.version_chain.specs.Changes.{ChangesChain, GivesUp, HasChain, HaveOneMore}
+use Rattle.version_chain.specs.Changes.{ChangesChain, GivesUp, HasChain, HasRoomFor, HaveOneMore}
 use Rattle.version_chain.specs.Listed.{with_kept}
+use Rattle.version_chain.specs.Place.{IsPlace}
 use Rattle.version_chain.specs.Sharing.{ChangesOwn}
 use Rattle.version_chain.proofs.Listing.{stands_with}
 
@@ -68,3 +69,21 @@ module _ (old_cells new_cells : Cells) (old new : Heads) (kept : List Kept) wher
 
   pub more_listed : (chain : ℕ) (version : Version) → HaveOneMore old_cells old new_cells new chain version → HaveOneMore old_cells old new_cells (with_kept new kept) chain version
   more_listed chain version more = record { inserted = more.inserted; used = more.used }
+
+-- what holds of the same chains beside another list
+module _ (cells : Cells) (chains : Heads) (kept : List Kept) (chain : ℕ) where
+  pub place_beside : (stamp : ℕ) (last here : Option ℕ) → IsPlace cells chains chain stamp last here → IsPlace cells (with_kept chains kept) chain stamp last here
+  place_beside stamp last here place = record { above = place.above; below = place.below; all = place.all; ends = place.ends; goes_on = place.goes_on; not_less = place.not_less; less = place.less }
+
+  pub room_beside : (stamp : ℕ) → HasRoomFor cells chains chain stamp → HasRoomFor cells (with_kept chains kept) chain stamp
+  room_beside stamp room = record { share = room.share; room = room.room; missing = room.missing }
+
+  pub changes_from : (new_cells : Cells) (new : Heads) → ChangesChain cells (with_kept chains kept) new_cells new chain → ChangesChain cells chains new_cells new chain
+  changes_from new_cells new changed = record {
+    own = record { shape = record { tenant = changed.own.shape.tenant; share = changed.own.shape.share; long = changed.own.shape.long }; others = changed.own.others; live = changed.own.live };
+    stands = changed.stands;
+    others = changed.others;
+  }
+
+  pub more_from : (new_cells : Cells) (new : Heads) (version : Version) → HaveOneMore cells (with_kept chains kept) new_cells new chain version → HaveOneMore cells chains new_cells new chain version
+  more_from new_cells new version more = record { inserted = more.inserted; used = more.used }

@@ -1,19 +1,18 @@
 -- For `Chains::cut_below`. A chain is cut from its end.
-use Rattle.std.proofs.Common.{◌≡◌, ℕ, ◌+◌, ◌<◌, ◌≤◌, ◌==◌, Bool, true, nat_lt, if◌then◌else◌, List, [], ◌∷◌, ◌++◌, length, Option, Some, None, IsSomeAnd, refl, sym, ap, subst, ◌∙◌, arith, append-nil}
-use Rattle.std.proofs.lemmas.Bool.{eq-eqb, lt-ltb, le-ltb}
+use Rattle.std.proofs.Common.{◌≡◌, ℕ, ◌+◌, ◌<◌, ◌≤◌, Bool, nat_lt, if◌then◌else◌, List, [], ◌∷◌, ◌++◌, length, Option, Some, None, IsSomeAnd, refl, sym, ap, subst, ◌∙◌, arith, append-nil}
+use Rattle.std.proofs.lemmas.Bool.{lt-ltb, le-ltb}
 use Rattle.version_arena.specs.Arena.{entry}
 use Rattle.version_chain.specs.declared.version.Version.{Version}
-use Rattle.version_chain.specs.declared.stamp_list.Kept.{Kept}
 use Rattle.version_chain.specs.Heads.{Heads}
 use Rattle.version_chain.specs.Chain.{Cells, HoldsChains, chain_versions, not_below, IsInserted}
 use Rattle.version_chain.specs.Changes.{ChangesChain, GivesUp, HaveOneMore}
 use Rattle.version_chain.specs.Discarded.{FreesOnly}
-use Rattle.version_chain.specs.Listed.{cut_in, is_at_stamp, with_kept, Lists}
+use Rattle.version_chain.specs.Listed.{Lists}
 use Rattle.version_chain.specs.Place.{NoneBelow, StartsBelow, IsPlace}
-use Rattle.version_chain.proofs.Changing.{changes_listed, changes_next, changes_none, gives_none}
-use Rattle.version_chain.proofs.CutMarks.{lists_cut}
+use Rattle.version_chain.proofs.Changing.{changes_next, changes_none, gives_none}
+use Rattle.version_chain.proofs.Discarding.{freed_nodes, none_come}
 use Rattle.version_chain.proofs.Falling.{length-inserted}
-use Rattle.version_chain.proofs.Listing.{both}
+use Rattle.version_chain.proofs.Listing.{lists_left}
 use Rattle.version_chain.proofs.Walks.{at_end, on_cell}
 
 not_below-keeps : (floor : ℕ) (version : Version) (rest : List Version) → floor ≤ version.prepared.stamp → not_below floor (version ∷ rest) ≡ version ∷ not_below floor rest
@@ -64,23 +63,21 @@ cut_begun cells chains chain floor last here stands place = record {
   counted = omega arith;
 }
 
-module _ (old_cells cells next_cells : Cells) (old chains next_chains : Heads) (kept : List Kept) (chain floor : ℕ) (last here next : Option ℕ) (slot stamp : ℕ) (cut : Cut old_cells cells old chains chain floor last here) (at : here ≡ Some slot) where
+module _ (old_cells cells next_cells : Cells) (old chains next_chains : Heads) (chain floor : ℕ) (last here next : Option ℕ) (slot : ℕ) (cut : Cut old_cells cells old chains chain floor last here) (at : here ≡ Some slot) where
   pub cut_step : ChangesChain cells chains next_cells next_chains chain → IsSomeAnd (entry cells slot) (λ cell. HaveOneMore next_cells next_chains cells chains chain cell.0.version) → FreesOnly cells next_cells slot → next_chains.kept ≡ chains.kept
-      → IsPlace next_cells next_chains chain floor last next → IsSomeAnd (entry cells slot) (λ cell. stamp ≡ cell.0.version.prepared.stamp) → kept ≡ cut_in stamp slot next_chains.kept → Cut old_cells next_cells old (with_kept next_chains kept) chain floor last next
-  cut_step changed removed freed listed place whole marked =
+      → IsPlace next_cells next_chains chain floor last next → Cut old_cells next_cells old next_chains chain floor last next
+  cut_step changed removed freed listed place =
       let on = on_cell cells chains.tenant chain slot here cut.place.below cut.place.goes_on at in
       let more : HaveOneMore next_cells next_chains cells chains chain on.version = subst (λ e. IsSomeAnd e (λ cell. HaveOneMore next_cells next_chains cells chains chain cell.0.version)) on.found removed in
-      let its : stamp ≡ on.version.prepared.stamp = subst (λ e. IsSomeAnd e (λ cell. stamp ≡ cell.0.version.prepared.stamp)) on.found whole in
       let less : on.version.prepared.stamp < floor = subst (StartsBelow floor) on.is cut.place.less in
       let left = not_below-removed floor (chain_versions cells chains chain) (chain_versions next_cells next_chains chain) on.version more.inserted less in
       let fewer = left.1 in
-      let was : is_at_stamp chains.tenant stamp (entry cells slot) ≡ true = ap (is_at_stamp chains.tenant stamp) on.found ∙ both (chains.tenant == chains.tenant) (on.version.prepared.stamp == stamp) (eq-eqb chains.tenant chains.tenant refl) (eq-eqb on.version.prepared.stamp stamp (sym its)) in
       record {
         freed = cut.freed + 1;
-        changed = changes_listed old_cells next_cells old next_chains kept chain (changes_next old_cells cells next_cells old chains next_chains chain cut.changed changed);
+        changed = changes_next old_cells cells next_cells old chains next_chains chain cut.changed changed;
         given_up = record { used = omega (arith, more.used, cut.given_up.used); none = λ e. absurd (omega (arith, e)) };
-        place = record { above = place.above; below = place.below; all = place.all; ends = place.ends; goes_on = place.goes_on; not_less = place.not_less; less = place.less };
+        place = place;
         kept = left.0 ∙ cut.kept;
-        listed = λ lists. lists_cut stamp slot cells next_cells chains (with_kept next_chains kept) changed.own.shape.tenant freed (marked ∙ ap (λ (ks : List Kept). cut_in stamp slot ks) listed) was (cut.listed lists);
+        listed = λ lists. lists_left cells next_cells chains next_chains changed.own.shape.tenant listed (none_come cells next_cells chains.tenant (freed_nodes cells next_cells slot freed)) (cut.listed lists);
         counted = omega (arith, fewer, cut.counted);
       }

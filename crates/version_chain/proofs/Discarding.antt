@@ -8,13 +8,13 @@ use Rattle.version_chain.specs.declared.version.Version.{Version}
 use Rattle.version_chain.specs.declared.stamp_list.Kept.{Kept}
 use Rattle.version_chain.specs.Heads.{Heads, head}
 use Rattle.version_chain.specs.Chain.{Cells, IsPath, HoldsChains, OtherChainsKept, chain_versions, is_open_at, without_open}
-use Rattle.version_chain.specs.Listed.{is_at_stamp, is_named, node_at, node_in, NodesStay, NoneCome, is_open_node, held_at, Names, IsSwept}
+use Rattle.version_chain.specs.Listed.{is_at_stamp, is_named, node_at, node_in, NodesStay, NoneCome, is_open_node, held_at, Lists}
 use Rattle.version_chain.specs.Sharing.{ChangesOwn}
 use Rattle.version_chain.specs.Changes.{GivesUp}
-use Rattle.version_chain.specs.Discarded.{DropsOpen, FreesOnly, IsSweptBut}
+use Rattle.version_chain.specs.Discarded.{DropsOpen, FreesOnly}
 use Rattle.version_chain.proofs.Changing.{gives_none, own_next, own_none}
 use Rattle.version_chain.proofs.Dropping.{stays}
-use Rattle.version_chain.proofs.Listing.{one_if, cons, both, count_le, first_of, names_left, second_of}
+use Rattle.version_chain.proofs.Listing.{one_if, cons, both, first_of, lists_left, second_of}
 use Rattle.version_chain.proofs.Places.{places, has_place}
 use Rattle.version_chain.proofs.Replacing.{same_or_not}
 use Rattle.version_chain.proofs.Slots.{placed}
@@ -156,14 +156,14 @@ each_left old new before after stamp chain others here other known = elim (same_
 pub record SoDropped (start now : Cells) (old chains : Heads) (stamp j dropped : ℕ) : Type 0 where
   pub own : ChangesOwn start now old chains
   pub stands : HoldsChains now chains
-  pub named : Names now chains
+  pub named : Lists now chains
   pub list : chains.kept ≡ old.kept
   pub left : (chain : ℕ) → chain < length old.heads → without_open stamp (chain_versions now chains chain) ≡ without_open stamp (chain_versions start old chain)
   pub done : (i : ℕ) (k : Kept) → i < j → i < length (places old stamp) → k ≡ get_or (places old stamp) i k → is_open_node old.tenant stamp (node_in now k.slot) ≡ false
   pub still : (place : ℕ) → is_open_node old.tenant stamp (node_in start place) ≡ false → node_in now place ≡ node_in start place
   pub given_up : GivesUp dropped start old now chains
 
-pub none_dropped : (start : Cells) (old : Heads) (stamp : ℕ) → HoldsChains start old → Names start old → SoDropped start start old old stamp 0 0
+pub none_dropped : (start : Cells) (old : Heads) (stamp : ℕ) → HoldsChains start old → Lists start old → SoDropped start start old old stamp 0 0
 none_dropped start old stamp stands named = record {
   own = own_none start old;
   stands = stands;
@@ -175,7 +175,7 @@ none_dropped start old stamp stands named = record {
   given_up = gives_none start old;
 }
 
-same_place : (ks : List Kept) (i : ℕ) (c d : Kept) → i < length ks → get_or ks i c ≡ get_or ks i d
+pub same_place : (ks : List Kept) (i : ℕ) (c d : Kept) → i < length ks → get_or ks i c ≡ get_or ks i d
 same_place [] i c d within = absurd (omega arith)
 same_place (k ∷ ks) zero c d within = refl
 same_place (k ∷ ks) (suc i) c d within = same_place ks i c d (omega arith)
@@ -188,7 +188,7 @@ module _ (start now next : Cells) (old chains after : Heads) (stamp j dropped r 
   one_dropped = record {
     own = own_next start now next old chains after was.own own;
     stands = stands;
-    named = names_left now next chains after own.shape.tenant dropping.list (none_come now next chains.tenant dropping.nodes) was.named;
+    named = lists_left now next chains after own.shape.tenant dropping.list (none_come now next chains.tenant dropping.nodes) was.named;
     list = dropping.list ∙ was.list;
     left = λ chain known. left chain (omega (arith, known, was.own.shape.long)) ∙ was.left chain known;
     done = λ i k less there at. elim (same_or_not i j) [
@@ -226,7 +226,7 @@ module _ (start now next : Cells) (old chains after : Heads) (stamp j dropped r 
 pub places_of : (one other : Heads) (stamp : ℕ) → one.kept ≡ other.kept → places one stamp ≡ places other stamp
 places_of one other stamp same = ap (λ (ks : List Kept). filter (λ (k : Kept). k.stamp == stamp) ks) same
 
-found : (p : Kept → Bool) (ks : List Kept) → 0 < count_by p ks → (i : ℕ) × (k : Kept) × (i < length ks) × (k ≡ get_or ks i k) × (p k ≡ true)
+pub found : (p : Kept → Bool) (ks : List Kept) → 0 < count_by p ks → (i : ℕ) × (k : Kept) × (i < length ks) × (k ≡ get_or ks i k) × (p k ≡ true)
 found p [] more = absurd (omega arith)
 found p (k ∷ ks) more = elim (cases_Bool (p k)) [
   | inl e ↦ (0, k, omega arith, refl, e)
@@ -265,37 +265,6 @@ module _ (start now : Cells) (old chains : Heads) (stamp j dropped : ℕ) (was :
   all_dropped chain known =
       sym (shut_path now chains.tenant chain stamp all_shut (head chains chain) (chain_versions now chains chain) None (was.stands.chained chain (omega (arith, known, was.own.shape.long))))
       ∙ was.left chain known
-
--- ---- the list that is left
-
-abbrev stamp_in : Option (Node × Option ℕ) → ℕ
-stamp_in None = 0
-stamp_in (Some cell) = cell.0.version.prepared.stamp
-
-other_stamp : (tenant stamp other : ℕ) (e : Option (Node × Option ℕ)) → is_at_stamp tenant other e ≡ true → other ≢ stamp → is_open_node tenant stamp (node_at e) ≡ false
-other_stamp tenant stamp other e there different = false_from_ne_true (is_open_node tenant stamp (node_at e)) (λ is.
-    different (sym (at_both tenant other e there) ∙ at_both tenant stamp e (open_there tenant stamp e is)))
-  where
-    at_both : (tenant when : ℕ) (e : Option (Node × Option ℕ)) → is_at_stamp tenant when e ≡ true → stamp_in e ≡ when
-    at_both tenant when None is = absurd (let g : false ≡ true = is in cc)
-    at_both tenant when (Some cell) is = eqb-true cell.0.version.prepared.stamp when (second_of (cell.0.tenant == tenant) (cell.0.version.prepared.stamp == when) is)
-
--- only versions of the stamp are named that their cells do not hold any more
-pub swept_but : (start now : Cells) (old chains : Heads) (stamp j dropped : ℕ) → SoDropped start now old chains stamp j dropped → IsSwept start old → IsSweptBut stamp chains.tenant now chains.kept
-swept_but start now old chains stamp j dropped was swept =
-    let less = count_le (λ (k : Kept). not (k.stamp == stamp) && not (is_named chains.tenant now k)) (λ (k : Kept). not (is_named old.tenant start k)) old.kept each in
-    omega (arith, less, swept, ap (count_by (λ (k : Kept). not (k.stamp == stamp) && not (is_named chains.tenant now k))) was.list)
-  where
-    each : (k : Kept) → (not (k.stamp == stamp) && not (is_named chains.tenant now k)) ≡ true → not (is_named old.tenant start k) ≡ true
-    each k e = elim (cases_Bool (is_named old.tenant start k)) [
-      | inr f ↦ ap not f
-      | inl f ↦
-          let other : k.stamp ≢ stamp = λ same. absurd (let g : false ≡ true = ap not (sym (eq-eqb k.stamp stamp same)) ∙ first_of (not (k.stamp == stamp)) (not (is_named chains.tenant now k)) e in cc) in
-          let same : node_in now k.slot ≡ node_in start k.slot = was.still k.slot (other_stamp old.tenant stamp k.stamp (entry start k.slot) f other) in
-          let named : is_named chains.tenant now k ≡ true =
-          ap (λ t. is_named t now k) was.own.shape.tenant ∙ by_node old.tenant k.stamp (entry now k.slot) ∙ ap (at_node old.tenant k.stamp) same ∙ sym (by_node old.tenant k.stamp (entry start k.slot)) ∙ f in
-          absurd (let g : false ≡ true = ap not (sym named) ∙ second_of (not (k.stamp == stamp)) (not (is_named chains.tenant now k)) e in cc)
-    ]
 
 -- ---- a slot that is held
 

@@ -1,7 +1,6 @@
 pub mod Answered
 pub mod Changing
 mod Committed
-mod CutMarks
 mod Cutting
 mod Discarding
 mod Dropping

@@ -7,7 +7,7 @@ use Rattle.std.proofs.lemmas.List.Folds.{sum_by-replicate}
 use Rattle.version_chain.specs.declared.version.Version.{Version}
 use Rattle.version_chain.specs.Heads.{Heads, head, latest_slot, no_versions}
 use Rattle.version_chain.specs.Chain.{Cells, KeepsLatest, HoldsChains, chain_versions, committed_records, follow, is_of_tenant}
-use Rattle.version_chain.specs.Changes.{ListsExactly}
+use Rattle.version_chain.specs.Listed.{Lists}
 use Rattle.version_chain.proofs.Listing.{lists_none}
 
 follow-none : (cells : Cells) (count : ℕ) → follow cells count None ≡ []
@@ -51,8 +51,8 @@ module _ (cells : Cells) (tenant share chains : ℕ) where
   pub none_stand : count_by (is_of_tenant tenant) cells ≡ 0 → HoldsChains cells (no_versions tenant share chains)
   none_stand none = Stands-empty cells (no_versions tenant share chains) chains refl refl refl none
 
-  pub none_listed : count_by (is_of_tenant tenant) cells ≡ 0 → ListsExactly cells (no_versions tenant share chains)
-  none_listed none = record { listed = lists_none cells (no_versions tenant share chains) refl none; swept = refl }
+  pub none_listed : count_by (is_of_tenant tenant) cells ≡ 0 → Lists cells (no_versions tenant share chains)
+  none_listed none = lists_none cells (no_versions tenant share chains) refl none
 
   pub none_there : (chain : ℕ) → chain < chains → chain_versions cells (no_versions tenant share chains) chain ≡ []
   none_there = versions-empty cells (no_versions tenant share chains) chains refl

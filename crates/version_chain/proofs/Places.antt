@@ -10,10 +10,10 @@ use Rattle.version_chain.specs.declared.stamp_list.Kept.{Kept}
 use Rattle.version_chain.specs.Changes.{IsRunOf}
 use Rattle.version_chain.specs.Heads.{Heads, head}
 use Rattle.version_chain.specs.Chain.{Cells, IsPath, HoldsChains, chain_versions, follow}
-use Rattle.version_chain.specs.Listed.{is_at_stamp, is_named, chain_of, chain_in, Names, IsSwept}
-use Rattle.version_chain.proofs.Listing.{one_if, cons, count_filter, count_le, both, first_of, second_of, own_at, apart_from}
+use Rattle.version_chain.specs.Listed.{is_at_stamp, is_held_at, is_named, chain_of, chain_in, Lists, IsSweptAt}
+use Rattle.version_chain.proofs.Listing.{one_if, cons, count_filter, count_le, both, each_one, first_of, second_of, own_at, apart_from}
 use Rattle.version_chain.proofs.Others.{ones}
-use Rattle.version_chain.proofs.Picking.{Has, picked_at, is_all}
+use Rattle.version_chain.proofs.Picking.{Has, picked_at, at_most, is_all}
 use Rattle.version_chain.proofs.Slots.{summed}
 
 -- the listed versions of a stamp
@@ -50,12 +50,19 @@ and_and true true e = refl
 and_and true false e = absurd (let g : false ≡ true = e in cc)
 and_and false b e = absurd (let g : false ≡ true = e in cc)
 
-module _ (cells : Cells) (chains : Heads) (stands : HoldsChains cells chains) (lists : Names cells chains) (stamp : ℕ) where
+module _ (cells : Cells) (chains : Heads) (stands : HoldsChains cells chains) (lists : Lists cells chains) (stamp : ℕ) where
   once_there : (slot : ℕ) → count_by (λ (k : Kept). k.slot == slot) (places chains stamp) ≤ 1
   once_there slot =
       let one = count_filter (λ (k : Kept). k.slot == slot) (λ (k : Kept). k.stamp == stamp) chains.kept in
-      let less = count_le (λ (k : Kept). (k.stamp == stamp) && (k.slot == slot)) (λ (k : Kept). k.slot == slot) chains.kept (λ k e. second_of (k.stamp == stamp) (k.slot == slot) e) in
-      omega (arith, one, less, lists.once slot)
+      let less = count_le (λ (k : Kept). (k.stamp == stamp) && (k.slot == slot)) (is_held_at slot stamp) chains.kept (λ k e. both (k.slot == slot) (k.stamp == stamp) (second_of (k.stamp == stamp) (k.slot == slot) e) (first_of (k.stamp == stamp) (k.slot == slot) e)) in
+      omega (arith, one, less, lists.once slot stamp)
+
+  -- where each of the stamp is held, they are no more than the tenant uses
+  pub held_few : IsSweptAt stamp chains.tenant cells chains.kept → length (places chains stamp) ≤ chains.used
+  held_few swept =
+      let few = at_most (ones chains.tenant) None refl (map (λ (k : Kept). k.slot) (places chains stamp)) cells (apart_from (places chains stamp) once_there) in
+      let none = count_filter (λ (k : Kept). not (is_named chains.tenant cells k)) (λ (k : Kept). k.stamp == stamp) chains.kept ∙ swept in
+      omega (arith, few, each_one cells chains.tenant (places chains stamp) none, stands.owned)
 
   -- each version of the stamp has a place
   pub has_place : (slot : ℕ) → is_at_stamp chains.tenant stamp (entry cells slot) ≡ true → 0 < count_by (λ (k : Kept). (k.slot == slot) && (k.stamp == stamp)) (places chains stamp)
@@ -137,10 +144,10 @@ module _ (cells : Cells) (chains : Heads) (stamp j : ℕ) (kept : Kept) (within 
   pub place_stamp : kept.stamp ≡ stamp
   place_stamp = eqb-true kept.stamp stamp (ap (λ (k : Kept). k.stamp == stamp) is ∙ each_passes (λ (k : Kept). k.stamp == stamp) chains.kept j kept within)
 
-  pub place_named : IsSwept cells chains → is_named chains.tenant cells kept ≡ true
+  pub place_named : IsSweptAt stamp chains.tenant cells chains.kept → is_named chains.tenant cells kept ≡ true
   place_named swept =
       ap (is_named chains.tenant cells) is
-      ∙ back (is_named chains.tenant cells (get_or (places chains stamp) j kept)) (none_at (λ (k : Kept). not (is_named chains.tenant cells k)) (places chains stamp) (no_more (λ (k : Kept). k.stamp == stamp) (λ (k : Kept). not (is_named chains.tenant cells k)) chains.kept swept) j kept within)
+      ∙ back (is_named chains.tenant cells (get_or (places chains stamp) j kept)) (none_at (λ (k : Kept). not (is_named chains.tenant cells k)) (places chains stamp) (count_filter (λ (k : Kept). not (is_named chains.tenant cells k)) (λ (k : Kept). k.stamp == stamp) chains.kept ∙ swept) j kept within)
     where
       back : (b : Bool) → not b ≡ false → b ≡ true
       back true e = refl

@@ -7,9 +7,9 @@ use Rattle.version_arena.specs.Arena.{entry}
 use Rattle.version_chain.specs.Node.{Node}
 use Rattle.version_chain.specs.Heads.{Heads}
 use Rattle.version_chain.specs.Chain.{Cells, HoldsChains, HasShare, cell_of, OthersKept}
-use Rattle.version_chain.specs.Listed.{is_at_stamp, Lists, IsSwept, NoneMove}
+use Rattle.version_chain.specs.Listed.{is_at_stamp, Lists, NoneMove}
 use Rattle.version_chain.specs.Sharing.{ShareBlock, ChangesOwn}
-use Rattle.version_chain.proofs.Listing.{lists_same, swept_same}
+use Rattle.version_chain.proofs.Listing.{lists_same}
 use Rattle.version_chain.proofs.Neighbours.{own_cell, from_cell, Stands-kept}
 use Rattle.version_chain.proofs.Replacing.{same_or_not}
 
@@ -135,6 +135,3 @@ module _ (old new : Cells) (tenant : ℕ) (others : OthersKept old new tenant) (
 
   pub lists_kept : Lists old other → Lists new other
   lists_kept lists = lists_same old new other none_move lists
-
-  pub swept_kept : IsSwept old other → IsSwept new other
-  swept_kept swept = swept_same old new other none_move swept

@@ -57,7 +57,7 @@ module _ (kept : List Kept) (stamp : ℕ) where
     pub first-end : first ≤ end
     first-end = elim (cases_lt end first) [
       | inl above ↦
-          let d : Kept = record { stamp = 0; slot = 0; is_cut = false } in
+          let d : Kept = record { stamp = 0; slot = 0 } in
           let less = ltb-true _ _ (low.0 end d (omega arith) above) in
           let more = leb-false _ _ (high.1 end d (omega arith) (omega arith)) in
           omega arith

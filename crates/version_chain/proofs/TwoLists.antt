@@ -1,15 +1,15 @@
 -- For `KeptList`: two lists of which no stamp stands in both, one before the other.
-use Rattle.std.proofs.Common.{◌≡◌, inl, inr, ℕ, ◌+◌, ◌-◌, ◌≤◌, ◌==◌, Bool, true, false, List, [], ◌∷◌, ◌++◌, filter, take, drop, length, length-drop, count_by, refl, sym, ap, ◌∙◌, arith}
+use Rattle.std.proofs.Common.{◌≡◌, inl, inr, ℕ, ◌+◌, ◌-◌, ◌≤◌, ◌==◌, Bool, true, false, nat_lt, if◌then◌else◌, List, [], ◌∷◌, ◌++◌, filter, take, drop, length, length-drop, count_by, refl, sym, ap, ◌∙◌, arith}
 use Rattle.std.proofs.lemmas.List.{nil_from_length, length-take-le}
 use Rattle.std.proofs.Math.Seq.{drop-append-add}
-use Rattle.std.proofs.lemmas.Bool.{ne_eqb}
+use Rattle.std.proofs.lemmas.Bool.{cases_Bool, ne_eqb}
 use Rattle.std.proofs.lemmas.List.Elements.{filter-append}
 use Rattle.std.proofs.lemmas.List.Sums.{sum_by-append, length-filter}
 use Rattle.std.specs.Prelude.{slice_range}
 use Rattle.version_chain.specs.declared.stamp_list.Kept.{Kept}
 use Rattle.version_chain.specs.Listing.{count_at, AreApart}
-use Rattle.version_chain.specs.Listed.{IsListedInto}
-use Rattle.version_chain.proofs.Listing.{cons, one_if}
+use Rattle.version_chain.specs.Listed.{is_held_at, IsListedInto}
+use Rattle.version_chain.proofs.Listing.{cons, count_le, one_if, second_of}
 use Rattle.version_chain.proofs.Places.{no_more}
 use Rattle.version_chain.proofs.Replacing.{same_or_not}
 
@@ -39,11 +39,33 @@ apart_added one other new version apart none listed stamp = elim (same_or_not ve
   | inr differs ↦ elim (apart stamp) [
     | inl empty ↦
         let at = λ (k : Kept). k.stamp == stamp in
+        let has = nat_lt 0 (count_by (is_held_at version.slot version.stamp) one) in
         let other_stamp = ap one_if (ne_eqb version.stamp stamp differs) in
-        inl (omega (arith, listed at, cons at version one, other_stamp, empty))
+        inl (elim (cases_Bool has) [
+          | inl e ↦ listed at ∙ ap (λ b. count_by at (if b then one else version ∷ one)) e ∙ empty
+          | inr e ↦ (let put = listed at ∙ ap (λ b. count_by at (if b then one else version ∷ one)) e in omega (arith, put, cons at version one, other_stamp, empty))
+        ])
     | inr empty ↦ inr empty
   ]
 ]
+
+-- both lists then have what they had, and it
+pub listed_beside : (old one new other : List Kept) (version : Kept) → count_at version.stamp other ≡ 0 → ((test : Kept → Bool) → count_by test one + count_by test other ≡ count_by test old) → IsListedInto one new version
+    → (test : Kept → Bool) → count_by test new + count_by test other ≡ count_by test (if nat_lt 0 (count_by (is_held_at version.slot version.stamp) old) then old else version ∷ old)
+listed_beside old one new other version none all listed test =
+    let pair = is_held_at version.slot version.stamp in
+    let none_there = count_le pair (λ (k : Kept). k.stamp == version.stamp) other (λ k e. second_of (k.slot == version.slot) (k.stamp == version.stamp) e) in
+    let same : count_by pair one ≡ count_by pair old = omega (arith, none_there, none, all pair) in
+    elim (cases_Bool (nat_lt 0 (count_by pair one))) [
+      | inl e ↦
+          let left = listed test ∙ ap (λ b. count_by test (if b then one else version ∷ one)) e in
+          let right = ap (λ b. count_by test (if b then old else version ∷ old)) (ap (λ n. nat_lt 0 n) (sym same) ∙ e) in
+          omega (arith, left, right, all test)
+      | inr e ↦
+          let left = listed test ∙ ap (λ b. count_by test (if b then one else version ∷ one)) e in
+          let right = ap (λ b. count_by test (if b then old else version ∷ old)) (ap (λ n. nat_lt 0 n) (sym same) ∙ e) in
+          omega (arith, left, right, all test, cons test version one, cons test version old)
+    ]
 
 -- so many versions of the stamp stand at these places
 pub run_count : (stamp : ℕ) (kept : List Kept) (first end : ℕ) → first ≤ end → end ≤ length kept → slice_range kept first end ≡ filter (λ (k : Kept). k.stamp == stamp) kept → count_at stamp kept ≡ end - first

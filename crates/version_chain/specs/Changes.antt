@@ -7,7 +7,7 @@ use Rattle.version_chain.specs.declared.stamp_list.Kept.{Kept}
 use Rattle.version_chain.specs.declared.version.Version.{Version}
 use Rattle.version_chain.specs.Heads.{Heads}
 use Rattle.version_chain.specs.Chain.{Cells, HoldsChains, HasShare, OtherChainsKept, IsInserted, at_stamp, chain_versions}
-use Rattle.version_chain.specs.Listed.{Lists, IsSwept, NoneMove, with_latest}
+use Rattle.version_chain.specs.Listed.{NoneMove, with_latest}
 use Rattle.version_chain.specs.Sharing.{ChangesOwn}
 
 -- ---- what they ask for
@@ -16,11 +16,6 @@ use Rattle.version_chain.specs.Sharing.{ChangesOwn}
 pub record HasChain (cells : Cells) (chains : Heads) (chain : ℕ) : Type 0 where
   pub known : chain < length chains.heads
   pub stands : HoldsChains cells chains
-
--- the list names each version of the tenant once, and no other cell
-pub record ListsExactly (cells : Cells) (chains : Heads) : Type 0 where
-  pub listed : Lists cells chains
-  pub swept : IsSwept cells chains
 
 -- a version of this stamp can be put into the chain: the tenant's share is there, of which a cell is left, and the chain
 -- has none of the stamp

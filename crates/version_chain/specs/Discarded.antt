@@ -1,14 +1,8 @@
 -- The cells and the list of the kept versions while those of a stamp are dropped. No public clause cites this module.
-use Rattle.std.specs.Prelude.{◌≡◌, ◌≢◌, ℕ, ◌==◌, ◌&&◌, not, false, List, count_by, None}
-use Rattle.version_chain.specs.declared.stamp_list.Kept.{Kept}
+use Rattle.std.specs.Prelude.{◌≡◌, ◌≢◌, ℕ, false, None}
 use Rattle.version_chain.specs.Heads.{Heads}
 use Rattle.version_chain.specs.Chain.{Cells}
-use Rattle.version_chain.specs.Listed.{is_named, node_in, is_open_node, NodesStay}
-
--- each version of another stamp is held in the cell that the list names
-abbrev pub IsSweptBut : ℕ → ℕ → Cells → List Kept → Type 0
-IsSweptBut stamp tenant cells kept =
-    count_by (λ (k : Kept). not (k.stamp == stamp) && not (is_named tenant cells k)) kept ≡ 0
+use Rattle.version_chain.specs.Listed.{node_in, is_open_node, NodesStay}
 
 -- the version left the cell of this slot, and each other cell holds what it held
 pub record FreesOnly (old new : Cells) (slot : ℕ) : Type 0 where

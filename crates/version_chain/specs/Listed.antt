@@ -1,5 +1,5 @@
 -- The kept versions of a tenant, listed by their stamps.
-use Rattle.std.specs.Prelude.{◌≡◌, ◌≢◌, ◌⊎◌, ℕ, ◌<◌, ◌≤◌, ◌==◌, ◌&&◌, ◌||◌, if◌then◌else◌, Bool, true, false, not, nat_lt, List, ◌∷◌, count_by, length, map}
+use Rattle.std.specs.Prelude.{◌≡◌, ◌≢◌, ◌⊎◌, ℕ, ◌<◌, ◌≤◌, ◌==◌, ◌&&◌, if◌then◌else◌, Bool, true, false, not, nat_lt, List, ◌∷◌, count_by}
 use Rattle.std.specs.Prelude.{Option, Some, None}
 use Rattle.version_arena.specs.Arena.{entry}
 use Rattle.version_chain.specs.Node.{Node}
@@ -16,47 +16,29 @@ is_at_stamp tenant stamp (Some cell) = (cell.0.tenant == tenant) && (cell.0.vers
 abbrev pub is_named : ℕ → Cells → Kept → Bool
 is_named tenant cells kept = is_at_stamp tenant kept.stamp (entry cells kept.slot)
 
--- a version that its cell holds
+-- the version of a stamp in a slot
 abbrev pub held_at : ℕ → ℕ → Kept
-held_at stamp slot = record { stamp = stamp; slot = slot; is_cut = false }
+held_at stamp slot = record { stamp = stamp; slot = slot }
 
--- the version, marked as cut where it is that of the slot; and where it is that of the stamp and the slot
-abbrev pub cut_at : ℕ → Kept → Kept
-cut_at slot kept = record { stamp = kept.stamp; slot = kept.slot; is_cut = kept.is_cut || (kept.slot == slot) }
+-- it is that one
+abbrev pub is_held_at : ℕ → ℕ → Kept → Bool
+is_held_at slot stamp kept = (kept.slot == slot) && (kept.stamp == stamp)
 
-abbrev pub cut_where : ℕ → ℕ → Kept → Kept
-cut_where stamp slot kept = if kept.stamp == stamp then cut_at slot kept else kept
-
--- the list is so long that versions that are cut are marked in it
-abbrev pub is_long : List Kept → Bool
-is_long kept = nat_lt 1024 (length kept)
-
--- the list once the version of this stamp and slot was cut
-abbrev pub cut_in : ℕ → ℕ → List Kept → List Kept
-cut_in stamp slot kept = if is_long kept then map (cut_where stamp slot) kept else kept
-
--- the second list has the versions of the first and this one, each as often, in any order
+-- the second list has the versions of the first, each as often, in any order, and this one too, which is not put in where it is there
 abbrev pub IsListedInto : List Kept → List Kept → Kept → Type 0
-IsListedInto old new version = (test : Kept → Bool) → count_by test new ≡ count_by test (version ∷ old)
+IsListedInto old new version =
+    (test : Kept → Bool)
+    → count_by test new ≡ count_by test (if nat_lt 0 (count_by (is_held_at version.slot version.stamp) old) then old else version ∷ old)
 
--- the list names no slot twice, and each version of the tenant by its stamp and its slot
-pub record Names (cells : Cells) (chains : Heads) : Type 0 where
-  pub once : (slot : ℕ) → count_by (λ (k : Kept). k.slot == slot) chains.kept ≤ 1
-  pub all : (slot stamp : ℕ) → is_at_stamp chains.tenant stamp (entry cells slot) ≡ true
-      → 0 < count_by (λ (k : Kept). (k.slot == slot) && (k.stamp == stamp)) chains.kept
-
--- the version is marked as cut though its cell holds it, or it is not, where all that are cut are marked, and its cell does not hold it
-abbrev pub is_mismarked : ℕ → Cells → Bool → Kept → Bool
-is_mismarked tenant cells marks kept = if kept.is_cut then is_named tenant cells kept else marks && not (is_named tenant cells kept)
-
--- it does; it may also name cells that were freed since, and marks no others as cut, and all of these where it is long
+-- the list names each version of the tenant, by its stamp and its slot, and none twice; it may also name versions that left their cells
 pub record Lists (cells : Cells) (chains : Heads) : Type 0 where
-  pub named : Names cells chains
-  pub marked : count_by (λ (k : Kept). is_mismarked chains.tenant cells (is_long chains.kept) k) chains.kept ≡ 0
+  pub once : (slot stamp : ℕ) → count_by (is_held_at slot stamp) chains.kept ≤ 1
+  pub all : (slot stamp : ℕ) → is_at_stamp chains.tenant stamp (entry cells slot) ≡ true
+      → 0 < count_by (is_held_at slot stamp) chains.kept
 
--- it names no other cell
-abbrev pub IsSwept : Cells → Heads → Type 0
-IsSwept cells chains = count_by (λ (k : Kept). not (is_named chains.tenant cells k)) chains.kept ≡ 0
+-- of this stamp it names those alone that their cells hold
+abbrev pub IsSweptAt : ℕ → ℕ → Cells → List Kept → Type 0
+IsSweptAt stamp tenant cells kept = count_by (λ (k : Kept). (k.stamp == stamp) && not (is_named tenant cells k)) kept ≡ 0
 
 -- one cell that was free holds a version of the tenant and of this stamp, and no other cell of the tenant comes or goes
 pub record IsPutAt (old new : Cells) (tenant stamp slot : ℕ) : Type 0 where

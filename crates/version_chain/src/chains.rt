@@ -3,10 +3,10 @@ ghost use Rattle.std.specs.Prelude.{◌≡◌, ◌↔◌, ℕ, ◌+◌, ◌-◌,
 ghost use Rattle.version_arena.specs.Arena.{entry, next_beside};
 ghost use Rattle.version_chain.specs.declared.version.Version.{Version};
 ghost use Rattle.version_chain.specs.Chain.{IsPath, KeepsLatest, HoldsChains, HasShare, chain_versions, at_stamp, first_record, latest_record, lent_version, committed_records, stamp_of, marked_by, not_below, without_open};
-ghost use Rattle.version_chain.specs.Changes.{HasChain, HasRoomFor, ListsExactly, ChangesChain, EachChainIs, GivesUp, HaveOneMore, InsertAnswers, IsRunOf, MarksOnly, Unchanged};
-ghost use Rattle.version_chain.specs.Discarded.{DropsOpen, FreesOnly, IsSweptBut};
+ghost use Rattle.version_chain.specs.Changes.{HasChain, HasRoomFor, ChangesChain, EachChainIs, GivesUp, HaveOneMore, InsertAnswers, IsRunOf, MarksOnly, Unchanged};
+ghost use Rattle.version_chain.specs.Discarded.{DropsOpen, FreesOnly};
 ghost use Rattle.version_chain.specs.Heads.{no_versions};
-ghost use Rattle.version_chain.specs.Listed.{is_named, chain_in, with_kept, Lists, Names, IsPutAt, node_in, is_open_node};
+ghost use Rattle.version_chain.specs.Listed.{is_named, chain_in, with_kept, Lists, IsSweptAt, IsPutAt, node_in, is_open_node};
 ghost use Rattle.version_chain.specs.Sharing.{ChangesOwn};
 
 use crate::kept_list::KeptList;
@@ -40,8 +40,9 @@ pub enum Insert {
 /// call. A clause sees each chain as the list of its versions, with strictly falling stamps. Beside them stands a list of
 /// all these versions in the order of their stamps, which names each by its slot.
 ///
-/// A cut leaves the versions that it gives up in that list, and marks them there where it is long; one `sweep` takes all of them out.
-/// Until then nothing may be inserted, since a new version may get the slot of one that was dropped.
+/// A version that is dropped stays in that list until a sweep, which looks into the cell of each listed version. It comes once more
+/// than twice as many are listed as are kept, so for each version that is dropped it looks into two cells. A listed version counts
+/// only where its cell holds it.
 ///
 /// A stamp is searched for from the head of its chain down. Where its place is not behind the first few versions, one
 /// version of the chain and one of the list are visited alternately, the latter from the stamp up: the first of them that
@@ -249,14 +250,14 @@ impl Chains {
 
     /// Puts a copy of a record into a chain, not committed as yet, unless the chain has one of its stamp or no cell of the
     /// tenant's share is left. Where it is not `Added`, nothing changes. The condition is that the tenant's share is there: as
-    /// many cells are free as it may still use, and that a sweep followed each cut. It visits what a search for the
-    /// record's stamp does, and shifts the listed versions of greater stamps.
+    /// many cells are free as it may still use. It visits what a search for the record's stamp does, and shifts the listed
+    /// versions of greater stamps.
     pub fn insert_from(&mut self, block: &mut Block, chain: u32, added: &Record) -> Insert
         requires chain { HasChain block.old self.old chain }
-        requires list { ListsExactly block.old self.old }
+        requires list { Lists block.old self.old }
         requires share { HasShare block.old self.old }
         ensures changed { ChangesChain block.old self.old block.new self.new chain }
-        ensures list { ListsExactly block.new self.new }
+        ensures list { Lists block.new self.new }
         ensures answer { InsertAnswers result
             block.old self.old block.new self.new chain added.now }
     {
@@ -280,10 +281,10 @@ impl Chains {
     /// Does what `insert_from` does, with a record that is given.
     pub fn insert(&mut self, block: &mut Block, chain: u32, added: Record) -> Insert
         requires chain { HasChain block.old self.old chain }
-        requires list { ListsExactly block.old self.old }
+        requires list { Lists block.old self.old }
         requires share { HasShare block.old self.old }
         ensures changed { ChangesChain block.old self.old block.new self.new chain }
-        ensures list { ListsExactly block.new self.new }
+        ensures list { Lists block.new self.new }
         ensures answer { InsertAnswers result block.old self.old block.new self.new chain added }
     {
         self.insert_from(block, chain, &added)
@@ -294,10 +295,10 @@ impl Chains {
     /// shifts the listed versions of greater stamps.
     pub fn put(&mut self, block: &mut Block, chain: u32, version: &Version)
         requires chain { HasChain block.old self.old chain }
-        requires list { ListsExactly block.old self.old }
+        requires list { Lists block.old self.old }
         requires room { HasRoomFor block.old self.old chain version.now.prepared.stamp }
         ensures changed { ChangesChain block.old self.old block.new self.new chain }
-        ensures list { ListsExactly block.new self.new }
+        ensures list { Lists block.new self.new }
         ensures added { HaveOneMore block.old self.old block.new self.new chain version.now }
     {
         let (last, here) = self.seek(block, chain, stamp_of(&version.prepared));
@@ -323,17 +324,33 @@ impl Chains {
         here: Option<Slot>,
     )
         requires chain { HasChain block.old self.old chain }
-        requires list { ListsExactly block.old self.old }
+        requires list { Lists block.old self.old }
         requires room { HasRoomFor block.old self.old chain prepared.now.stamp }
         requires place { IsPlace block.old self.old chain prepared.now.stamp last here }
         ensures changed { ChangesChain block.old self.old block.new self.new chain }
-        ensures list { ListsExactly block.new self.new }
+        ensures list { Lists block.new self.new }
         ensures added { HaveOneMore block.old self.old block.new self.new chain
             (record { prepared = prepared.now; committed = committed }) }
     {
         let stamp = stamp_of(prepared);
+        self.tidy(block);
         let slot = self.link(block, chain, prepared, committed, last, here);
         self.kept.insert(stamp, slot);
+    }
+
+    // Sweeps the list of the kept versions where that is due, so that there is room for one more.
+    #[inline(always)]
+    fn tidy(&mut self, block: &Block)
+        requires stands { HoldsChains block.now self.old }
+        requires list { Lists block.now self.old }
+        requires room { self.old.used < self.old.share }
+        ensures list { Lists block.now self.new }
+        ensures room { length self.new.kept < self.old.share }
+        ensures rest { self.new ≡ with_kept self.old self.new.kept }
+    {
+        if self.kept.is_due(self.used, self.share) {
+            self.kept.sweep(block, self.tenant);
+        }
     }
 
     // Puts a version between two slots that stand one after the other, and answers its own slot.
@@ -431,11 +448,7 @@ impl Chains {
         if !block.get(slot).is_at(stamp) {
             return false;
         }
-        let kept = Kept {
-            stamp,
-            slot,
-            is_cut: false,
-        };
+        let kept = Kept { stamp, slot };
         self.mark_slot(block, kept);
         true
     }
@@ -561,8 +574,7 @@ impl Chains {
     }
 
     /// Gives up the versions of a chain below a stamp, whether they are committed or not, frees their cells, and
-    /// answers how many they were; the list of the kept versions still names them, marked as cut where it is long. It visits all
-    /// versions of the chain, and finds each that it gives up in a long list by a binary search.
+    /// answers how many they were; the list of the kept versions still names them. It visits all versions of the chain.
     pub fn cut_below(&mut self, block: &mut Block, chain: u32, floor: Stamp) -> u32
         requires { HasChain block.old self.old chain }
         ensures changed { ChangesChain block.old self.old block.new self.new chain }
@@ -578,51 +590,26 @@ impl Chains {
         let mut here = first;
         while let Some(slot) = here {
             here = block.next(slot);
-            let stamp = block.get(slot).stamp();
             let before = last;
             self.unlink(block, chain, before, slot);
-            self.kept.note_cut(stamp, slot);
         }
         used - self.used
     }
 
-    /// Gives up the versions of a stamp, of any chains, that are not committed, frees their cells, takes them out of the
-    /// list of the kept versions, and answers how many they were. The condition is that a sweep followed each cut. It finds
-    /// the versions of the stamp by a binary search in that list, and visits them, each counted in `visits`; where one is not
-    /// committed, it also searches for the stamp in its chain. Where it gave up any, it visits them once more and shifts the
-    /// listed versions of greater stamps. At most 2^61 were counted before.
+    /// Gives up the versions of a stamp, of any chains, that are not committed, frees their cells, and answers how many they
+    /// were; the list of the kept versions still names them. The condition is that each version that the list has of the stamp is
+    /// held, as after `sweep_at`. It finds the versions of the stamp by a binary search in that list, and visits them, each
+    /// counted in `visits`; where one is not committed, it also searches for the stamp in its chain. At most 2^61 were counted
+    /// before.
     pub fn discard_at(&mut self, block: &mut Block, stamp: Stamp, visits: &mut Visits) -> u32
         requires stands { HoldsChains block.old self.old }
-        requires list { ListsExactly block.old self.old }
+        requires list { Lists block.old self.old }
+        requires swept { IsSweptAt stamp self.old.tenant block.old self.old.kept }
         requires few { self.old.used < 2 ^ 32 }
         requires before { visits.old ≤ 2 ^ 61 }
         ensures own { ChangesOwn block.old block.new self.old self.new }
         ensures stands { HoldsChains block.new self.new }
-        ensures list { ListsExactly block.new self.new }
-        ensures kept { EachChainIs (without_open stamp) block.old self.old block.new self.new }
-        ensures given_up { GivesUp result block.old self.old block.new self.new }
-        ensures visits { visits.new
-            ≡ visits.old + length (filter (λ k. k.stamp == stamp) self.old.kept) }
-    {
-        let dropped = self.discard_each(block, stamp, visits);
-        if dropped == 0 {
-            return 0;
-        }
-        self.kept.sweep_at(block, self.tenant, stamp);
-        dropped
-    }
-
-    // Does what `discard_at` does, but for the list of the kept versions, which still names those that it gave up.
-    fn discard_each(&mut self, block: &mut Block, stamp: Stamp, visits: &mut Visits) -> u32
-        requires stands { HoldsChains block.old self.old }
-        requires list { ListsExactly block.old self.old }
-        requires few { self.old.used < 2 ^ 32 }
-        requires before { visits.old ≤ 2 ^ 61 }
-        ensures own { ChangesOwn block.old block.new self.old self.new }
-        ensures stands { HoldsChains block.new self.new }
-        ensures named { Names block.new self.new }
-        ensures list { self.new.kept ≡ self.old.kept }
-        ensures swept { IsSweptBut stamp self.new.tenant block.new self.new.kept }
+        ensures list { Lists block.new self.new }
         ensures kept { EachChainIs (without_open stamp) block.old self.old block.new self.new }
         ensures given_up { GivesUp result block.old self.old block.new self.new }
         ensures visits { visits.new
@@ -650,11 +637,7 @@ impl Chains {
         ensures given_up { GivesUp result block.old self.old block.new self.new }
         ensures dropped { DropsOpen stamp block.old self.old block.new self.new }
     {
-        let kept = Kept {
-            stamp,
-            slot,
-            is_cut: false,
-        };
+        let kept = Kept { stamp, slot };
         if !is_held(block, self.tenant, &kept) {
             return 0;
         }
@@ -761,14 +744,31 @@ impl Chains {
         None
     }
 
-    /// Takes the versions that were cut out of the list of the kept ones. It goes over that list once, and visits no cell where the list
-    /// is long.
-    pub fn sweep(&mut self, block: &Block)
+    /// Sweeps the list of the kept versions where it has one of this stamp that its cell does not hold any more. It looks into
+    /// the cells of those of the stamp, and only where one does not hold its version into all.
+    pub fn sweep_at(&mut self, block: &Block, stamp: Stamp)
         requires { Lists block.now self.old }
-        ensures list { ListsExactly block.now self.new }
+        ensures list { Lists block.now self.new }
+        ensures swept { IsSweptAt stamp self.new.tenant block.now self.new.kept }
         ensures rest { self.new ≡ with_kept self.old self.new.kept }
     {
-        self.kept.sweep(block, self.tenant);
+        if self.has_unheld(block, stamp) {
+            self.kept.sweep(block, self.tenant);
+        }
+    }
+
+    // Whether the list has a version of this stamp that its cell does not hold any more.
+    #[inline(always)]
+    fn has_unheld(&self, block: &Block, stamp: Stamp) -> bool
+        ensures { result ≡ false → IsSweptAt stamp self.now.tenant block.now self.now.kept }
+    {
+        let (first, end) = self.places_at(stamp);
+        for place in 0..end - first {
+            if !is_held(block, self.tenant, &self.kept_in(first + place)) {
+                return true;
+            }
+        }
+        false
     }
 }
 

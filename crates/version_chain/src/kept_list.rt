@@ -1,8 +1,7 @@
 //! The kept versions of a tenant, in two lists.
-ghost use Rattle.std.specs.Prelude.{◌≡◌, ◌==◌, ◌+◌, ◌<◌, ◌≤◌, ◌++◌, [], Bool, IsTrue, false, length, filter, map, not, nat_lt, count_by, IfOk, slice_range, slice_index_or};
+ghost use Rattle.std.specs.Prelude.{◌≡◌, ◌==◌, ◌+◌, ◌<◌, ◌≤◌, ◌++◌, [], Bool, IsTrue, false, length, filter, not, nat_lt, count_by, IfOk, slice_range, slice_index_or};
 ghost use Rattle.version_chain.specs.Listing.{AreApart, count_at};
-ghost use Rattle.version_chain.specs.Listed.{IsListedInto, cut_in, cut_where, held_at, is_long, is_mismarked, is_named};
-ghost use Rattle.version_chain.specs.Discarded.{IsSweptBut};
+ghost use Rattle.version_chain.specs.Listed.{IsListedInto, held_at, is_named};
 ghost use Rattle.version_chain.specs.Place.{least_of};
 
 use crate::shared_block::Block;
@@ -16,12 +15,11 @@ use version_arena::Slot;
 // So many versions at most stand apart from the others.
 const MOST_LATE: u32 = 512;
 
-// A list of more versions has those marked that were cut. In a list of so many or fewer a sweep looks into the cell of each, which
-// takes less than to find each that was cut.
-const MOST_LOOKED_AT: usize = 1024;
+// A list is swept once it has so many versions more than twice those that are held.
+const SPARE: usize = 64;
 
 /// The kept versions in two lists, in each of them the least stamp first. Contracts see how many there is room for, and
-/// the one list before the other.
+/// the one list before the other. A version that left its cell stays listed until a sweep.
 ///
 /// A stamp that is not below those of the main list goes to its end. Any other goes into the list of the late ones, which is
 /// short, so that little is shifted; once that is full, it is merged into the main list. The versions of a stamp
@@ -56,13 +54,13 @@ impl KeptList {
         })
     }
 
-    /// Puts in a version, for which there is room. It shifts those of greater stamps in one of the two lists: in the main one
-    /// where this has a version of the stamp, or a full list of late ones is to be merged into it.
+    /// Puts in a version, for which there is room, unless it is listed. It shifts those of greater stamps in one of the two
+    /// lists: in the main one where this has a version of the stamp, or a full list of late ones is to be merged into it.
     #[inline(always)]
     pub(crate) fn insert(&mut self, stamp: Stamp, slot: Slot)
         requires { length self.old.kept < self.old.room }
         ensures room { self.new.room ≡ self.old.room }
-        ensures inserted { IsListedInto self.old.kept self.new.kept
+        ensures listed { IsListedInto self.old.kept self.new.kept
             (held_at stamp slot) }
     {
         make_room(&mut self.main, &mut self.late);
@@ -112,77 +110,24 @@ impl KeptList {
         }
     }
 
-    // Whether the versions that are cut are marked.
-    fn is_long(&self) -> bool
-        ensures { result ≡ is_long self.now.kept }
+    /// Whether a sweep is due: the list is full, or has some more than twice as many versions as are held.
+    #[inline(always)]
+    pub(crate) fn is_due(&self, held: u32, room: u32) -> bool
+        ensures { result ≡ false → length self.now.kept < room }
     {
-        self.main.len() + self.late.len() > MOST_LOOKED_AT
+        let listed = self.main.len() + self.late.len();
+        listed >= room as usize || listed > 2 * held as usize + SPARE
     }
 
-    /// Marks the version of this stamp and slot as cut, where the list is long and has it.
-    pub(crate) fn note_cut(&mut self, stamp: Stamp, slot: Slot)
-        ensures room { self.new.room ≡ self.old.room }
-        ensures noted { self.new.kept ≡ cut_in stamp slot self.old.kept }
-    {
-        if self.is_long() {
-            self.mark_cut(stamp, slot);
-        }
-    }
-
-    // Marks the version of this stamp and slot as cut, if one of the lists has it. A binary search finds the first of the stamp, in the
-    // list of the late ones only where the main one has none of it; each of the stamp is visited.
+    /// Takes out the versions that their cells do not hold any more. It looks into the cell of each.
+    #[cold]
     #[inline(never)]
-    fn mark_cut(&mut self, stamp: Stamp, slot: Slot)
-        ensures room { self.new.room ≡ self.old.room }
-        ensures marked { self.new.kept ≡ map (cut_where stamp slot) self.old.kept }
-    {
-        if !self.main.mark_cut(stamp, slot) {
-            let _ = self.late.mark_cut(stamp, slot);
-        }
-    }
-
-    /// Takes out the versions that their cells do not hold any more, which are those that are marked where the list is long. It goes
-    /// over both lists once, and visits no cell then; else it looks into the cell of each.
     pub(crate) fn sweep(&mut self, block: &Block, tenant: u32)
-        requires { let marks = is_long self.old.kept in
-            count_by (is_mismarked tenant block.now marks) self.old.kept ≡ 0 }
-        ensures room { self.new.room ≡ self.old.room }
-        ensures swept { self.new.kept ≡ filter (is_named tenant block.now) self.old.kept }
-    {
-        if self.is_long() {
-            self.sweep_marked();
-        } else {
-            self.sweep_unheld(block, tenant);
-        }
-    }
-
-    // Takes out the versions that are marked as cut.
-    fn sweep_marked(&mut self)
-        ensures room { self.new.room ≡ self.old.room }
-        ensures swept { self.new.kept ≡ filter (λ k. not k.is_cut) self.old.kept }
-    {
-        self.main.sweep_marked();
-        self.late.sweep_marked();
-    }
-
-    // Takes out the versions that their cells do not hold any more.
-    fn sweep_unheld(&mut self, block: &Block, tenant: u32)
         ensures room { self.new.room ≡ self.old.room }
         ensures swept { self.new.kept ≡ filter (is_named tenant block.now) self.old.kept }
     {
         self.main.sweep_unheld(block, tenant);
         self.late.sweep_unheld(block, tenant);
-    }
-
-    /// Takes out the versions of a stamp that their cells do not hold any more, where all others are held. It goes over
-    /// those of this stamp, and shifts those of greater stamps once.
-    pub(crate) fn sweep_at(&mut self, block: &Block, tenant: u32, stamp: Stamp)
-        requires { IsSweptBut stamp tenant block.now self.old.kept }
-        ensures room { self.new.room ≡ self.old.room }
-        ensures swept { self.new.kept ≡ filter (is_named tenant block.now) self.old.kept }
-    {
-        self.main.sweep_at(block, tenant, stamp);
-        self.late.sweep_at(block, tenant, stamp);
     }
 }
 

@@ -1,8 +1,8 @@
 //! A list of kept versions, in the order of their stamps.
 ghost use Rattle.std.specs.Prelude.{◌≡◌, ◌↔◌, ◌==◌, ◌+◌, ◌-◌, ◌^◌, ◌<◌, ◌≤◌, Bool, IsTrue, false, [], ◌++◌, count_by, take, length, filter, map, not, nat_lt, IfOk, slice_range, slice_index_or, vec_len, vec_capacity, insert as list_insert};
-ghost use Rattle.version_chain.specs.Listed.{IsListedInto, cut_at, cut_where, held_at, is_named};
+ghost use Rattle.std.specs.List.{list_any};
+ghost use Rattle.version_chain.specs.Listed.{IsListedInto, held_at, is_named};
 ghost use Rattle.version_chain.specs.Listing.{Ascends, EndsAtMost, EndsBelow, count_at};
-ghost use Rattle.version_chain.specs.Discarded.{IsSweptBut};
 ghost use Rattle.version_chain.specs.Place.{least_of};
 
 use crate::shared_block::Block;
@@ -22,8 +22,6 @@ pub struct Kept {
     pub stamp: Stamp,
     /// Where its version lies in the block.
     pub slot: Slot,
-    /// Whether its version was cut out of its cell.
-    pub is_cut: bool,
 }
 
 /// Kept versions, the least stamp first. Contracts see how many there is room for, and the list.
@@ -57,21 +55,18 @@ impl StampList {
         })
     }
 
-    /// Puts in a version, for which there is room. It shifts those of greater stamps, and looks for its place where there are any.
+    /// Puts in a version, for which there is room, unless it is listed. It shifts those of greater stamps.
     #[inline(always)]
     pub(crate) fn insert(&mut self, stamp: Stamp, slot: Slot)
         requires { length self.old.kept < self.old.room }
         ensures room { self.new.room ≡ self.old.room }
-        ensures inserted { IsListedInto self.old.kept self.new.kept
+        ensures listed { IsListedInto self.old.kept self.new.kept
             (held_at stamp slot) }
     {
-        let place = place_above(&self.kept, stamp);
-        let added = Kept {
-            stamp,
-            slot,
-            is_cut: false,
-        };
-        insert_within(&mut self.kept, place, added);
+        let (first, end) = self.places(stamp);
+        if !names_slot(&self.kept[first..end], slot) {
+            insert_within(&mut self.kept, end, Kept { stamp, slot });
+        }
     }
 
     /// The number of versions.
@@ -135,6 +130,7 @@ impl StampList {
         ensures few { result.1 < 2 ^ 63 }
         ensures together { slice_range self.now.kept result.0 result.1
             ≡ filter (λ k. k.stamp == stamp) self.now.kept }
+        ensures above { EndsAtMost self.now.kept stamp result.1 }
     {
         let first = place_from(&self.kept, stamp);
         (first, end_of_run(&self.kept, first, stamp))
@@ -157,37 +153,6 @@ impl StampList {
         &self.kept[first..]
     }
 
-    /// Marks the version of this stamp and slot as cut, if the list has one, and answers whether it has any version of the stamp. A binary
-    /// search finds the first of the stamp, and each of the stamp is visited: what is cut is seldom among the last few.
-    pub(crate) fn mark_cut(&mut self, stamp: Stamp, slot: Slot) -> bool
-        ensures room { self.new.room ≡ self.old.room }
-        ensures marked { self.new.kept ≡ map (cut_where stamp slot) self.old.kept }
-        ensures any { IsTrue result ↔ (0 < count_at stamp self.old.kept) }
-    {
-        let (first, end) = self.old_places(stamp);
-        mark_run(&mut self.kept[first..end], slot);
-        first < end
-    }
-
-    // What `places` answers, by a binary search alone.
-    fn old_places(&self, stamp: Stamp) -> (usize, usize)
-        ensures ordered { result.0 ≤ result.1 }
-        ensures within { result.1 ≤ length self.now.kept }
-        ensures together { slice_range self.now.kept result.0 result.1
-            ≡ filter (λ k. k.stamp == stamp) self.now.kept }
-    {
-        let first = place_by_halves(&self.kept, stamp);
-        (first, end_of_run(&self.kept, first, stamp))
-    }
-
-    /// Takes out the versions that are marked as cut. It goes over the list once, and visits no cell.
-    pub(crate) fn sweep_marked(&mut self)
-        ensures room { self.new.room ≡ self.old.room }
-        ensures swept { self.new.kept ≡ filter (λ k. not k.is_cut) self.old.kept }
-    {
-        self.kept.retain(|kept| !kept.is_cut);
-    }
-
     /// Takes out the versions that their cells do not hold any more. It goes over the list once, and looks into each cell.
     pub(crate) fn sweep_unheld(&mut self, block: &Block, tenant: u32)
         ensures room { self.new.room ≡ self.old.room }
@@ -195,50 +160,6 @@ impl StampList {
     {
         self.kept.retain(|kept| is_held(block, tenant, kept));
     }
-
-    /// Takes out the versions of a stamp that their cells do not hold any more, where all others are held. It goes over
-    /// those of this stamp, and shifts those of greater stamps once.
-    pub(crate) fn sweep_at(&mut self, block: &Block, tenant: u32, stamp: Stamp)
-        requires { IsSweptBut stamp tenant block.now self.old.kept }
-        ensures room { self.new.room ≡ self.old.room }
-        ensures swept { self.new.kept ≡ filter (is_named tenant block.now) self.old.kept }
-    {
-        let (first, end) = self.places(stamp);
-        let held = gather_held(&mut self.kept[first..end], block, tenant);
-        self.kept.drain(first + held..end);
-    }
-}
-
-// Marks the version of this slot as cut, if it is one of these. It visits each of them.
-fn mark_run(run: &mut [Kept], slot: Slot)
-    ensures { run.new ≡ map (cut_at slot) run.old }
-{
-    for place in 0..run.len() {
-        run[place] = cut_at(run[place], slot);
-    }
-}
-
-// A listed version, marked as cut where it is that of this slot.
-fn cut_at(kept: Kept, slot: Slot) -> Kept
-    ensures { result ≡ cut_at slot kept }
-{
-    Kept {
-        stamp: kept.stamp,
-        slot: kept.slot,
-        is_cut: kept.is_cut || kept.slot == slot,
-    }
-}
-
-// Behind the versions of no greater stamp, where one of this stamp goes in. It looks at the last version before it searches.
-fn place_above(list: &[Kept], stamp: Stamp) -> usize
-    requires { Ascends list.now }
-    ensures within { result ≤ length list.now }
-    ensures place { EndsAtMost list.now stamp result }
-{
-    if ends_above(list, list.len(), stamp) {
-        return list.partition_point(|kept| kept.stamp <= stamp);
-    }
-    list.len()
 }
 
 // Behind the versions of lower stamps, where those of this stamp begin. It looks at the last few versions before it searches.
@@ -296,20 +217,12 @@ fn end_of_run(list: &[Kept], first: usize, stamp: Stamp) -> usize
     list.len()
 }
 
-// Puts those versions of a run that their cells hold at its begin, in their order, and answers how many they are.
-fn gather_held(run: &mut [Kept], block: &Block, tenant: u32) -> usize
-    ensures within { result ≤ length run.old }
-    ensures held { take result run.new ≡ filter (is_named tenant block.now) run.old }
+// Whether one of these versions is in this slot. It visits each of them.
+#[inline(always)]
+fn names_slot(run: &[Kept], slot: Slot) -> bool
+    ensures { result ≡ list_any (λ k. k.slot == slot) run.now }
 {
-    let mut held = 0;
-    for place in 0..run.len() {
-        let kept = run[place];
-        if is_held(block, tenant, &kept) {
-            run[held] = kept;
-            held += 1;
-        }
-    }
-    held
+    run.iter().any(|kept| kept.slot == slot)
 }
 
 // Whether the cell of a listed version holds a version of the tenant and of this stamp.

@@ -9,7 +9,7 @@ use Rattle.prepare_commit.proofs.fill.add_versions.Given as goal
 
 abbrev pub invariant-loop-stamped : goal.invariant-loop-stamped
 invariant-loop-stamped l =
-    AreIn l.block l.held.chains l.held.is_swept
+    AreIn l.block l.held.chains
     × ChangesOwn l.fn.block l.block l.fn.held.chains l.held.chains
     × IsLaid l.items.items (chain_lists l.block l.held.chains)
     × ((d : Version) → SameMembers (together (item_chains l.items.items (chain_lists l.block l.held.chains))) (take l.stamped-index (named d l.versions l.places)))

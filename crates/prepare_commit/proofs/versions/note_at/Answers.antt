@@ -30,7 +30,7 @@ is c =
 pub chain_of-requires-clause-named : goal.chain_of-requires-clause-named
 chain_of-requires-clause-named c =
     let at = (goal.at.chain_of-requires-clause-named c).After-kept_in in
-    place_named c.args.block.now c.args.chains.now c.args.stamp _ _ (within at) (is at) c.requires.list.swept
+    place_named c.args.block.now c.args.chains.now c.args.stamp _ _ (within at) (is at) c.requires.swept
 
 pub note-requires : goal.note-requires
 note-requires c = omega (arith, c.chain_of.ensures.known, c.loop-place.invariant.0, c.requires.long)
@@ -58,7 +58,7 @@ returns-clause-noted c chain free =
             ∙ elim (cases_lt 0 (count_by test (chain_versions c.args.block.now c.args.chains.now chain))) [
               | inl more ↦
                   let test = λ (k : Kept). chain_in c.args.block.now k.slot == chain in
-                  let there = counted test all (chain_placed c.args.block.now c.args.chains.now c.requires.stands c.requires.list.listed.named c.args.stamp chain known more) in
+                  let there = counted test all (chain_placed c.args.block.now c.args.chains.now c.requires.stands c.requires.list c.args.stamp chain known more) in
                   let any = any_is test all there.0 there.1 there.2 in
                   absurd (both_ways (is_done c.args.block.now all c.loop-place.place chain) both.1 (ap (list_any test) (take_all c.loop-place.place all end) ∙ any))
               | inr none ↦ omega (arith, none)

@@ -10,7 +10,7 @@ invariant-loop-place l =
     let new = l.self-inside in
     let start = old.versions.chains in
     record {
-      begins : Begins l.fn.block start old.index old.changed old.last_base.since;
+      begins : Begins l.fn.block start l.fn.stamp old.index old.changed old.last_base.since;
       so_far : SoFar l.fn.block l.block start new.versions.chains l.fn.stamp l.place old.index new.index l.count l.fn.visits l.visits;
       long : length new.changed ≡ length old.changed;
       noted : (chain : ℕ) → get_or new.changed chain false ≡ (get_or old.changed chain false || is_done l.fn.block (places start l.fn.stamp) l.place chain);

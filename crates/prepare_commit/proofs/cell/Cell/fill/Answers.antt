@@ -37,7 +37,6 @@ abbrev before : (c : After-add_items) → Parts
 before c = record {
   room = record { slots = c.self.inside.slots; items = c.self.inside.items; clients = c.self.inside.clients };
   chains = c.self.inside.versions.chains;
-  is_swept = c.self.inside.versions.is_swept;
   items = c.self.inside.entries.items;
   index = c.self.inside.index;
   marks = c.self.inside.marks.items;

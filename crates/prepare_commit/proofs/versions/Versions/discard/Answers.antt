@@ -7,29 +7,28 @@ use Rattle.prepare_commit.proofs.AllChains.{count_all}
 use Rattle.prepare_commit.proofs.AllPlaces.{places_count}
 use Rattle.prepare_commit.proofs.Chaining.{chains_each, chains_long}
 use Rattle.prepare_commit.proofs.EachPlace.{used_is}
-use Rattle.prepare_commit.proofs.Owning.{own_after, still_stands}
+use Rattle.prepare_commit.proofs.Owning.{own_after}
 use Rattle.prepare_commit.proofs.Since.{noted_gone}
 use Rattle.prepare_commit.proofs.versions.Versions.discard.Goals as goal
 
-pub sweep_unless-requires : goal.sweep_unless-requires
-sweep_unless-requires c = record { listed = c.requires.lies.listed; swept = c.requires.lies.swept }
-
 pub note_at-requires : goal.note_at-requires
 note_at-requires c =
-    let done = c.sweep_unless.ensures in
+    let done = c.sweep_at.ensures in
     record {
-      stands = still_stands c.args.block.now c.args.self.now.chains c.sweep_unless.new.chains done.rest c.requires.lies.stands;
-      list = done.list;
+      stands = done.lies.stands;
+      list = done.lies.listed;
+      swept = done.swept;
       run = c.places_at-first.ensures;
       long = c.requires.as_long ∙ chains_long c.args.block.now c.args.self.now.chains ∙ sym (ap (λ (h : Heads). length h.heads) done.rest);
     }
 
 pub discard_at-requires : goal.discard_at-requires
 discard_at-requires c =
-    let done = c.sweep_unless.ensures in
+    let done = c.sweep_at.ensures in
     record {
-      stands = still_stands c.args.block.now c.args.self.now.chains c.sweep_unless.new.chains done.rest c.requires.lies.stands;
-      list = done.list;
+      stands = done.lies.stands;
+      list = done.lies.listed;
+      swept = done.swept;
       few = omega (arith, c.requires.few, ap (λ (h : Heads). h.used) done.rest);
       before = c.requires.before;
     }
@@ -39,13 +38,13 @@ returns c =
     let done = c.discard_at.ensures in
     let block = c.args.block.now in
     let start = c.args.self.now.chains in
-    let heads : Heads = c.sweep_unless.new.chains in
-    let swept = c.sweep_unless.ensures in
+    let heads : Heads = c.sweep_at.new.self.chains in
+    let swept = c.sweep_at.ensures in
     let seen : held_in block heads ≡ held_in block start = ap (held_in block) swept.rest in
     let test = λ (v : Version). v.prepared.stamp == c.args.stamp in
     record {
       changed = record {
-        lies = record { stands = done.stands; listed = done.list.listed; swept = λ _. done.list.swept };
+        lies = record { stands = done.stands; listed = done.list };
         own = own_after block start heads swept.rest c.discard_at.new.block c.discard_at.new.self done.own;
       };
       gone =
@@ -54,7 +53,7 @@ returns c =
       fewer = omega (arith, done.given_up.used, ap (λ (h : Heads). h.used) swept.rest);
       visits = λ items all.
           done.visits
-          ∙ ap (λ n. c.args.visits.now + n) (places_count block heads c.args.stamp (still_stands block start heads swept.rest c.requires.lies.stands) swept.list.listed swept.list.swept
+          ∙ ap (λ n. c.args.visits.now + n) (places_count block heads c.args.stamp swept.lies.stands swept.lies.listed swept.swept
           ∙ ap (λ (h : Chained). sum_by (count_by test) h.chains) seen
           ∙ sym (count_all items (held_in block start) all (used_is block start c.requires.lies.stands) test));
       since = record {

@@ -1,10 +1,7 @@
-use Rattle.std.proofs.Common.{◌≡◌, ℕ, Option, Some, IsSomeAnd, subst, sym, ap, ◌∙◌, arith}
-use Rattle.version_arena.specs.Arena.{entry}
-use Rattle.version_chain.specs.Node.{Node}
-use Rattle.version_chain.specs.Listed.{cut_in, with_kept}
+use Rattle.std.proofs.Common.{Some, subst, ap, arith}
 use Rattle.version_chain.specs.Heads.{Heads}
 use Rattle.version_chain.specs.Place.{IsPlace}
-use Rattle.version_chain.proofs.Cutting.{Cut, cut_begun, cut_step, cut_done}
+use Rattle.version_chain.proofs.Cutting.{cut_begun, cut_step, cut_done}
 use Rattle.version_chain.proofs.chains.Chains.cut_below.Goals as goal
 
 pub loop-here-init : goal.loop-here-init
@@ -27,10 +24,5 @@ pub loop-here-preserved : goal.loop-here-preserved
 loop-here-preserved c =
     let cut = c.loop-here.invariant in
     let left = c.unlink.ensures in
-    let kept = c.note_cut.new.self.kept in
     let place : IsPlace c.loop-here.block c.loop-here.self c.args.chain c.args.floor c.seek.result.0 (Some c.in-Some.slot) = subst (λ here. IsPlace c.loop-here.block c.loop-here.self c.args.chain c.args.floor c.seek.result.0 here) c.in-Some.is cut.place in
-    let its : IsSomeAnd (entry c.loop-here.block c.in-Some.slot) (λ cell. c.stamp-stamp.result ≡ cell.0.version.prepared.stamp) =
-    subst (λ (e : Option (Node × Option ℕ)). IsSomeAnd e (λ cell. c.stamp-stamp.result ≡ cell.0.version.prepared.stamp)) (sym c.get.ensures) c.stamp-stamp.ensures.value in
-    subst (λ (h : Heads). Cut c.args.block.now c.unlink.new.block c.args.self.now (with_kept h kept) c.args.chain c.args.floor c.seek.result.0 c.next-here.result) (sym c.self-in-Some.view_is)
-    (cut_step _ _ _ _ _ _ kept _ _ _ _ _ c.in-Some.slot c.stamp-stamp.result cut c.in-Some.is left.changed left.removed left.freed left.listed (rw c.next-here.ensures (left.place c.args.floor place)) its
-    (c.note_cut.ensures.noted ∙ ap (λ (h : Heads). cut_in c.stamp-stamp.result c.in-Some.slot h.kept) c.self-in-Some.view_is))
+    cut_step _ _ _ _ _ _ _ _ _ _ _ c.in-Some.slot cut c.in-Some.is left.changed left.removed left.freed left.listed (rw c.next-here.ensures (left.place c.args.floor place))

@@ -1,53 +1,47 @@
-use Rattle.std.proofs.Common.{◌≡◌, ℕ, count_by, sym, ap, subst, ◌∙◌, arith}
+use Rattle.std.proofs.Common.{◌≡◌, ◌+◌, ◌<◌, List, length, get_or, ap, ◌∙◌, arith}
 use Rattle.version_chain.specs.declared.stamp_list.Kept.{Kept}
-use Rattle.version_chain.specs.Heads.{Heads}
-use Rattle.version_chain.specs.Chain.{Cells, HoldsChains}
-use Rattle.version_chain.specs.Changes.{GivesUp, ListsExactly}
-use Rattle.version_chain.specs.Listed.{with_kept, Names}
-use Rattle.version_chain.specs.Sharing.{ChangesOwn}
-use Rattle.version_chain.proofs.Changing.{own_listed}
-use Rattle.version_chain.proofs.Listing.{lists_uncut, is_swept, none_cut, stands_with}
+use Rattle.version_chain.proofs.Discarding.{none_dropped, one_dropped, all_dropped}
+use Rattle.version_chain.proofs.Places.{held_few, places, places_long, place_in}
 use Rattle.version_chain.proofs.chains.Chains.discard_at.Goals as goal
+use Rattle.version_chain.proofs.chains.Chains.discard_at.Goals.{After-discard_slot-dropped}
 
-abbrev before : (c : goal.After-sweep_at) → Heads
-before c = record { tenant = c.self.inside.tenant; share = c.self.inside.share; used = c.self.inside.used; heads = c.self.inside.heads.items; latest = c.self.inside.latest.items; kept = c.self.inside.kept.kept }
+pub loop-place-init : goal.loop-place-init
+loop-place-init c = (none_dropped c.args.block.now c.args.self.now c.args.stamp c.requires.stands c.requires.list, omega arith)
 
--- no version was marked as cut before, and the list is the same
-uncut : (c : goal.After-sweep_at) → count_by (λ (k : Kept). k.is_cut) (before c).kept ≡ 0
-uncut c =
-    ap (λ (h : Heads). count_by (λ (k : Kept). k.is_cut) h.kept) c.self.view_is
-    ∙ ap (count_by (λ (k : Kept). k.is_cut)) c.discard_each-dropped.ensures.list
-    ∙ none_cut c.args.block.now c.args.self.now c.requires.list.listed c.requires.list.swept
+pub tick-requires : goal.tick-requires
+tick-requires c =
+    let few = held_few c.args.block.now c.args.self.now c.requires.stands c.requires.list c.args.stamp c.requires.swept in
+    omega (arith, c.loop-place-test.true, (places_long c.args.self.now c.args.stamp c.places_at-first.result.0 c.places_at-first.result.1 c.places_at-first.ensures), few, c.requires.few, c.requires.before, c.loop-place.invariant.1)
 
-pub returns-clause-list : goal.returns-clause-list
-returns-clause-list c = record {
-  listed = lists_uncut c.discard_each-dropped.new.block (before c) c.sweep_at.new.self.kept c.sweep_at.ensures.swept (uncut c)
-      (subst (λ (h : Heads). Names c.discard_each-dropped.new.block h) (sym c.self.view_is) c.discard_each-dropped.ensures.named);
-  swept = is_swept c.discard_each-dropped.new.block (before c) c.sweep_at.new.self.kept c.sweep_at.ensures.swept;
-}
+pub overflow_add-dropped : goal.overflow_add-dropped
+overflow_add-dropped c = omega (arith, c.discard_slot-dropped.ensures.given_up.used, c.loop-place.invariant.0.given_up.used, c.requires.few)
 
-pub returns-clause-own : goal.returns-clause-own
-returns-clause-own c =
-    subst (λ (h : Heads). ChangesOwn c.args.block.now c.discard_each-dropped.new.block c.args.self.now (with_kept h c.sweep_at.new.self.kept)) (sym c.self.view_is)
-    (own_listed c.args.block.now c.discard_each-dropped.new.block c.args.self.now c.discard_each-dropped.new.self c.sweep_at.new.self.kept c.discard_each-dropped.ensures.own)
+within : (c : After-discard_slot-dropped) → c.loop-place.place < length (places c.args.self.now c.args.stamp)
+within c = omega (arith, c.loop-place-test.true, (places_long c.args.self.now c.args.stamp c.places_at-first.result.0 c.places_at-first.result.1 c.places_at-first.ensures))
 
-pub returns-clause-given_up : goal.returns-clause-given_up
-returns-clause-given_up c = record {
-  used = omega (arith, c.discard_each-dropped.ensures.given_up.used, ap (λ (h : Heads). h.used) c.self.view_is);
-  none = λ e. absurd (c.if-dropped-eq0.false e);
-}
+is : (c : After-discard_slot-dropped) → c.kept_in-slot.result ≡ get_or (places c.args.self.now c.args.stamp) c.loop-place.place c.kept_in-slot.result
+is c =
+    place_in c.args.self.now c.args.stamp c.places_at-first.result.0 c.places_at-first.result.1 c.places_at-first.ensures c.loop-place.place c.kept_in-slot.result c.loop-place-test.true
+    (c.kept_in-slot.ensures ∙ ap (λ (ks : List Kept). get_or ks (c.places_at-first.result.0 + c.loop-place.place) c.kept_in-slot.result) c.loop-place.invariant.0.list)
 
--- where none was given up, the list is as it was
-pub returns-then-dropped-eq0-clause-list : goal.returns-then-dropped-eq0-clause-list
-returns-then-dropped-eq0-clause-list c =
-    let same = c.discard_each-dropped.ensures.given_up.none c.if-dropped-eq0.true in
-    let P : Cells → Heads → Type 0 = λ block heads. ListsExactly block heads in
-    subst (λ block. P block c.discard_each-dropped.new.self) (sym same.0) (subst (λ heads. P c.args.block.now heads) (sym same.1) c.requires.list)
+pub loop-place-preserved : goal.loop-place-preserved
+loop-place-preserved c =
+    let at = (goal.at.loop-place-preserved c).After-discard_slot-dropped in
+    let left = c.discard_slot-dropped.ensures in (
+      one_dropped c.args.block.now c.loop-place.block c.discard_slot-dropped.new.block c.args.self.now c.loop-place.self c.discard_slot-dropped.new.self c.args.stamp c.loop-place.place c.loop-place.dropped c.discard_slot-dropped.result c.kept_in-slot.result
+          c.loop-place.invariant.0 (within at) (is at) left.own left.stands left.left left.gone left.given_up left.dropped,
+      omega (arith, c.tick.ensures, c.loop-place.invariant.1),
+    )
 
-pub returns-then-dropped-eq0-clause-given_up : goal.returns-then-dropped-eq0-clause-given_up
-returns-then-dropped-eq0-clause-given_up c =
-    subst (λ (n : ℕ). GivesUp n c.args.block.now c.args.self.now c.discard_each-dropped.new.block c.discard_each-dropped.new.self) c.if-dropped-eq0.true c.discard_each-dropped.ensures.given_up
-
-pub returns-clause-stands : goal.returns-clause-stands
-returns-clause-stands c =
-    stands_with c.discard_each-dropped.new.block (before c) c.sweep_at.new.self.kept (subst (λ (h : Heads). HoldsChains c.discard_each-dropped.new.block h) (sym c.self.view_is) c.discard_each-dropped.ensures.stands)
+pub returns : goal.returns
+returns c =
+    let was = c.loop-place.invariant.0 in
+    let all = places_long c.args.self.now c.args.stamp c.places_at-first.result.0 c.places_at-first.result.1 c.places_at-first.ensures in
+    record {
+      own = was.own;
+      stands = was.stands;
+      kept = all_dropped c.args.block.now c.loop-place.block c.args.self.now c.loop-place.self c.args.stamp c.loop-place.place c.loop-place.dropped was (omega (arith, all, c.loop-place-test.false));
+      given_up = was.given_up;
+      list = was.named;
+      visits = omega (arith, c.loop-place.invariant.1, c.loop-place-test.false, c.loop-place.auto.place-end, all);
+    }

@@ -2,8 +2,7 @@ use Rattle.std.proofs.Common.{true, length, length-append, count_by, ap, arith}
 use Rattle.version_chain.specs.declared.stamp_list.Kept.{Kept}
 use Rattle.version_chain.specs.Listed.{held_at}
 use Rattle.version_chain.specs.Listing.{KeptListing}
-use Rattle.version_chain.proofs.Listing.{cons}
-use Rattle.version_chain.proofs.TwoLists.{count_both, count_all, apart_swap, apart_added}
+use Rattle.version_chain.proofs.TwoLists.{count_both, count_all, apart_swap, apart_added, listed_beside}
 use Rattle.version_chain.proofs.kept_list.KeptList.insert.Goals as goal
 
 pub make_room-requires-clause-any : goal.make_room-requires-clause-any
@@ -43,47 +42,31 @@ invariant_of-self c =
     let main = c.make_room.new.main.kept in
     let late = c.make_room.new.late.kept in
     let version : Kept = held_at c.args.stamp c.args.slot in (
-      apart_swap c.insert.new.self.kept main (apart_added late main c.insert.new.self.kept version (apart_swap main late c.make_room.ensures.apart) (c.is_late.ensures.late c.if-is_late.true) c.insert.ensures.inserted),
+      apart_swap c.insert.new.self.kept main (apart_added late main c.insert.new.self.kept version (apart_swap main late c.make_room.ensures.apart) (c.is_late.ensures.late c.if-is_late.true) c.insert.ensures.listed),
       λ any. omega (arith, c.insert.ensures.room, c.make_room.ensures.free),
     )
 
-pub returns-then-is_late-clause-inserted : goal.returns-then-is_late-clause-inserted
-returns-then-is_late-clause-inserted c test =
+pub returns-then-is_late-clause-listed : goal.returns-then-is_late-clause-listed
+returns-then-is_late-clause-listed c test =
     let main = c.make_room.new.main.kept in
     let late = c.make_room.new.late.kept in
-    let version : Kept = held_at c.args.stamp c.args.slot in
-    omega (
-      arith,
-      c.insert.ensures.inserted test,
-      cons test version late,
-      cons test version c.args.self.now.kept,
-      count_both test main c.insert.new.self.kept,
-      count_both test c.self.inside.main.kept c.self.inside.late.kept,
-      c.make_room.ensures.same test,
-      ap (λ (l : KeptListing). count_by test l.kept) c.self.view_is,
-    )
+    let whole = listed_beside c.args.self.now.kept late c.insert.new.self.kept main (held_at c.args.stamp c.args.slot) (c.is_late.ensures.late c.if-is_late.true)
+    (λ p. omega (arith, count_both p c.self.inside.main.kept c.self.inside.late.kept, c.make_room.ensures.same p, ap (λ (l : KeptListing). count_by p l.kept) c.self.view_is)) c.insert.ensures.listed test in
+    omega (arith, whole, count_both test main c.insert.new.self.kept)
 
 pub invariant_of-self-else-is_late : goal.invariant_of-self-else-is_late
 invariant_of-self-else-is_late c =
     let main = c.make_room.new.main.kept in
     let late = c.make_room.new.late.kept in
     let version : Kept = held_at c.args.stamp c.args.slot in (
-      apart_added main late c.insert-else-is_late.new.self.kept version c.make_room.ensures.apart (c.is_late.ensures.not_late c.if-is_late.false) c.insert-else-is_late.ensures.inserted,
+      apart_added main late c.insert-else-is_late.new.self.kept version c.make_room.ensures.apart (c.is_late.ensures.not_late c.if-is_late.false) c.insert-else-is_late.ensures.listed,
       λ any. omega (arith, c.make_room.ensures.free),
     )
 
-pub returns-else-is_late-clause-inserted : goal.returns-else-is_late-clause-inserted
-returns-else-is_late-clause-inserted c test =
+pub returns-else-is_late-clause-listed : goal.returns-else-is_late-clause-listed
+returns-else-is_late-clause-listed c test =
     let main = c.make_room.new.main.kept in
     let late = c.make_room.new.late.kept in
-    let version : Kept = held_at c.args.stamp c.args.slot in
-    omega (
-      arith,
-      c.insert-else-is_late.ensures.inserted test,
-      cons test version main,
-      cons test version c.args.self.now.kept,
-      count_both test c.insert-else-is_late.new.self.kept late,
-      count_both test c.self.inside.main.kept c.self.inside.late.kept,
-      c.make_room.ensures.same test,
-      ap (λ (l : KeptListing). count_by test l.kept) c.self.view_is,
-    )
+    let whole = listed_beside c.args.self.now.kept main c.insert-else-is_late.new.self.kept late (held_at c.args.stamp c.args.slot) (c.is_late.ensures.not_late c.if-is_late.false)
+    (λ p. omega (arith, count_both p c.self.inside.main.kept c.self.inside.late.kept, c.make_room.ensures.same p, ap (λ (l : KeptListing). count_by p l.kept) c.self.view_is)) c.insert-else-is_late.ensures.listed test in
+    omega (arith, whole, count_both test c.insert-else-is_late.new.self.kept late)

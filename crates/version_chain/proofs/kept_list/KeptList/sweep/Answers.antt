@@ -1,10 +1,10 @@
-use Rattle.std.proofs.Common.{◌≡◌, Bool, true, count_by, sym, ap, ◌∙◌}
-use Rattle.version_chain.specs.Listed.{is_long, is_mismarked}
-use Rattle.version_chain.proofs.Listing.{uncut_named}
+use Rattle.std.proofs.Common.{arith}
+use Rattle.version_chain.specs.Listed.{is_named}
+use Rattle.version_chain.proofs.TwoLists.{apart_filtered}
 use Rattle.version_chain.proofs.kept_list.KeptList.sweep.Goals as goal
 
-pub returns-then-is_long-clause-swept : goal.returns-then-is_long-clause-swept
-returns-then-is_long-clause-swept c =
-    let long : is_long c.args.self.now.kept ≡ true = sym c.is_long.ensures ∙ c.if-is_long.true in
-    c.sweep_marked.ensures.swept
-    ∙ uncut_named c.args.block.now c.args.tenant c.args.self.now.kept (ap (λ (b : Bool). count_by (is_mismarked c.args.tenant c.args.block.now b) c.args.self.now.kept) (sym long) ∙ c.requires)
+pub invariant_of-self : goal.invariant_of-self
+invariant_of-self c = (
+  apart_filtered (is_named c.args.tenant c.args.block.now) c.self.inside.main.kept c.self.inside.late.kept c.sweep_unheld.new.self.kept c.sweep_unheld-2.new.self.kept c.sweep_unheld.ensures.swept c.sweep_unheld-2.ensures.swept c.self.invariant.0,
+  λ any. omega (arith, c.sweep_unheld.ensures.room, c.sweep_unheld-2.ensures.room, c.self.invariant.1 (omega (arith, any, c.sweep_unheld.ensures.room))),
+)

@@ -26,3 +26,6 @@ returns-clause-together c =
     rw (← c.self.view_is)
     (at_stamp_range c.self.inside.kept.items c.args.stamp c.place_from-first.result c.end_of_run.result (rw c.deref.ensures.value at c.place_from-first.ensures.place) (rw c.deref-2.ensures.value at c.end_of_run.ensures.place)
     (rw c.deref.ensures.value at c.place_from-first.ensures.within) (rw c.deref-2.ensures.value at c.end_of_run.ensures.within))
+
+pub returns-clause-above : goal.returns-clause-above
+returns-clause-above c = rw (← c.self.view_is) (rw c.deref-2.ensures.value at c.end_of_run.ensures.place)

@@ -1,6 +1,6 @@
 use Rattle.std.proofs.Common.{◌≡◌, ◌+◌}
 use Rattle.version_chain.proofs.Discarding.{SoDropped}
-use Rattle.version_chain.proofs.chains.Chains.discard_each.Given as goal
+use Rattle.version_chain.proofs.chains.Chains.discard_at.Given as goal
 
 abbrev pub invariant-loop-place : goal.invariant-loop-place
 invariant-loop-place l =

@@ -1,0 +1,21 @@
+use Rattle.std.proofs.Common.{sym, subst, ap, arith}
+use Rattle.version_chain.specs.Heads.{Heads}
+use Rattle.version_chain.specs.Chain.{HoldsChains}
+use Rattle.version_chain.specs.Listed.{with_kept, Lists}
+use Rattle.version_chain.proofs.Listing.{is_swept, lists_swept, no_more_listed, stands_with}
+use Rattle.version_chain.proofs.chains.Chains.tidy.Goals as goal
+
+pub returns-then-is_due-clause-list : goal.returns-then-is_due-clause-list
+returns-then-is_due-clause-list c =
+    let before : Heads = record { tenant = c.self.inside.tenant; share = c.self.inside.share; used = c.self.inside.used; heads = c.self.inside.heads.items; latest = c.self.inside.latest.items; kept = c.self.inside.kept.kept } in
+    lists_swept c.args.block.now before c.sweep.new.self.kept c.sweep.ensures.swept (subst (λ (h : Heads). Lists c.args.block.now h) (sym c.self.view_is) c.requires.list)
+
+pub returns-then-is_due-clause-room : goal.returns-then-is_due-clause-room
+returns-then-is_due-clause-room c =
+    let before : Heads = record { tenant = c.self.inside.tenant; share = c.self.inside.share; used = c.self.inside.used; heads = c.self.inside.heads.items; latest = c.self.inside.latest.items; kept = c.self.inside.kept.kept } in
+    let block = c.args.block.now in
+    let kept = c.sweep.new.self.kept in
+    let lists = lists_swept block before kept c.sweep.ensures.swept (subst (λ (h : Heads). Lists block h) (sym c.self.view_is) c.requires.list) in
+    let stands = stands_with block before kept (subst (λ (h : Heads). HoldsChains block h) (sym c.self.view_is) c.requires.stands) in
+    let few = no_more_listed block (with_kept before kept) lists stands (is_swept block before kept c.sweep.ensures.swept) in
+    omega (arith, few, c.requires.room, ap (λ (h : Heads). h.used) c.self.view_is)
