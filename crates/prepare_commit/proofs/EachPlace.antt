@@ -1,9 +1,8 @@
 -- For `Cell::commit_counted`. The versions of a stamp that are committed one after another, by their places in the list.
-use Rattle.std.proofs.Common.{◌≡◌, ◌≢◌, inl, inr, ℕ, ◌+◌, ◌^◌, ◌<◌, ◌≤◌, ◌==◌, ◌&&◌, ◌||◌, Bool, true, false, cond, List, [], ◌∷◌, ◌++◌, map, set, take, length, get_or, sum_by, All, Option, Some, None, bytes_eq, refl, sym, ap, subst, ◌∙◌, arith}
+use Rattle.std.proofs.Common.{◌≡◌, ◌≢◌, inl, inr, ℕ, ◌+◌, ◌^◌, ◌<◌, ◌≤◌, ◌==◌, ◌&&◌, ◌||◌, Bool, true, false, cond, List, [], ◌∷◌, ◌++◌, map, set, take, length, get_or, sum_by, All, Option, Some, None, is_some, bytes_eq, refl, sym, ap, subst, ◌∙◌, arith}
 use mathlib.Core.Bool.{or-false, or_self_left}
 use mathlib.Core.List.{map-map}
 use Rattle.std.specs.List.{list_any, flat_map}
-use Rattle.std.specs.FinMap.{insert}
 use Rattle.std.proofs.Math.ListN.{get_or-eq_default}
 use Rattle.std.proofs.lemmas.Bool.{eq-eqb, ne_eqb, cases_lt, or_right, or_parts}
 use Rattle.std.proofs.lemmas.Bool.Decides.{nat_tests}
@@ -12,7 +11,7 @@ use Rattle.std.proofs.lemmas.List.Concat.{flat_map-append}
 use Rattle.std.proofs.lemmas.List.Folds.{list_any-append, list_any_more}
 use Rattle.plain_store.specs.Log.{is_version}
 use Rattle.plain_store.specs.Words.{Key}
-use Rattle.secondary_index.specs.Index.{Index}
+use Rattle.secondary_index.specs.Index.{Index, with_tag}
 use Rattle.stamps.specs.Record.{Record}
 use Rattle.version_arena.specs.Arena.{entry, beside, next_beside}
 use Rattle.version_chain.specs.Node.{Node}
@@ -29,16 +28,16 @@ use Rattle.version_chain.proofs.Places.{places, place_stamp, place_named}
 use Rattle.version_chain.proofs.Replacing.{same_or_not}
 use Rattle.prepare_commit.specs.declared.items.ChainedItem.{ChainedItem}
 use Rattle.prepare_commit.specs.Calls.{KnowsHeld}
-use Rattle.prepare_commit.specs.Content.{marked_at, has_version_of, HasSameKeys, IsMoved, IsLatest}
-use Rattle.prepare_commit.specs.Layout.{held_in, chain_at, chain_lists, together, item_chains, IsVersionOf, HaveAll}
+use Rattle.prepare_commit.specs.Content.{marked_at, has_version_of, KnowsItems, IsMoved, IsLatest}
+use Rattle.prepare_commit.specs.Layout.{held_in, chain_at, chain_lists, together, item_chains, entries_of, IsVersionOf, HaveAll}
 use Rattle.prepare_commit.proofs.AllChains.{ItsItem, item_of}
 use Rattle.prepare_commit.proofs.Chaining.{chain_is, chains_long}
 use Rattle.prepare_commit.proofs.ItemByItem.{marked_own, key_at}
 use Rattle.prepare_commit.proofs.ListsOfLists.{at_each, sum_by-map}
-use Rattle.prepare_commit.proofs.Moving.{moved_item, same_keys-trans}
+use Rattle.prepare_commit.proofs.Moving.{moved_item, knows_set}
 use Rattle.prepare_commit.proofs.Noting.{set_at}
 use Rattle.prepare_commit.specs.Remembered.{AreNotedWhere}
-use Rattle.prepare_commit.proofs.OwnChains.{laid_each, latest_of, own_chain}
+use Rattle.prepare_commit.proofs.OwnChains.{laid_each, latest_of, own_chain, entry_is}
 
 -- the version in a cell
 abbrev pub version_in : Option (Node × Option ℕ) → List Version
@@ -85,7 +84,7 @@ pub record SoFar (start now : Cells) (chains heads : Heads) (stamp j : ℕ) (old
   pub counted : count ≡ j
   pub visited : visits ≡ before + j
   pub room : index.room ≡ old.room
-  pub keys : HasSameKeys old.tags index.tags
+  pub keys : (items : List ChainedItem) → HaveAll items (held_in start chains) → KnowsItems old.tags (entries_of items) → KnowsItems index.tags (entries_of items)
   pub moved : (items : List ChainedItem) → HaveAll items (held_in start chains) → IsMoved stamp (seen start (places chains stamp) j) (marked_together stamp items (chain_lists start chains)) old.tags index.tags
 
 -- ---- one place more
@@ -187,10 +186,10 @@ module _ (start now : Cells) (chains heads : Heads) (stamp j : ℕ) (old index :
   Facts next next_index h k =
       NoneMove now next h.tenant × OtherChainsKept now h next k (chain_in now kept.slot)
       × (chain_versions next k (chain_in now kept.slot) ≡ map (marked_at kept.stamp) (chain_versions now h (chain_in now kept.slot)))
-      × ((key : Key) → All (IsVersionOf key) (chain_versions now h (chain_in now kept.slot)) → (latest : Version) × IsLatest key (chain_versions next k (chain_in now kept.slot)) (Some latest) × (next_index.tags ≡ insert index.tags key latest.prepared.tag))
+      × ((key : Key) → All (IsVersionOf key) (chain_versions now h (chain_in now kept.slot)) → (latest : Version) × IsLatest key (chain_versions next k (chain_in now kept.slot)) (Some latest) × (next_index.tags ≡ with_tag index.tags key latest.prepared.tag))
 
   module _ (next : Cells) (after : Heads) (next_index : Index) (stands_next : HoldsChains next after) (rest_next : after ≡ with_latest chains after.latest) (told : Facts next next_index heads after) (places_stay : (slot : ℕ) → chain_in next slot ≡ chain_in now slot)
-      (own : ChangesOwn now next heads after) (room : next_index.room ≡ index.room) (keys : HasSameKeys index.tags next_index.tags) where
+      (own : ChangesOwn now next heads after) (room : next_index.room ≡ index.room) where
     facts : Facts next next_index chains chains
     facts = subst (λ (k : Heads). Facts next next_index chains k) rest_next (subst (λ (h : Heads). Facts next next_index h after) was.rest told)
 
@@ -229,8 +228,17 @@ module _ (start now : Cells) (chains heads : Heads) (stamp j : ℕ) (old index :
         let latest_v : IsLatest v.prepared.key all (Some u) = subst (λ k. IsLatest k all (Some u)) (sym key) latest in
         let done = moved_item stamp (seen start (places chains stamp) j) (seen start (places chains stamp) (j + 1)) all old.tags index.tags v.prepared.key (v.prepared.stamp == stamp)
         (seen_more start (places chains stamp) j kept within is stamp v at.here) (was.moved items have) (eq-eqb v.prepared.stamp stamp at.stamp_is) u latest_v in
-        let tags : insert index.tags v.prepared.key u.prepared.tag ≡ next_index.tags = ap (λ k. insert index.tags k u.prepared.tag) key ∙ sym got.2 in
+        let tags : with_tag index.tags v.prepared.key u.prepared.tag ≡ next_index.tags = ap (λ k. with_tag index.tags k u.prepared.tag) key ∙ sym got.2 in
         subst (λ t. IsMoved stamp (seen start (places chains stamp) (j + 1)) all old.tags t) tags done
+
+    keys_next : (items : List ChainedItem) → HaveAll items (held_in start chains) → KnowsItems old.tags (entries_of items) → KnowsItems next_index.tags (entries_of items)
+    keys_next items have knows =
+        let at = named_start in
+        let owner = owner_of start chains (chain_in start kept.slot) stamp at.version.prepared items stands at.known at.found have in
+        let i = owner.item.i in
+        let got = facts.3 i.entry.key (own_so_far i.entry.key owner.own) in
+        subst (λ t. KnowsItems t (entries_of items)) (sym got.2)
+        (knows_set index.tags i.entry.key got.0.prepared.tag (entries_of items) (ap is_some (entry_is items (chain_lists start chains) have.laid owner.item.k i owner.item.within owner.item.is)) (was.keys items have knows))
 
     pub one_more : SoFar start next chains after stamp (j + 1) old next_index (count + 1) before (visits + 1)
     one_more = record {
@@ -246,7 +254,7 @@ module _ (start now : Cells) (chains heads : Heads) (stamp j : ℕ) (old index :
       counted = omega (arith, was.counted);
       visited = omega (arith, was.visited);
       room = room ∙ was.room;
-      keys = same_keys-trans old.tags index.tags next_index.tags was.keys keys;
+      keys = keys_next;
       moved = moved_next;
     }
 

@@ -1,7 +1,6 @@
 -- For `Cell::at` and the module `fill`. What a base has, put into the parts of a cell that holds nothing.
-use Rattle.std.proofs.Common.{◌≡◌, ℕ, ◌+◌, ◌<◌, ◌≤◌, Bool, true, false, cond, nat_lt, is_some, List, [], ◌∷◌, ◌++◌, length, take, get_or, map, count_by, All, Option, Some, None, bytes_eq, inl, inr, refl, sym, ◌∙◌, ap, subst, arith}
+use Rattle.std.proofs.Common.{◌≡◌, ℕ, ◌+◌, ◌<◌, ◌≤◌, Bool, true, false, cond, nat_lt, is_some, unwrap_or, List, [], ◌∷◌, ◌++◌, length, take, get_or, map, count_by, All, Option, Some, None, bytes_eq, inl, inr, refl, sym, ◌∙◌, ap, subst, arith}
 use Rattle.std.specs.Prelude.{IsTrue, IsPermutation}
-use Rattle.std.specs.List.{list_any}
 use Rattle.std.specs.FinMap as fin
 use Rattle.std.specs.FinMap.{nat_cmp-IsAntisymmetric}
 use Rattle.std.specs.FinMap.Entries.{below_all}
@@ -9,11 +8,10 @@ use Rattle.std.specs.Ordering.{nat_cmp, is_lt}
 use Rattle.std.proofs.lemmas.Cmp.{nat_cmp_total}
 use Rattle.std.specs.declared.cmp.Ordering.TheVariants.{Less}
 use Rattle.std.proofs.lemmas.List.Sums.{count_by_more_yes, sum_by-take-le}
-use Rattle.std.proofs.lemmas.List.Edits.{insert_end}
-use Rattle.std.proofs.lemmas.Bool.{both_ways, and_from, false_from_ne_true, cond-true, cond-false, lt-ltb, cases_lt}
-use Rattle.std.proofs.lemmas.List.{same_lists, take_more, map_more, length-map, length_push, length-take-le, get_or_append_left, get_or_push, get_or-map, get_or_default}
+use Rattle.std.proofs.lemmas.Bool.{both_ways, and_from, false_from_ne_true, cond-true, lt-ltb, cases_lt}
+use Rattle.std.proofs.lemmas.List.{same_lists, take_more, length-map, length_push, get_or_append_left, get_or_push, get_or-map, get_or_default}
 use Rattle.std.proofs.lemmas.List.Sorted.{All-permutation, IsPermutation-map, sum_by-IsPermutation}
-use Rattle.std.proofs.lemmas.List.Elements.{All-nil, All-head, All-tail, All-contains}
+use Rattle.std.proofs.lemmas.List.Elements.{All-nil, All-head, All-tail, All-contains, All-more, All-weaker}
 use Rattle.std.proofs.lemmas.Slice.Eq.{bytes_eq-Decides}
 use Rattle.stamps.specs.Key.{key_cmp}
 use Rattle.stamps.specs.Record.{Record}
@@ -22,7 +20,7 @@ use Rattle.plain_store.specs.Words.{Key, Tag, Room}
 use Rattle.plain_store.proofs.Counting.{counted, uncounted, count_by-push, count_by-cons, find_is, none_found, any_is, In-filter, Contains-from_In}
 use Rattle.plain_store.proofs.Logs.{any_item, is_version-parts, is_version-from}
 use Rattle.secondary_index.specs.Ordered.{IsInOrder}
-use Rattle.secondary_index.specs.Index.{Index, Tags}
+use Rattle.secondary_index.specs.Index.{Index, Tags, tag_of, with_tag}
 use Rattle.secondary_index.proofs.Ordered.{map_of-nil}
 use Rattle.version_chain.specs.declared.version.Version.{Version}
 use Rattle.version_chain.specs.Heads.{Heads}
@@ -35,20 +33,20 @@ use Rattle.prepare_commit.specs.Lists.{SameMembers}
 use Rattle.prepare_commit.specs.Content.{Content, entry_at, version_at, IsLatest, KnowsItems}
 use Rattle.prepare_commit.specs.Marks.{Marks, marks_of, mark_row}
 use Rattle.prepare_commit.specs.Layout.{held_in, chain_lists, chain_at, together, item_chains, entries_of, item_row, committed_version, IsVersionOf, IsLaid, HoldsTogether}
-use Rattle.prepare_commit.specs.Serving.{marked_versions, floored, tag_in, latest_tag, tagged, StandsFor}
+use Rattle.prepare_commit.specs.Serving.{marked_versions, floored, tag_in, latest_tag, StandsFor}
 use Rattle.prepare_commit.specs.Bases.{Frozen, Leaves, HasLog, AreOrdered, IsBefore, IsEntryBefore, AreNumbered, NameEach, HasEntry, IsNew, IsTagOf}
 use Rattle.prepare_commit.proofs.Chaining.{within, at}
 use Rattle.prepare_commit.proofs.Freezing.{same_ordered, laid_ordered}
 use Rattle.prepare_commit.proofs.Committed.{tag_none, tag_some}
 use Rattle.prepare_commit.proofs.ListsOfLists.{All-from_In}
 use Rattle.prepare_commit.proofs.Members.{same_length, same_version, same_version-true, same_version-own, version_kept}
-use Rattle.prepare_commit.proofs.Moving.{knows_item}
+use Rattle.prepare_commit.proofs.Moving.{tag_set, other_set}
 use Rattle.prepare_commit.proofs.Since.{kept_nothing}
 use Rattle.prepare_commit.proofs.OwnChains.{less_apart, record_is, latest_of, entry_is}
 use Rattle.prepare_commit.proofs.SameBase.{version_one_way}
 use Rattle.prepare_commit.proofs.StandsAfter.{record_in, item_by_entry, empty_stands}
 use Rattle.prepare_commit.proofs.Storing.{nothing_holds}
-use Rattle.prepare_commit.proofs.Tagged.{get_set}
+use Rattle.prepare_commit.proofs.Tagged.{no_tag}
 
 -- ---- the items
 
@@ -213,43 +211,45 @@ versions_known base has =
 
 -- ---- the index
 
-abbrev pub IsRight : List KnownItem → List Version → Tags → Type 0
-IsRight entries versions tags = (key : Key) → (tag : Tag) → fin.get tags key ≡ Some tag → HasEntry entries key × IsTagOf key versions tag
+-- a key that it knows is that of an entry
+abbrev pub KnowsEntries : List KnownItem → Tags → Type 0
+KnowsEntries entries tags = (key : Key) → IsTrue (fin.contains_key tags key) → HasEntry entries key
 
-pub right_none : (entries : List KnownItem) (versions : List Version) (tags : Tags) → tags ≡ fin.empty → IsRight entries versions tags
-right_none entries versions tags none key tag e =
-    let nothing : fin.get tags key ≡ None = ap (λ (t : Tags). fin.get t key) none ∙ fin.get-empty key_cmp key in
-    absurd (both_ways (is_some (fin.get tags key)) (ap is_some nothing) (ap is_some e))
+-- each of these items has its tag
+abbrev pub AreRight : List Version → Tags → List ChainedItem → Type 0
+AreRight versions tags items = All (λ (i : ChainedItem). IsTagOf i.entry.key versions (tag_of tags i.entry.key)) items
 
-module _ (items : List ChainedItem) (chains : List (List Version)) (laid : IsLaid items chains) (k : ℕ) (i : ChainedItem) (within : k < length items) (is : i ≡ get_or items k i) (tag : Tag) where
-  -- the tag of the item's chain is its tag
-  pub tag_of_all : IsTagOf i.entry.key (chain_at chains i.chain) tag → IsTagOf i.entry.key (together (item_chains items chains)) tag
-  tag_of_all h = (h.0, latest_of items chains laid k i within is (committed_version h.0) h.1, h.2)
+pub entries_none : (entries : List KnownItem) (tags : Tags) → tags ≡ fin.empty → KnowsEntries entries tags
+entries_none entries tags none key known =
+    absurd (both_ways (fin.contains_key tags key) (ap (λ (t : Tags). fin.contains_key t key) none ∙ ap is_some (fin.get-empty key_cmp key)) known)
 
-  pub right_more : (tags : Tags) → IsRight (entries_of items) (together (item_chains items chains)) tags → IsTagOf i.entry.key (chain_at chains i.chain) tag → IsRight (entries_of items) (together (item_chains items chains)) (fin.insert tags i.entry.key tag)
-  right_more tags was this key other e = by (bytes_eq i.entry.key key) refl
+module _ (items : List ChainedItem) (chains : List (List Version)) (laid : IsLaid items chains) (k : ℕ) (i : ChainedItem) (within : k < length items) (is : i ≡ get_or items k i) (tag : Tag) (tags : Tags) where
+  pub has_entry : HasEntry (entries_of items) i.entry.key
+  has_entry = ap is_some (entry_is items chains laid k i within is)
+
+  pub entries_more : KnowsEntries (entries_of items) tags → KnowsEntries (entries_of items) (with_tag tags i.entry.key tag)
+  entries_more was key known = by (bytes_eq i.entry.key key) refl
     where
-      here : HasEntry (entries_of items) i.entry.key × IsTagOf i.entry.key (together (item_chains items chains)) tag
-      here = (ap is_some (entry_is items chains laid k i within is), tag_of_all this)
+      by : (b : Bool) → bytes_eq i.entry.key key ≡ b → HasEntry (entries_of items) key
+      by true b = let P : Key → Type 0 = λ q. HasEntry (entries_of items) q in subst P ((bytes_eq-Decides i.entry.key key).0 b) has_entry
+      by false b = was key (ap is_some (sym (other_set tags i.entry.key tag key b)) ∙ known)
 
-      by : (b : Bool) → bytes_eq i.entry.key key ≡ b → HasEntry (entries_of items) key × IsTagOf key (together (item_chains items chains)) other
-      by true b =
-          let some : Some tag ≡ Some other = sym (get_set tags i.entry.key tag key ∙ ap (λ c. cond c (Some tag) (fin.get tags key)) b) ∙ e in
-          let tag_is : tag ≡ other = cc in
-          let P : Key → Tag → Type 0 = λ q t. HasEntry (entries_of items) q × IsTagOf q (together (item_chains items chains)) t in
-          subst (λ q. P q other) ((bytes_eq-Decides i.entry.key key).0 b) (subst (λ t. P i.entry.key t) tag_is here)
-      by false b = was key other (sym (get_set tags i.entry.key tag key ∙ ap (λ c. cond c (Some tag) (fin.get tags key)) b) ∙ e)
+  abbrev all : List Version
+  all = together (item_chains items chains)
 
-pub knows_more : (items : List ChainedItem) (tags : Tags) (k : ℕ) (i : ChainedItem) (tag : Tag) → k < length items → i ≡ get_or items k i → KnowsItems tags (entries_of (take k items)) → KnowsItems (fin.insert tags i.entry.key tag) (entries_of (take (k + 1) items))
-knows_more items tags k i tag within is knows =
-    let entries = entries_of (take k items) in
-    subst (KnowsItems (fin.insert tags i.entry.key tag))
-    (insert_end entries i.entry ∙ ap (λ (x : ChainedItem). entries ++ x.entry ∷ []) is ∙ sym (map_more (λ (x : ChainedItem). x.entry) items k i within))
-    (knows_item tags entries i.entry tag knows (length entries) (omega arith))
+  -- one item more
+  pub right_more : AreRight all tags (take k items) → IsTagOf i.entry.key (chain_at chains i.chain) tag → AreRight all (with_tag tags i.entry.key tag) (take (k + 1) items)
+  right_more was this =
+      let R : ChainedItem → Type 0 = λ x. IsTagOf x.entry.key all (tag_of tags x.entry.key) in
+      let S : ChainedItem → Type 0 = λ x. IsTagOf x.entry.key all (tag_of (with_tag tags i.entry.key tag) x.entry.key) in
+      All-more S items k i within (All-weaker R S (λ x h. by x.entry.key h (bytes_eq i.entry.key x.entry.key) refl) (take k items) was) (subst S is here)
+    where
+      here : IsTagOf i.entry.key all (tag_of (with_tag tags i.entry.key tag) i.entry.key)
+      here = (this.0, latest_of items chains laid k i within is (committed_version this.0) this.1, tag_set tags i.entry.key tag ∙ this.2)
 
-pub knows_few : (items : List ChainedItem) (tags : Tags) (k : ℕ) → k ≤ length items → KnowsItems tags (entries_of (take k items)) → fin.len tags ≤ k
-knows_few items tags k within knows =
-    omega (arith, knows.no_more, length-map (take k items) (λ (x : ChainedItem). x.entry), length-take-le k items within)
+      by : (q : Key) → IsTagOf q all (tag_of tags q) → (b : Bool) → bytes_eq i.entry.key q ≡ b → IsTagOf q all (tag_of (with_tag tags i.entry.key tag) q)
+      by q h true b = let P : Key → Type 0 = λ key. IsTagOf key all (tag_of (with_tag tags i.entry.key tag) key) in subst P ((bytes_eq-Decides i.entry.key q).0 b) here
+      by q h false b = (h.0, h.1, ap (λ o. unwrap_or o []) (other_set tags i.entry.key tag q b) ∙ h.2)
 
 -- ---- what the cell then stands for
 
@@ -293,11 +293,11 @@ module _ (cell : Content) (log : Log) (versions_are : SameMembers cell.versions 
 
 -- a cell that holds what a base does stands for every log that the base stands for
 pub filled_stands : (cell : Content) (base : Frozen) → cell.versions ≡ base.versions → cell.entries ≡ base.entries → cell.marks ≡ marks_of base.marks → All (λ (v : Version). 0 < v.prepared.stamp) cell.versions
-    → KnowsItems cell.tags cell.entries → IsRight cell.entries cell.versions cell.tags → (log : Log) → Leaves base log → StandsFor cell log
-filled_stands cell base versions_are entries_are marks_are written knows right log leaves = record {
+    → KnowsEntries cell.entries cell.tags → All (λ (e : KnownItem). IsTagOf e.key cell.versions (tag_of cell.tags e.key)) cell.entries → (log : Log) → Leaves base log → StandsFor cell log
+filled_stands cell base versions_are entries_are marks_are written known right log leaves = record {
   versions = held;
   entries = listed;
-  tags = λ key. by key (fin.get cell.tags key) refl;
+  tags = λ key. by key (entry_at key cell.entries) refl;
   marks = λ client. ap (λ (ms : Marks). fin.get ms client) marks_are ∙ leaves.marks client;
   clients = ap (λ (ms : Marks). fin.len ms) marks_are ∙ leaves.clients;
 }
@@ -308,23 +308,17 @@ filled_stands cell base versions_are entries_are marks_are written knows right l
     listed : SameMembers cell.entries (floored log)
     listed test = ap (count_by test) entries_are ∙ leaves.entries test
 
-    known_item : (key : Key) (e : KnownItem) → entry_at key cell.entries ≡ Some e → IsTrue (fin.contains_key cell.tags key)
-    known_item key e found =
-        let there = find_is (λ (x : KnownItem). bytes_eq x.key key) cell.entries e found in
-        subst (λ q. IsTrue (fin.contains_key cell.tags q)) ((bytes_eq-Decides e.key key).0 there.1)
-        (All-contains (λ (x : KnownItem). IsTrue (fin.contains_key cell.tags x.key)) cell.entries e knows.entries_known (Contains-from_In cell.entries e there.0))
+    not_known : (key : Key) (own : Option Tag) → fin.get cell.tags key ≡ own → is_some (entry_at key cell.entries) ≡ false → unwrap_or own [] ≡ []
+    not_known key None e none = refl
+    not_known key (Some own) e none = absurd (both_ways (is_some (entry_at key cell.entries)) none (known key (ap is_some e)))
 
-    unlisted : (key : Key) (o : Option KnownItem) → entry_at key cell.entries ≡ o → fin.get cell.tags key ≡ None → is_some (entry_at key cell.entries) ≡ false
-    unlisted key None e none = ap is_some e
-    unlisted key (Some x) e none = absurd (both_ways (fin.contains_key cell.tags key) (ap is_some none) (known_item key x e))
-
-    by : (key : Key) (o : Option Tag) → fin.get cell.tags key ≡ o → fin.get cell.tags key ≡ tagged log key
-    by key None e =
-        e ∙ sym (cond-false (list_any (bytes_eq key) (items log)) _ None (item_by_entry cell.entries log listed key ∙ unlisted key (entry_at key cell.entries) refl e))
-    by key (Some tag) e =
-        let h = right key tag e in
-        e ∙ ap Some (sym (latest_tag_is cell log held written key tag h.1))
-        ∙ sym (cond-true (list_any (bytes_eq key) (items log)) _ None (item_by_entry cell.entries log listed key ∙ h.0))
+    by : (key : Key) (o : Option KnownItem) → entry_at key cell.entries ≡ o → tag_of cell.tags key ≡ latest_tag log key
+    by key None e = not_known key (fin.get cell.tags key) refl (ap is_some e) ∙ sym (no_tag log key (item_by_entry cell.entries log listed key ∙ ap is_some e))
+    by key (Some x) e =
+        let there = find_is (λ (y : KnownItem). bytes_eq y.key key) cell.entries x e in
+        let P : Key → Type 0 = λ q. IsTagOf q cell.versions (tag_of cell.tags q) in
+        sym (latest_tag_is cell log held written key (tag_of cell.tags key)
+        (subst P ((bytes_eq-Decides x.key key).0 there.1) (All-contains (λ (y : KnownItem). IsTagOf y.key cell.versions (tag_of cell.tags y.key)) cell.entries x right (Contains-from_In cell.entries x there.0))))
 
 -- ---- the cell that was filled
 

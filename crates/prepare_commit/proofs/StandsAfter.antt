@@ -1,5 +1,5 @@
 -- For `Cell`, all its calls. What a cell stands for after a call.
-use Rattle.std.proofs.Common.{◌≡◌, ℕ, ◌<◌, Bool, true, false, cond, if◌then◌else◌, not, ◌&&◌, ◌||◌, ◌==◌, nat_le, nat_lt, List, [], ◌∷◌, map, filter, find, length, get_or, count_by, Option, Some, None, bytes_eq, inl, inr, refl, sym, ◌∙◌, ap, arith, is_some, ◌⊎◌}
+use Rattle.std.proofs.Common.{◌≡◌, ℕ, ◌<◌, Bool, true, false, if◌then◌else◌, not, ◌&&◌, ◌||◌, ◌==◌, nat_le, nat_lt, List, [], ◌∷◌, map, filter, find, length, get_or, count_by, Option, Some, None, bytes_eq, inl, inr, refl, sym, ◌∙◌, ap, arith, is_some, ◌⊎◌}
 use Rattle.std.specs.Prelude.{unwrap_or}
 use Rattle.std.specs.FinMap as fin
 use Rattle.std.specs.List.{list_any}
@@ -25,12 +25,12 @@ use Rattle.secondary_index.specs.Index.{Tags}
 use Rattle.prepare_commit.specs.Marks.{mark_in, if_marked}
 use Rattle.prepare_commit.specs.Lists.{SameMembers}
 use Rattle.prepare_commit.specs.Content.{Content, entry_at, floor_of, version_at, marked_at, has_version_of, IsMoved}
-use Rattle.prepare_commit.specs.Serving.{marked_versions, floored, tagged, StandsFor, Serves}
+use Rattle.prepare_commit.specs.Serving.{marked_versions, floored, latest_tag, StandsFor, Serves}
 use Rattle.version_chain.specs.declared.version.Version.{Version}
 use Rattle.prepare_commit.specs.declared.items.KnownItem.{KnownItem}
 use Rattle.prepare_commit.proofs.ListsOfLists.{none_counted}
 use Rattle.prepare_commit.proofs.Members.{version_kept, found_version, no_version, found_entry, no_entry, versions_length, entries_length}
-use Rattle.prepare_commit.proofs.Tagged.{get_set, after_prepare, is_known, new_versions, tagged_from, known_tagged, tagged_again, tagged_first, moved_tagged}
+use Rattle.prepare_commit.proofs.Tagged.{after_prepare, is_known, new_versions, tag_from, known_tag, new_tag, moved_tag}
 
 -- ---- a PREPARE that was answered Prepared
 
@@ -73,7 +73,7 @@ new_floored v history h k =
     ∙ ap (map (entry_of history)) (cond-false _ _ _ (sym (any_distinct v.key (map (λ (r : Record). r.key) (versions history))) ∙ k))
 
 -- what stands for a history stands for one that leaves the same
-pub same_for : (cell : Content) (old new : List Exchange) → marked_versions new ≡ marked_versions old → floored new ≡ floored old → ((key : Key) → tagged new key ≡ tagged old key) → discarded_stamps new ≡ discarded_stamps old → StandsFor cell old → StandsFor cell new
+pub same_for : (cell : Content) (old new : List Exchange) → marked_versions new ≡ marked_versions old → floored new ≡ floored old → ((key : Key) → latest_tag new key ≡ latest_tag old key) → discarded_stamps new ≡ discarded_stamps old → StandsFor cell old → StandsFor cell new
 same_for cell old new m f t d s = record {
   versions = λ test. s.versions test ∙ ap (count_by test) (sym m);
   entries = λ test. s.entries test ∙ ap (count_by test) (sym f);
@@ -165,7 +165,7 @@ module _ (cell : Content) (v : Record) where
         same_for cell history _
         (ap (λ o. map (mark_of history) (filter (λ (w : Record). not_below history w && (is_committed history w.key w.stamp || (is_some_version w.key w.stamp o || is_live history w.key w.stamp))) (with_version o (versions history)))) a)
         (ap (λ o. map (entry_of history) (distinct (map (λ (w : Record). w.key) (with_version o (versions history))))) a)
-        (λ key. ap (λ o. tagged_from (with_version o (versions history)) (is_committed history) key) a)
+        (λ key. ap (λ o. tag_from (with_version o (versions history)) (is_committed history) key) a)
         refl
         s;
   }
@@ -188,16 +188,16 @@ module _ (cell : Content) (v : Record) where
           known o e = grind (arith, nat_tests)
 
       by : (history : List Exchange) → StandsFor cell history → (b : Bool) → is_known v history ≡ b → StandsFor cell (after_prepare v history)
-      by history s true e = same_for cell history _ (known_marked v history e (inl (lt-leb _ _ (low history s)))) (known_floored v history e) (known_tagged v history e) refl s
+      by history s true e = same_for cell history _ (known_marked v history e (inl (lt-leb _ _ (low history s)))) (known_floored v history e) (known_tag v history e) refl s
       by history s false e =
-          same_for cell history _ (below_marked v history e (lt-leb _ _ (low history s))) (same_floored v history e (has history s)) (tagged_again v history e (inl (below_marked v history e (lt-leb _ _ (low history s)))) (has history s)) refl s
+          same_for cell history _ (below_marked v history e (lt-leb _ _ (low history s))) (same_floored v history e (has history s)) (new_tag v history (inl (below_marked v history e (lt-leb _ _ (low history s))))) refl s
 
   -- nor does one that is repeated
   pub repeated : (u : Version) → version_at v.key v.stamp cell.versions ≡ Some u → record_eq u.prepared v ≡ true → nat_lt v.stamp (floor_of (entry_at v.key cell.entries)) ≡ false → Serves cell cell (Prepare v) (Answered Prepared)
   repeated u f h n = record {
     room = refl;
     reply = prepare_replies Prepared (sym (cond-false _ _ _ n ∙ ap (known_or v _) (ap record_in f) ∙ cond-true _ _ _ h));
-    history = λ history s. same_for cell history _ (known_marked v history (known history s) (inr (held history s))) (known_floored v history (known history s)) (known_tagged v history (known history s)) refl s;
+    history = λ history s. same_for cell history _ (known_marked v history (known history s) (inr (held history s))) (known_floored v history (known history s)) (known_tag v history (known history s)) refl s;
   }
     where
       listed : (history : List Exchange) → StandsFor cell history → In u.prepared (versions history) × (is_kept history u.prepared ≡ true)
@@ -253,7 +253,7 @@ module _ (cell : Content) (v : Record) where
           record {
             versions = one_member cell.versions versions (marked_versions history) _ _ more s.versions (new_marked v history (fresh history s) (above history s));
             entries = λ test. s.entries test ∙ ap (count_by test) (sym (same_floored v history (fresh history s) known));
-            tags = λ key. s.tags key ∙ sym (tagged_again v history (fresh history s) (inr (new_marked v history (fresh history s) (above history s))) known key);
+            tags = λ key. s.tags key ∙ sym (new_tag v history (inr (new_marked v history (fresh history s) (above history s))) key);
             marks = s.marks;
             clients = s.clients;
           };
@@ -261,7 +261,7 @@ module _ (cell : Content) (v : Record) where
 
     -- and of one that has none
     pub stored_first : (versions : List Version) (entries : List KnownItem) → SameMembers versions (record { prepared = v; committed = false } ∷ cell.versions) → SameMembers entries (record { key = v.key; floor = 0 } ∷ cell.entries) → entry_at v.key cell.entries ≡ None → (length cell.entries == cell.room.items) ≡ false
-        → Serves cell (record cell { versions = versions; entries = entries; tags = fin.insert cell.tags v.key [] }) (Prepare v) (Answered Prepared)
+        → Serves cell (record cell { versions = versions; entries = entries }) (Prepare v) (Answered Prepared)
     stored_first versions entries more first k room_left = record {
       room = refl;
       reply = prepare_replies Prepared (sym (cond-false _ _ _ high ∙ ap (known_or v _) (ap record_in none) ∙ cond-false _ _ _ unmarked ∙ cond-false _ _ _ (ap (λ o. not (is_some o) && (length cell.entries == cell.room.items)) k ∙ room_left) ∙ cond-false _ _ _ slots));
@@ -272,10 +272,7 @@ module _ (cell : Content) (v : Record) where
             entries = one_member cell.entries entries (floored history) _ _ first s.entries
                 (new_floored v history (fresh history s) unknown
                 ∙ ap (λ n. record { key = v.key; floor = n } ∷ floored history) (floor_is cell history s v.key ∙ ap floor_of k));
-            tags = λ key.
-                get_set cell.tags v.key [] key
-                ∙ ap (cond (bytes_eq v.key key) (Some [])) (s.tags key)
-                ∙ sym (tagged_first v history (fresh history s) (inr (new_marked v history (fresh history s) (above history s))) unknown key);
+            tags = λ key. s.tags key ∙ sym (new_tag v history (inr (new_marked v history (fresh history s) (above history s))) key);
             marks = s.marks;
             clients = s.clients;
           };
@@ -296,7 +293,7 @@ commit_serves cell new stamp n left counted initial moved = record {
   history = λ history s. rw left (record {
     versions = same history s;
     entries = s.entries;
-    tags = λ key. moved_tagged stamp (Committed n) cell.versions history s.versions (same history s) key cell.tags new.tags (s.tags key) moved (positive key);
+    tags = λ key. moved_tag stamp (Committed n) cell.versions history s.versions (same history s) key cell.tags new.tags (s.tags key) moved (positive key);
     marks = s.marks;
     clients = s.clients;
   });
@@ -337,4 +334,4 @@ below_test m n = grind (arith, nat_tests)
 
 -- an empty cell stands for the empty history
 pub empty_stands : (room : Room) → StandsFor (record { room = room; versions = []; entries = []; tags = fin.empty; marks = fin.empty }) []
-empty_stands room = record { versions = λ test. refl; entries = λ test. refl; tags = fin.get-empty key_cmp; marks = fin.get-empty nat_cmp; clients = fin.len-empty nat_cmp ℕ }
+empty_stands room = record { versions = λ test. refl; entries = λ test. refl; tags = λ key. ap (λ o. unwrap_or o []) (fin.get-empty key_cmp key); marks = fin.get-empty nat_cmp; clients = fin.len-empty nat_cmp ℕ }

@@ -1,6 +1,5 @@
 -- What the calls on a cell and on its chains ask for, and what they leave.
-use Rattle.std.specs.Prelude.{◌≡◌, ◌==◌, ℕ, ◌+◌, ◌<◌, Bool, List, All, IsTrue, length, map, count_by}
-use Rattle.std.specs.FinMap.{contains_key}
+use Rattle.std.specs.Prelude.{◌≡◌, ◌==◌, ℕ, ◌+◌, ◌<◌, ◌≤◌, Bool, List, All, length, map, count_by}
 use Rattle.lists.specs.Listing.{Listing}
 use Rattle.plain_store.specs.declared.calls.Call.{Call}
 use Rattle.plain_store.specs.declared.calls.Reply.{Reply}
@@ -12,9 +11,9 @@ use Rattle.prepare_commit.specs.declared.items.ChainedItem.{ChainedItem}
 use Rattle.prepare_commit.specs.declared.last_base.LastBase.{LastBase}
 use Rattle.prepare_commit.specs.declared.versions.Versions.{Versions}
 use Rattle.prepare_commit.specs.Begun.{IsKeptSince}
-use Rattle.prepare_commit.specs.Content.{HasSameKeys, IsMoved}
+use Rattle.prepare_commit.specs.Content.{KnowsItems, IsMoved}
 use Rattle.prepare_commit.specs.InBlock.{Parts, AreIn, LiesIn, content_in}
-use Rattle.prepare_commit.specs.Layout.{Chained, held_in, chain_lists, chain_at, together, item_chains, HaveAll, raised_item, kept_chain}
+use Rattle.prepare_commit.specs.Layout.{Chained, held_in, chain_lists, chain_at, together, item_chains, entries_of, HaveAll, raised_item, kept_chain}
 use Rattle.prepare_commit.specs.Remembered.{AreNotedWhere, raised_where, kept_where}
 use Rattle.prepare_commit.specs.Serving.{Serves}
 use Rattle.prepare_commit.specs.Spots.{begun_by}
@@ -43,17 +42,17 @@ pub record NotesChanged (old new : List Bool) (chains after : List (List Version
   pub long : length new ≡ length old
   pub noted : AreNotedWhere old new chains after
 
--- the index knows the items of the chains
+-- the index knows items of the chains alone, and has room for each
 abbrev pub KnowsHeld : Index → Chained → Type 0
 KnowsHeld index held =
-    (items : List ChainedItem) × HaveAll items held
-    × All (λ (i : ChainedItem). IsTrue (contains_key index.tags i.entry.key)) items
+    (items : List ChainedItem) × HaveAll items held × KnowsItems index.tags (entries_of items) × (length items ≤ index.room)
 
--- the index knows the same items, each that has a version of the stamp under the tag of its latest committed version, and
--- each other one under the tag that it had
+-- the index still knows items of the chains alone, each that has a version of the stamp under the tag of its latest committed
+-- version, and each other one under the tag that it had
 pub record MovesItems (stamp : ℕ) (held : Chained) (after : List (List Version)) (old new : Index) : Type 0 where
   pub room : new.room ≡ old.room
-  pub keys : HasSameKeys old.tags new.tags
+  pub keys : (items : List ChainedItem) → HaveAll items held → KnowsItems old.tags (entries_of items)
+      → KnowsItems new.tags (entries_of items)
   pub moved : (items : List ChainedItem) → HaveAll items held
       → (let all = together (item_chains items after) in IsMoved stamp all all old.tags new.tags)
 

@@ -48,9 +48,9 @@ use version_chain::{Block, Insert, VersionList};
 
 /// What one tenant holds at one partition: an entry for each item of which a version was ever kept, in the order of the
 /// keys; for each item a chain of its versions, the latest stamp first, each with a mark where it is committed; and an
-/// index of these items by the tags of their latest committed versions. Beside them stands, for each client of which a
+/// index of the items by the tags of their latest committed versions, which knows no item that never had a tag. Beside them stands, for each client of which a
 /// stamp was discarded, the greatest of these stamps. The versions lie in a block that the caller passes to each call; contracts
-/// see with it all versions, entries and marks, how many of each there is room for, and the tag of each item.
+/// see with it all versions, entries and marks, how many of each there is room for, and the tag of each item in the index.
 ///
 /// The caller's condition is the block: it has the versions of this cell, and no other version of its tenant. A call changes no cell of
 /// another tenant, and leaves the others' shares as they are. A client's call takes no memory: `open`, `at`, `base`, `cut`, `holds` and
@@ -264,7 +264,7 @@ impl Cell {
     /// The condition is that the tenant's share is there: as many cells of the block are free as it may still use.
     ///
     /// It finds the item where it was last found, or by a binary search, and searches for the version's stamp in its chain. For an item with
-    /// no entry it shifts the places of the entries behind the new one, here and in the index, and no entry.
+    /// no entry it shifts the places of the entries behind the new one, and no entry.
     #[inline(always)]
     pub fn prepare(&mut self, block: &mut Block, version: &Record) -> PrepareReply
         requires { LiesWithShare block.old self.old }
@@ -314,10 +314,7 @@ impl Cell {
         if let Insert::Full = self.versions.insert(block, item.chain, version) {
             return PrepareReply::FullSlots;
         }
-        let chain = item.chain;
         self.entries.insert(place, item);
-        self.index
-            .set_numbered(chain, &version.key, items::no_tag());
         PrepareReply::Prepared
     }
 
@@ -330,7 +327,8 @@ impl Cell {
     ///
     /// It finds the versions of the stamp among the last few listed, or by a binary search, and visits them alone. Where one is listed
     /// that is gone, it sweeps the list first. To move an item it reads the slot of its chain's latest committed version, where any
-    /// item has a tag, and shifts the index where the tag is another one.
+    /// item has a tag, and shifts the index where the tag is another one. An item that the index does not know, and that has no tag,
+    /// it looks for where it would go in, or by a binary search.
     pub fn commit(&mut self, block: &mut Block, stamp: Stamp) -> u32
         requires { LiesIn block.old self.old }
         ensures served { IsServed block.old self.old block.new self.new

@@ -1,6 +1,7 @@
 //! What a base has, put into the parts of a cell that holds nothing.
-ghost use Rattle.std.specs.Prelude.{◌≡◌, ◌+◌, ◌<◌, ◌≤◌, ◌^◌, ℕ, List, [], ◌∷◌, All, Some, None, length, vec_capacity, IfOk};
+ghost use Rattle.std.specs.Prelude.{◌≡◌, ◌+◌, ◌<◌, ◌≤◌, ◌^◌, ℕ, List, [], ◌∷◌, All, None, length, vec_capacity, IfOk, IsTrue};
 ghost use Rattle.std.specs.FinMap as map;
+ghost use Rattle.secondary_index.specs.Index.{tag_of};
 ghost use Rattle.version_chain.specs.Chain.{HoldsChains};
 ghost use Rattle.version_chain.specs.Changes.{HasChain};
 ghost use Rattle.prepare_commit.specs.Bases.{AreOrdered, IsBefore, AreNumbered, NameEach, IsTagOf, HasEntry};
@@ -9,6 +10,7 @@ ghost use Rattle.prepare_commit.specs.Calls.{lists_of, versions_at, ChangesVersi
 ghost use Rattle.prepare_commit.specs.Content.{KnowsItems, version_at};
 ghost use Rattle.prepare_commit.specs.Layout.{together, item_chains, entries_of, IsVersionOf, IsLaid};
 ghost use Rattle.prepare_commit.specs.Lists.{SameMembers};
+ghost use Rattle.prepare_commit.specs.declared.items.KnownItem.{KnownItem};
 
 use crate::held::Held;
 use crate::items::{self, ChainedItem, ItemList};
@@ -118,7 +120,7 @@ fn add_version(block: &mut Block, items: &ItemList, held: &mut Versions, version
     held.put(block, items.get(place).chain, version);
 }
 
-/// Makes each item known to an empty index, under the tag of its latest committed version.
+/// Puts each item whose latest committed version has a tag under it, in an empty index.
 pub(crate) fn index_latest(block: &Block, items: &ItemList, held: &Versions, index: &mut TagIndex)
     requires stands { HoldsChains block.now held.now.chains }
     requires laid { IsLaid items.now.items (lists_of block.now held.now) }
@@ -127,14 +129,16 @@ pub(crate) fn index_latest(block: &Block, items: &ItemList, held: &Versions, ind
     requires empty { index.old.tags ≡ map.empty }
     ensures room { index.new.room ≡ index.old.room }
     ensures knows { KnowsItems index.new.tags (entries_of items.now.items) }
+    ensures known { (key : List ℕ) → IsTrue (map.contains_key index.new.tags key)
+        → HasEntry (entries_of items.now.items) key }
     ensures right { let all = together
         (item_chains items.now.items (lists_of block.now held.now)) in
-        (key : List ℕ) → (tag : List ℕ) → map.get index.new.tags key ≡ Some tag
-        → HasEntry (entries_of items.now.items) key × IsTagOf key all tag }
+        All (λ (e : KnownItem). IsTagOf e.key all (tag_of index.new.tags e.key))
+        (entries_of items.now.items) }
 {
     for place in 0..items.len() {
         let item = items.get(place);
-        index.set_numbered(
+        index.move_numbered(
             item.chain,
             &item.entry.key,
             latest_tag(block, held, item.chain),

@@ -1,5 +1,5 @@
 -- For the functions of `entries` and `pairs`, and the search for an item in a cell. Lists in the order of their elements' keys, as finite maps.
-use Rattle.std.proofs.Common.{◌≡◌, ℕ, zero, suc, ◌<◌, ◌≤◌, Bool, true, false, not, List, [], ◌∷◌, map, length, Some, None, inl, inr, refl, sym, ◌∙◌, ap, subst, arith, le_refl}
+use Rattle.std.proofs.Common.{◌≡◌, ℕ, zero, suc, ◌+◌, ◌-◌, ◌<◌, ◌≤◌, Bool, true, false, not, List, [], ◌∷◌, map, length, Some, None, inl, inr, refl, sym, ◌∙◌, ap, subst, arith, le_refl}
 use Rattle.std.specs.Prelude.{IsTrue, Result, Ok, Err, MatchResult, slice_index_or, slice_set, insert, remove}
 use Rattle.std.specs.List.Sorted.{IsSearchInRange, IsBinarySearchResult}
 use Rattle.std.specs.Cmp.{IsTotalOrder}
@@ -71,6 +71,22 @@ module _ {E K X : Type 0} (R : K → K → Ordering) (o : IsTotalOrder R) (same 
         below = λ k d from to. parted.0 k d from to;
         above = λ k d from to. o.antisymm key (row (slice_index_or es k d)).0 ∙ ap ordering_reverse (parted.1 k d from to);
       }
+
+  -- a key belongs between two neighbours, one of which is below it and one above
+  pub between : (es : List E) (key : K) (i : ℕ) → IsInOrder R row es → i ≤ length es → ((k : ℕ) (d : E) → k + 1 ≡ i → R (row (slice_index_or es k d)).0 key ≡ Less) → ((d : E) → i < length es → R key (row (slice_index_or es i d)).0 ≡ Less) → BelongsAt R row key es i
+  between es key i order within before behind = record {
+    within = within;
+    below = λ k d from to. elim (cases_lt (k + 1) i) [
+      | inl far ↦
+          let last : (i - 1) + 1 ≡ i = omega arith in
+          o.trans (row (slice_index_or es k d)).0 (row (slice_index_or es (i - 1) d)).0 key (in_order_far es order k (i - 1) d (omega arith) (omega arith)) (before (i - 1) d last)
+      | inr next ↦ before k d (omega arith)
+    ];
+    above = λ k d from to. elim (cases_lt i k) [
+      | inl far ↦ o.trans key (row (slice_index_or es i d)).0 (row (slice_index_or es k d)).0 (behind d (omega arith)) (in_order_far es order i k d far to)
+      | inr here ↦ let same : i ≡ k = omega arith in subst (λ n. R key (row (slice_index_or es n d)).0 ≡ Less) same (behind d (omega arith))
+    ];
+  }
 
   -- ---- an element that is changed, one that is new, and one that is taken out
 

@@ -1,8 +1,8 @@
 -- An index: a finite map from known keys to the tag that each was last set to.
-use Rattle.std.specs.Prelude.{◌≡◌, ◌<◌, ◌⊎◌, IsTrue, ℕ, Bool, false, if◌then◌else◌, List, [], ◌∷◌, map, filter}
-use Rattle.std.specs.Prelude.{length, take, Option, Some, None, bytes_eq, refl}
+use Rattle.std.specs.Prelude.{◌≡◌, ◌<◌, ◌⊎◌, ◌&&◌, not, IsTrue, ℕ, Bool, false, if◌then◌else◌, List, [], ◌∷◌, map, filter}
+use Rattle.std.specs.Prelude.{length, take, Option, Some, None, unwrap_or, bytes_eq, refl}
 use Rattle.std.specs.Coded.{Coded, code_by, coded×, coded_ℕ, coded_list}
-use Rattle.std.specs.FinMap.{FinMap, get, contains_key, len, entries, code}
+use Rattle.std.specs.FinMap.{FinMap, get, contains_key, insert, len, entries, code}
 use Rattle.stamps.specs.Key.{key_cmp, sorted_keys}
 use Rattle.stamps.specs.Limits.{max_found}
 use Rattle.plain_store.specs.Words.{Key, Tag, Findings, is_tagged}
@@ -30,6 +30,14 @@ findings_of keys = record { count = length keys; keys = take max_found (sorted_k
 -- the keys that carry a tag; none carries the empty one
 abbrev pub keys_under : Tags → Tag → List Key
 keys_under tags tag = map (λ e. e.0) (filter (λ e. is_tagged tag e.1) (entries tags))
+
+-- the tag of a key: the empty one, where it is not known
+abbrev pub tag_of : Tags → Key → Tag
+tag_of tags key = unwrap_or (get tags key) []
+
+-- the tags with this one as the key's, in place of the one that it had; where it is the empty one, a key that is not known stays so
+abbrev pub with_tag : Tags → Key → Tag → Tags
+with_tag tags key tag = if bytes_eq tag [] && not (contains_key tags key) then tags else insert tags key tag
 
 -- a key may be set that is known, or for which there is room
 abbrev pub HasPlace : Index → Key → Type 0

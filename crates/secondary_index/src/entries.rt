@@ -1,7 +1,10 @@
 //! The known keys of an index, in byte order.
 ghost use Rattle.std.specs.Prelude.{◌≡◌, ◌+◌, ◌<◌, ◌≤◌, ◌⊎◌, MatchResult, IsTrue, length, count_by, bytes_eq, if◌then◌else◌, option_copied, is_some, max, [], unwrap_or, Some};
+ghost use Rattle.std.specs.Prelude.{ℕ, slice_index_or};
+ghost use Rattle.std.specs.declared.cmp.Ordering.TheVariants.{Less};
 ghost use Rattle.std.specs.FinMap as map;
 ghost use Rattle.stamps.specs.Key.{key_cmp};
+ghost use Rattle.secondary_index.specs.declared.entries.TaggedKey.{TaggedKey as Entry};
 ghost use Rattle.secondary_index.specs.Ordered.{IsInOrder, StandsAt, BelongsAt};
 ghost use Rattle.secondary_index.specs.Layout.{entry_row, tags_of, is_tagged_entry};
 
@@ -32,6 +35,43 @@ pub(crate) fn stands_at(entries: &RowList<TaggedKey>, place: usize, key: &Key) -
         return false;
     }
     entries.get(place).key == *key
+}
+
+/// Whether a key has no entry, and one would go in at a place.
+pub(crate) fn belongs_at(entries: &RowList<TaggedKey>, place: usize, key: &Key) -> bool
+    requires { IsInOrder key_cmp entry_row entries.now.items }
+    ensures { IsTrue result → BelongsAt key_cmp entry_row key.now entries.now.items place }
+{
+    if place > entries.len() {
+        return false;
+    }
+    if !is_above(entries, place, key) {
+        return false;
+    }
+    is_below(entries, place, key)
+}
+
+/// Whether a key is above that of the entry before a place, if there is one.
+fn is_above(entries: &RowList<TaggedKey>, place: usize, key: &Key) -> bool
+    requires { place ≤ length entries.now.items }
+    ensures { IsTrue result → (k : ℕ) (d : Entry) → k + 1 ≡ place
+        → key_cmp (slice_index_or entries.now.items k d).key key.now ≡ Less }
+{
+    if place == 0 {
+        return true;
+    }
+    entries.get(place - 1).key.cmp(key).is_lt()
+}
+
+/// Whether a key is below that of the entry at a place, if there is one.
+fn is_below(entries: &RowList<TaggedKey>, place: usize, key: &Key) -> bool
+    ensures { IsTrue result → (d : Entry) → place < length entries.now.items
+        → key_cmp key.now (slice_index_or entries.now.items place d).key ≡ Less }
+{
+    if place >= entries.len() {
+        return true;
+    }
+    key.cmp(&entries.get(place).key).is_lt()
 }
 
 /// Whether a key's entry stands at a place and has this tag.

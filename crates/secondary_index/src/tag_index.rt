@@ -1,7 +1,7 @@
 //! The index.
 ghost use Rattle.std.specs.Prelude.{◌≡◌, ℕ, ◌+◌, ◌^◌, ◌<◌, ◌≤◌, ◌↔◌, false, min, List, [], ◌∷◌, IfOk, IfSome, IsTrue};
 ghost use Rattle.std.specs.FinMap as map;
-ghost use Rattle.secondary_index.specs.Index.{HasPlace, Setting, IsIndexOf, keys_under, keys_last_set_to, findings_of};
+ghost use Rattle.secondary_index.specs.Index.{HasPlace, Setting, IsIndexOf, with_tag, keys_under, keys_last_set_to, findings_of};
 ghost use Rattle.stamps.specs.Limits.{max_found};
 
 use crate::entries::{self, TaggedKey};
@@ -23,7 +23,7 @@ pub struct TagIndex {
     room: u32,
     entries: RowList<TaggedKey>,
     pairs: RowList<Pair>,
-    /// Where the entry of the key with each number stood when it was last looked for.
+    /// Where the entry of the key with each number stood, or would have gone in, when it was last looked for.
     places: Vec<u32>,
 }
 
@@ -99,7 +99,7 @@ impl TagIndex {
         pairs::put_in(&mut self.pairs, key, tag);
     }
 
-    /// Does what `set` does with a key to which its caller gave a number: numbers are given from 0, as new keys come. Where the key has
+    /// Does what `set` does with a key to which its caller gave a number, below the number of keys that there is room for. Where the key has
     /// the tag already and stands where it did, it looks at that place alone.
     pub fn set_numbered(&mut self, number: u32, key: &Key, tag: Tag)
         requires { HasPlace self.old key.now }
@@ -115,11 +115,39 @@ impl TagIndex {
         let has_moved = !entries::stands_at(&self.entries, place, key);
         self.set(key, tag);
         if has_moved {
-            self.note_place(number, key);
+            self.look_up(number, key);
         }
     }
 
-    /// Where the entry of the key with this number stood when it was last looked for.
+    /// Does what `set_numbered` does, except that a key that is not known stays so where its tag is the empty one. Whether a key is
+    /// known that gets the empty tag is seen where it stood or would have gone in when it was last looked for, or else by a binary search.
+    pub fn move_numbered(&mut self, number: u32, key: &Key, tag: Tag)
+        requires { HasPlace self.old key.now }
+        ensures { self.new
+            ≡ record { room = self.old.room; tags = with_tag self.old.tags key.now tag } }
+    {
+        if tag.as_bytes().is_empty() && !self.is_known_numbered(number, key) {
+            return;
+        }
+        self.set_numbered(number, key, tag);
+    }
+
+    /// Whether the key with this number was ever set. Where it has moved, its place is noted.
+    fn is_known_numbered(&mut self, number: u32, key: &Key) -> bool
+        ensures known { result ≡ map.contains_key self.old.tags key.now }
+        ensures same { self.new ≡ self.old }
+    {
+        let place = self.place_of(number);
+        if entries::stands_at(&self.entries, place, key) {
+            return true;
+        }
+        if entries::belongs_at(&self.entries, place, key) {
+            return false;
+        }
+        self.look_up(number, key)
+    }
+
+    /// Where the entry of the key with this number stood, or would have gone in, when it was last looked for.
     fn place_of(&self, number: u32) -> usize {
         match self.places.get(number as usize) {
             Some(place) => *place as usize,
@@ -127,18 +155,20 @@ impl TagIndex {
         }
     }
 
-    /// Notes where the entry of the key with this number stands.
-    fn note_place(&mut self, number: u32, key: &Key)
-        ensures { self.new ≡ self.old }
+    /// Whether a key was ever set, by a binary search. Where its entry stands, or would go in, is noted for its number.
+    fn look_up(&mut self, number: u32, key: &Key) -> bool
+        ensures known { result ≡ map.contains_key self.old.tags key.now }
+        ensures same { self.new ≡ self.old }
     {
-        let Ok(place) = entries::search(&self.entries, key) else {
-            return;
-        };
-        let number = number as usize;
-        if number < self.places.len() {
-            self.places[number] = place as u32;
-        } else if number == self.places.len() && number < self.places.capacity() {
-            self.places.push_reserved(place as u32);
+        match entries::search(&self.entries, key) {
+            Ok(place) => {
+                note(&mut self.places, number as usize, place as u32);
+                true
+            }
+            Err(place) => {
+                note(&mut self.places, number as usize, place as u32);
+                false
+            }
         }
     }
 
@@ -169,4 +199,20 @@ impl TagIndex {
         pairs::copy_keys(&self.pairs, first, told, &mut keys, visits);
         Found::new(count as u32, &keys[..told])
     }
+}
+
+/// Puts a place at a number of a list, where there is room for it. Numbers that were not noted before it get the place 0.
+fn note(places: &mut Vec<u32>, number: usize, place: u32) {
+    if number < places.len() {
+        places[number] = place;
+        return;
+    }
+    if number >= places.capacity() {
+        return;
+    }
+    for filled in places.len()..number {
+        let _filled = filled;
+        places.push_reserved(0);
+    }
+    places.push_reserved(place);
 }

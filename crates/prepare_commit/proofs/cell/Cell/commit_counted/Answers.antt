@@ -5,22 +5,22 @@ use Rattle.prepare_commit.proofs.Committing.{commit_holds, commit_initial, commi
 use Rattle.prepare_commit.proofs.EachPlace.{Begins, is_done, Named, named_start, owner_of, own_so_far, one_more, marked_together, noted_more, all_noted, used_is}
 use Rattle.prepare_commit.proofs.ItemByItem.{latest_marked, latest_key, latest_some}
 use Rattle.prepare_commit.proofs.Lying.{lies_at, has_all}
-use Rattle.prepare_commit.proofs.Moving.{items_known, moved_none, same_keys-refl, same_keys_set}
+use Rattle.prepare_commit.proofs.Moving.{has_place, moved_none}
+use Rattle.prepare_commit.proofs.OwnChains.{entry_is}
 use Rattle.prepare_commit.proofs.Owning.{own_after}
 use Rattle.prepare_commit.proofs.Remembering.{either_noted, settled_noted}
 use Rattle.prepare_commit.proofs.Since.{kept_noted}
 use Rattle.prepare_commit.specs.Calls.{HasAt, MovesItems, NotesChanged}
-use Rattle.prepare_commit.specs.Content.{IsLatest, IsMoved, HasSameKeys, marked_at}
+use Rattle.prepare_commit.specs.Content.{IsLatest, IsMoved, marked_at}
 use Rattle.prepare_commit.specs.InBlock.{content_in}
-use Rattle.prepare_commit.specs.Layout.{Chained, held_in, chain_at, chain_lists, HaveAll, committed_version, together, item_chains, IsVersionOf}
+use Rattle.prepare_commit.specs.Layout.{Chained, held_in, chain_at, chain_lists, entries_of, HaveAll, committed_version, together, item_chains, IsVersionOf}
 use Rattle.prepare_commit.specs.Remembered.{AreNotedWhere, in_either}
 use Rattle.prepare_commit.specs.Spots.{begun_by}
 use Rattle.prepare_commit.specs.declared.items.ChainedItem.{ChainedItem}
-use Rattle.secondary_index.specs.Index.{Index}
+use Rattle.secondary_index.specs.Index.{HasPlace, Index, with_tag}
 use Rattle.stamps.specs.Record.{Record}
-use Rattle.std.proofs.Common.{◌||◌, ◌≤◌, ◌≡◌, ◌+◌, ◌^◌, ◌<◌, ℕ, Bool, true, false, List, All, length, map, get_or, Option, Some, None, slice_get, refl, sym, ap, subst, ◌∙◌, arith, ◌==◌, count_by, sum_by}
-use Rattle.std.proofs.lemmas.List.{length-set}
-use Rattle.std.specs.FinMap.{contains_key, insert}
+use Rattle.std.proofs.Common.{◌||◌, ◌≤◌, ◌≡◌, ◌+◌, ◌^◌, ◌<◌, ℕ, Bool, true, false, List, All, length, map, get_or, Option, Some, None, is_some, slice_get, refl, sym, ap, subst, ◌∙◌, arith, ◌==◌, count_by, sum_by}
+use Rattle.std.proofs.lemmas.List.{length-map, length-set}
 use Rattle.version_chain.proofs.Changing.{own_none}
 use Rattle.version_chain.proofs.Places.{held_few, places, place_named, places_long, place_in}
 use Rattle.version_chain.specs.Chain.{chain_versions, committed_records, marked_by, OtherChainsKept}
@@ -57,7 +57,7 @@ begins c =
       few = omega (arith, lies.holds.fits, c.self.invariant.2, ap (λ (h : Heads). h.used) rest);
       long = omega (arith, c.self.invariant.7, lies.holds.chains, chains_long block start, ap (λ (h : Heads). length h.heads) rest);
       as_long = omega (arith, c.self.invariant.8, lies.holds.chains, chains_long block start, ap (λ (h : Heads). length h.heads) rest);
-      known = (items, have c items (has_all _ _ lies c.self.invariant.0), items_known c.self.inside.index.tags items lies.holds.knows);
+      known = (items, have c items (has_all _ _ lies c.self.invariant.0), lies.holds.knows, omega (arith, c.self.invariant.0, lies.holds.room));
     }
 
 pub loop-place-init : goal.loop-place-init
@@ -79,7 +79,7 @@ loop-place-init c =
         counted = refl;
         visited = omega arith;
         room = refl;
-        keys = same_keys-refl c.self.inside.index.tags;
+        keys = λ items have knows. knows;
         moved = λ items have. moved_none c.args.stamp (marked_together c.args.stamp items (chain_lists c.args.block.now c.sweep_at.new.self.chains)) c.self.inside.index.tags;
       };
       long = refl;
@@ -114,9 +114,9 @@ tick-requires c =
     let listed = held_few c.args.block.now c.sweep_at.new.self.chains c.loop-place.invariant.begins.stands c.loop-place.invariant.begins.list c.args.stamp c.loop-place.invariant.begins.swept in
     omega (arith, c.loop-place-test.true, (places_long c.sweep_at.new.self.chains c.args.stamp c.places_at-first.result.0 c.places_at-first.result.1 c.places_at-first.ensures), listed, c.loop-place.invariant.begins.few, c.loop-place.invariant.so_far.visited, c.requires.before)
 
--- the chain of the place has the versions of an item that the index knows
+-- the chain of the place has the versions of an item whose tag the index has room for
 known_at : (c : After-kept_in-kept)
-    → (key : List ℕ) × All (IsVersionOf key) (chain_versions c.loop-place.block c.loop-place.self-inside.versions.chains (chain_in c.loop-place.block c.kept_in-kept.result.slot)) × (contains_key c.loop-place.self-inside.index.tags key ≡ true)
+    → (key : List ℕ) × All (IsVersionOf key) (chain_versions c.loop-place.block c.loop-place.self-inside.versions.chains (chain_in c.loop-place.block c.kept_in-kept.result.slot)) × HasPlace c.loop-place.self-inside.index key
 known_at c =
     let start = named c in
     let known = c.loop-place.invariant.begins.known in
@@ -125,7 +125,8 @@ known_at c =
       i.entry.key,
       subst (λ (h : Heads). All (IsVersionOf i.entry.key) (chain_versions c.loop-place.block h (chain_in c.loop-place.block c.kept_in-kept.result.slot))) (sym c.loop-place.invariant.so_far.rest)
           (own_so_far _ _ _ _ _ _ _ _ _ _ _ _ c.loop-place.invariant.begins.stands (within c) (is c) c.loop-place.invariant.so_far i.entry.key owner.own),
-      c.loop-place.invariant.so_far.keys.keys i.entry.key ∙ ap (λ (x : ChainedItem). contains_key c.self.inside.index.tags x.entry.key) owner.item.is ∙ known.2 owner.item.k i owner.item.within,
+      has_place c.loop-place.self-inside.index (entries_of known.0) i.entry.key (ap is_some (entry_is known.0 (chain_lists c.args.block.now c.sweep_at.new.self.chains) known.1.laid owner.item.k i owner.item.within owner.item.is))
+          (c.loop-place.invariant.so_far.keys known.0 known.1 known.2) (omega (arith, length-map known.0 (λ (x : ChainedItem). x.entry), known.3, c.loop-place.invariant.so_far.room)),
     )
 
 pub mark_slot-chain-requires-clause-named : goal.mark_slot-chain-requires-clause-named
@@ -148,10 +149,10 @@ latest : (c : After-mark_slot-chain) (key : List ℕ) → All (IsVersionOf key) 
     → IsLatest key (chain_versions c.mark_slot-chain.new.block c.mark_slot-chain.new.self c.mark_slot-chain.result) (committed_version o)
 latest c key all o is = latest_marked c.kept_in-kept.result.stamp key _ _ c.mark_slot-chain.ensures.marked all (c.mark_slot-chain.ensures.changed.stands.falling c.mark_slot-chain.result (in_range c)) o is
 
-in_index : (c : After-mark_slot-chain) (key : List ℕ) → All (IsVersionOf key) (chain_versions c.loop-place.block c.loop-place.self-inside.versions.chains c.mark_slot-chain.result) → contains_key c.loop-place.self-inside.index.tags key ≡ true
-    → (u : Record) → Some u ≡ slice_get (committed_records (chain_versions c.mark_slot-chain.new.block c.mark_slot-chain.new.self c.mark_slot-chain.result)) 0 → contains_key c.loop-place.self-inside.index.tags u.key ≡ true
+in_index : (c : After-mark_slot-chain) (key : List ℕ) → All (IsVersionOf key) (chain_versions c.loop-place.block c.loop-place.self-inside.versions.chains c.mark_slot-chain.result) → HasPlace c.loop-place.self-inside.index key
+    → (u : Record) → Some u ≡ slice_get (committed_records (chain_versions c.mark_slot-chain.new.block c.mark_slot-chain.new.self c.mark_slot-chain.result)) 0 → HasPlace c.loop-place.self-inside.index u.key
 in_index c key all there u is =
-    ap (contains_key c.loop-place.self-inside.index.tags) (latest_key c.kept_in-kept.result.stamp key _ _ c.mark_slot-chain.ensures.marked all (record { prepared = u; committed = true }) (latest c key all (Some u) is)) ∙ there
+    subst (HasPlace c.loop-place.self-inside.index) (sym (latest_key c.kept_in-kept.result.stamp key _ _ c.mark_slot-chain.ensures.marked all (record { prepared = u; committed = true }) (latest c key all (Some u) is))) there
 
 pub latest-requires : goal.latest-requires
 latest-requires c = record { known = in_range (goal.at.latest-requires c).After-mark_slot-chain; stands = c.mark_slot-chain.ensures.changed.stands }
@@ -181,7 +182,6 @@ pub loop-place-preserved : goal.loop-place-preserved
 loop-place-preserved c =
     let at = (goal.at.loop-place-preserved c).After-kept_in-kept in
     let marked = (goal.at.loop-place-preserved c).After-mark_slot-chain in
-    let known = known_at at in
     let done = c.mark_slot-chain.ensures in
     let chain = c.mark_slot-chain.result in
     let chain_is : chain ≡ chain_in c.args.block.now c.kept_in-kept.result.slot = done.place ∙ c.loop-place.invariant.so_far.places_stay c.kept_in-kept.result.slot in
@@ -192,22 +192,21 @@ loop-place-preserved c =
     let index : Index = c.move_item.new.index in
     let was = c.loop-place.invariant.so_far in
     let u = c.in-Some.latest in
-    let tags : index.tags ≡ insert before.tags u.key u.tag = ap (λ (x : Index). x.tags) c.move_item.ensures in
+    let tags : index.tags ≡ with_tag before.tags u.key u.tag = ap (λ (x : Index). x.tags) c.move_item.ensures in
     let rest : after ≡ with_latest c.sweep_at.new.self.chains after.latest = done.only.rest ∙ ap (λ (h : Heads). with_latest h after.latest) was.rest in
     let less : chain < length c.loop-place.self-inside.changed = omega (arith, done.known, c.loop-place.invariant.long, c.loop-place.invariant.begins.long, ap (λ (h : Heads). length h.heads) was.rest) in
     let within_since : chain < length c.loop-place.self-inside.last_base.since = omega (arith, done.known, c.loop-place.invariant.as_long, c.loop-place.invariant.begins.as_long, ap (λ (h : Heads). length h.heads) was.rest) in
     let Facts : ℕ → Type 0 = λ n.
     OtherChainsKept c.loop-place.block heads next after n × (chain_versions next after n ≡ map (marked_by c.kept_in-kept.result.stamp) (chain_versions c.loop-place.block heads n))
-    × ((key : List ℕ) → All (IsVersionOf key) (chain_versions c.loop-place.block heads n) → (v : Version) × IsLatest key (chain_versions next after n) (Some v) × (index.tags ≡ insert before.tags key v.prepared.tag)) in
-    let moved : (key : List ℕ) → All (IsVersionOf key) (chain_versions c.loop-place.block heads chain) → (v : Version) × IsLatest key (chain_versions next after chain) (Some v) × (index.tags ≡ insert before.tags key v.prepared.tag) = λ key all.
+    × ((key : List ℕ) → All (IsVersionOf key) (chain_versions c.loop-place.block heads n) → (v : Version) × IsLatest key (chain_versions next after n) (Some v) × (index.tags ≡ with_tag before.tags key v.prepared.tag)) in
+    let moved : (key : List ℕ) → All (IsVersionOf key) (chain_versions c.loop-place.block heads chain) → (v : Version) × IsLatest key (chain_versions next after chain) (Some v) × (index.tags ≡ with_tag before.tags key v.prepared.tag) = λ key all.
     let last : Version = record { prepared = u; committed = true } in
     let is = latest marked key all (Some u) c.in-Some.ensures in
-    (last, is, tags ∙ ap (λ k. insert before.tags k u.tag) (latest_key c.kept_in-kept.result.stamp key _ _ done.marked all last is)) in
+    (last, is, tags ∙ ap (λ k. with_tag before.tags k u.tag) (latest_key c.kept_in-kept.result.stamp key _ _ done.marked all last is)) in
     let facts : Facts (chain_in c.loop-place.block c.kept_in-kept.result.slot) = subst Facts done.place (done.changed.others, done.marked, moved) in
-    let keys = subst (HasSameKeys before.tags) (sym tags) (same_keys_set before.tags u.key u.tag (in_index marked known.0 (own marked known.0 known.1) known.2 u c.in-Some.ensures)) in
     rw c.tick.ensures (record {
       begins = c.loop-place.invariant.begins;
-      so_far = one_more _ _ _ _ _ _ _ _ _ _ _ _ c.loop-place.invariant.begins.stands (within at) (is at) was next after index done.changed.stands rest (done.only.stays, facts.0, facts.1, facts.2) done.places done.changed.own (ap (λ (x : Index). x.room) c.move_item.ensures) keys;
+      so_far = one_more _ _ _ _ _ _ _ _ _ _ _ _ c.loop-place.invariant.begins.stands (within at) (is at) was next after index done.changed.stands rest (done.only.stays, facts.0, facts.1, facts.2) done.places done.changed.own (ap (λ (x : Index). x.room) c.move_item.ensures);
       long = ap length c.note.ensures ∙ length-set c.loop-place.self-inside.changed chain true ∙ c.loop-place.invariant.long;
       noted = λ n. ap (λ (bs : List Bool). get_or bs n false) c.note.ensures
           ∙ noted_more c.args.block.now (places c.sweep_at.new.self.chains c.args.stamp) c.loop-place.place c.kept_in-kept.result (within at) (is at) c.self.inside.changed c.loop-place.self-inside.changed chain chain_is less c.loop-place.invariant.noted n;
@@ -254,7 +253,7 @@ returns c =
     ∙ sym (count_all items (held_in block start) all (used_is block start lies.versions.stands) test) in
     let moved : MovesItems c.args.stamp (held_in block start) (chain_lists after heads) old.index new.index = record {
       room = so_far.room;
-      keys = so_far.keys;
+      keys = λ items all. so_far.keys items (have at items all);
       moved = λ items all.
           subst (λ (h : Heads). let all = together (item_chains items (chain_lists after h)) in IsMoved c.args.stamp all all old.index.tags new.index.tags) (sym so_far.rest)
           (all_moved _ _ _ stands listed no_other _ _ _ _ _ _ _ _ so_far end items (have at items all));

@@ -158,6 +158,6 @@ returns c =
       };
       holds = (λ i. record { room = room i; versions = versions i; entries = entries_are at i; marks = marks i }) ∙ c.base.view_is;
       stands = λ log leaves.
-          filled_stands _ (held at) versions (entries_are at) (ap marks_of marks) (all_written (items at) (chain_lists block heads) put.laid) c.index_latest.ensures.knows c.index_latest.ensures.right log
+          filled_stands _ (held at) versions (entries_are at) (ap marks_of marks) (all_written (items at) (chain_lists block heads) put.laid) c.index_latest.ensures.known c.index_latest.ensures.right log
           (subst (λ (b : Frozen). Leaves b log) (sym c.base.view_is) leaves);
     }
