@@ -352,8 +352,7 @@ impl Cell {
             → content_in block.new self.new ≡ content_in block.old self.old }
         ensures visits { visits.new ≡ visits.old + result }
     {
-        self.versions.sweep_at(block, stamp);
-        let (first, end) = self.versions.chains.places_at(stamp);
+        let (first, end) = self.versions.sweep_at(block, stamp);
         let mut count = 0;
         for place in 0..end - first {
             visits.tick();

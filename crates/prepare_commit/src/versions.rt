@@ -168,22 +168,22 @@ impl Versions {
         ensures since { NotesChanged since.old since.new
             (lists_of block.old self.old) (lists_of block.new self.new) }
     {
-        self.sweep_at(block, stamp);
-        let (first, end) = self.chains.places_at(stamp);
+        let (first, end) = self.sweep_at(block, stamp);
         note_at(block, &self.chains, stamp, first, end, since);
-        self.chains.discard_at(block, stamp, visits)
+        self.chains.discard_at(block, stamp, first, end, visits)
     }
 
-    /// Sweeps the list of the kept versions where it has one of this stamp that is gone. It looks into the cells of those of the
-    /// stamp, and only where one is gone into all.
+    /// Sweeps the list of the kept versions where it has one of this stamp that is gone, and answers where those of the stamp begin
+    /// and end in it. It looks into the cells of those of the stamp, and only where one is gone into all.
     #[inline(always)]
-    pub(crate) fn sweep_at(&mut self, block: &Block, stamp: Stamp)
+    pub(crate) fn sweep_at(&mut self, block: &Block, stamp: Stamp) -> (usize, usize)
         requires { AreIn block.now self.old.chains }
         ensures lies { AreIn block.now self.new.chains }
         ensures swept { IsSweptAt stamp self.new.chains.tenant block.now self.new.chains.kept }
+        ensures run { IsRunOf stamp self.new.chains.kept result.0 result.1 }
         ensures rest { self.new.chains ≡ with_kept self.old.chains self.new.chains.kept }
     {
-        self.chains.sweep_at(block, stamp);
+        self.chains.sweep_at(block, stamp)
     }
 }
 

@@ -7,6 +7,7 @@ ghost use Rattle.version_chain.specs.Changes.{HasChain, HasRoomFor, ChangesChain
 ghost use Rattle.version_chain.specs.Discarded.{DropsOpen, FreesOnly};
 ghost use Rattle.version_chain.specs.Heads.{no_versions};
 ghost use Rattle.version_chain.specs.Listed.{is_named, chain_in, with_kept, Lists, IsSweptAt, IsPutAt, node_in, is_open_node};
+ghost use Rattle.version_chain.specs.Sweeping.{IsShort};
 ghost use Rattle.version_chain.specs.Sharing.{ChangesOwn};
 
 use crate::kept_list::KeptList;
@@ -347,6 +348,7 @@ impl Chains {
         ensures list { Lists block.now self.new }
         ensures room { length self.new.kept < self.old.share }
         ensures rest { self.new ≡ with_kept self.old self.new.kept }
+        ensures unswept { IsShort self.old.used self.old.share self.old.kept → self.new ≡ self.old }
     {
         if self.kept.is_due(self.used, self.share) {
             self.kept.sweep(block, self.tenant);
@@ -384,9 +386,10 @@ impl Chains {
         slot
     }
 
-    /// Where the versions of a stamp begin and end in the list of the kept ones, in which they stand side by side. It looks
-    /// at the last few of the list, and finds others by a binary search.
-    pub fn places_at(&self, stamp: Stamp) -> (usize, usize)
+    // Where the versions of a stamp begin and end in the list of the kept ones, in which they stand side by side. It looks
+    // at the last few of the list, and finds others by a binary search.
+    #[inline(always)]
+    fn places_at(&self, stamp: Stamp) -> (usize, usize)
         ensures { IsRunOf stamp self.now.kept result.0 result.1 }
     {
         self.kept.places(stamp)
@@ -597,14 +600,21 @@ impl Chains {
     }
 
     /// Gives up the versions of a stamp, of any chains, that are not committed, frees their cells, and answers how many they
-    /// were; the list of the kept versions still names them. The condition is that each version that the list has of the stamp is
-    /// held, as after `sweep_at`. It finds the versions of the stamp by a binary search in that list, and visits them, each
-    /// counted in `visits`; where one is not committed, it also searches for the stamp in its chain. At most 2^61 were counted
-    /// before.
-    pub fn discard_at(&mut self, block: &mut Block, stamp: Stamp, visits: &mut Visits) -> u32
+    /// were; the list of the kept versions still names them. The condition is that the versions that the list has of the stamp
+    /// stand between these places, and are held, as `sweep_at` answers and leaves them. It visits them, each counted in `visits`;
+    /// where one is not committed, it also searches for the stamp in its chain. At most 2^61 were counted before.
+    pub fn discard_at(
+        &mut self,
+        block: &mut Block,
+        stamp: Stamp,
+        first: usize,
+        end: usize,
+        visits: &mut Visits,
+    ) -> u32
         requires stands { HoldsChains block.old self.old }
         requires list { Lists block.old self.old }
         requires swept { IsSweptAt stamp self.old.tenant block.old self.old.kept }
+        requires run { IsRunOf stamp self.old.kept first end }
         requires few { self.old.used < 2 ^ 32 }
         requires before { visits.old ≤ 2 ^ 61 }
         ensures own { ChangesOwn block.old block.new self.old self.new }
@@ -616,7 +626,6 @@ impl Chains {
             ≡ visits.old + length (filter (λ k. k.stamp == stamp) self.old.kept) }
     {
         let mut dropped = 0;
-        let (first, end) = self.places_at(stamp);
         for place in 0..end - first {
             visits.tick();
             let slot = self.kept_in(first + place).slot;
@@ -744,25 +753,48 @@ impl Chains {
         None
     }
 
-    /// Sweeps the list of the kept versions where it has one of this stamp that its cell does not hold any more. It looks into
-    /// the cells of those of the stamp, and only where one does not hold its version into all.
-    pub fn sweep_at(&mut self, block: &Block, stamp: Stamp)
+    /// Sweeps the list of the kept versions where it has one of this stamp that its cell does not hold any more, and answers where
+    /// those of the stamp begin and end in it, in which they stand side by side. It looks at the last few of the list, finds others
+    /// by a binary search, and looks into their cells; only where one does not hold its version it looks into all cells, and
+    /// searches once more.
+    #[inline(always)]
+    pub fn sweep_at(&mut self, block: &Block, stamp: Stamp) -> (usize, usize)
         requires { Lists block.now self.old }
         ensures list { Lists block.now self.new }
         ensures swept { IsSweptAt stamp self.new.tenant block.now self.new.kept }
+        ensures run { IsRunOf stamp self.new.kept result.0 result.1 }
         ensures rest { self.new ≡ with_kept self.old self.new.kept }
-    {
-        if self.has_unheld(block, stamp) {
-            self.kept.sweep(block, self.tenant);
-        }
-    }
-
-    // Whether the list has a version of this stamp that its cell does not hold any more.
-    #[inline(always)]
-    fn has_unheld(&self, block: &Block, stamp: Stamp) -> bool
-        ensures { result ≡ false → IsSweptAt stamp self.now.tenant block.now self.now.kept }
+        ensures unswept { IsSweptAt stamp self.old.tenant block.now self.old.kept
+            → self.new ≡ self.old }
     {
         let (first, end) = self.places_at(stamp);
+        if !self.has_unheld(block, stamp, first, end) {
+            return (first, end);
+        }
+        self.sweep_again(block, stamp)
+    }
+
+    // Sweeps the list of the kept versions, and answers where those of a stamp begin and end in it then.
+    #[cold]
+    #[inline(never)]
+    fn sweep_again(&mut self, block: &Block, stamp: Stamp) -> (usize, usize)
+        requires { Lists block.now self.old }
+        ensures list { Lists block.now self.new }
+        ensures swept { IsSweptAt stamp self.new.tenant block.now self.new.kept }
+        ensures run { IsRunOf stamp self.new.kept result.0 result.1 }
+        ensures rest { self.new ≡ with_kept self.old self.new.kept }
+    {
+        self.kept.sweep(block, self.tenant);
+        self.places_at(stamp)
+    }
+
+    // Whether the list has a version of this stamp that its cell does not hold any more. Those of the stamp stand between these
+    // places.
+    #[inline(always)]
+    fn has_unheld(&self, block: &Block, stamp: Stamp, first: usize, end: usize) -> bool
+        requires { IsRunOf stamp self.now.kept first end }
+        ensures { result ≡ false ↔ IsSweptAt stamp self.now.tenant block.now self.now.kept }
+    {
         for place in 0..end - first {
             if !is_held(block, self.tenant, &self.kept_in(first + place)) {
                 return true;

@@ -1,8 +1,9 @@
 //! The kept versions of a tenant, in two lists.
-ghost use Rattle.std.specs.Prelude.{◌≡◌, ◌==◌, ◌+◌, ◌<◌, ◌≤◌, ◌++◌, [], Bool, IsTrue, false, length, filter, not, nat_lt, count_by, IfOk, slice_range, slice_index_or};
+ghost use Rattle.std.specs.Prelude.{◌≡◌, ◌↔◌, ◌==◌, ◌+◌, ◌<◌, ◌≤◌, ◌++◌, [], Bool, IsTrue, false, length, filter, not, nat_lt, count_by, IfOk, slice_range, slice_index_or};
 ghost use Rattle.version_chain.specs.Listing.{AreApart, count_at};
 ghost use Rattle.version_chain.specs.Listed.{IsListedInto, held_at, is_named};
 ghost use Rattle.version_chain.specs.Place.{least_of};
+ghost use Rattle.version_chain.specs.Sweeping.{IsShort};
 
 use crate::shared_block::Block;
 use crate::stamp_list::{Kept, StampList};
@@ -113,7 +114,7 @@ impl KeptList {
     /// Whether a sweep is due: the list is full, or has some more than twice as many versions as are held.
     #[inline(always)]
     pub(crate) fn is_due(&self, held: u32, room: u32) -> bool
-        ensures { result ≡ false → length self.now.kept < room }
+        ensures { result ≡ false ↔ IsShort held room self.now.kept }
     {
         let listed = self.main.len() + self.late.len();
         listed >= room as usize || listed > 2 * held as usize + SPARE

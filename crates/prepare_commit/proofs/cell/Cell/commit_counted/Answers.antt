@@ -30,30 +30,30 @@ use Rattle.version_chain.specs.declared.version.Version.{Version}
 use mathlib.Core.Bool.{or-false}
 use Rattle.prepare_commit.specs.declared.cell.Cell.TheInside.{Inside}
 use Rattle.prepare_commit.proofs.cell.Cell.commit_counted.Goals as goal
-use Rattle.prepare_commit.proofs.cell.Cell.commit_counted.Goals.{After-sweep_at, After-kept_in-kept, After-mark_slot-chain}
+use Rattle.prepare_commit.proofs.cell.Cell.commit_counted.Goals.{After-sweep_at-first, After-kept_in-kept, After-mark_slot-chain}
 
-pub sweep_at-requires : goal.sweep_at-requires
-sweep_at-requires c = (lies_at c.args.block.now _ _ c.self.view_is c.requires.lies).versions
+pub sweep_at-first-requires : goal.sweep_at-first-requires
+sweep_at-first-requires c = (lies_at c.args.block.now _ _ c.self.view_is c.requires.lies).versions
 
 -- a sweep changes no chain
-view : (c : After-sweep_at) → held_in c.args.block.now c.sweep_at.new.self.chains ≡ held_in c.args.block.now c.self.inside.versions.chains
-view c = ap (held_in c.args.block.now) c.sweep_at.ensures.rest
+view : (c : After-sweep_at-first) → held_in c.args.block.now c.sweep_at-first.new.self.chains ≡ held_in c.args.block.now c.self.inside.versions.chains
+view c = ap (held_in c.args.block.now) c.sweep_at-first.ensures.rest
 
-have : (c : After-sweep_at) (items : List ChainedItem) → HaveAll items (held_in c.args.block.now c.self.inside.versions.chains) → HaveAll items (held_in c.args.block.now c.sweep_at.new.self.chains)
+have : (c : After-sweep_at-first) (items : List ChainedItem) → HaveAll items (held_in c.args.block.now c.self.inside.versions.chains) → HaveAll items (held_in c.args.block.now c.sweep_at-first.new.self.chains)
 have c items all = subst (λ (h : Chained). HaveAll items h) (sym (view c)) all
 
 -- the start
-begins : (c : After-sweep_at) → Begins c.args.block.now c.sweep_at.new.self.chains c.args.stamp c.self.inside.index c.self.inside.changed c.self.inside.last_base.since
+begins : (c : After-sweep_at-first) → Begins c.args.block.now c.sweep_at-first.new.self.chains c.args.stamp c.self.inside.index c.self.inside.changed c.self.inside.last_base.since
 begins c =
     let block = c.args.block.now in
     let items = c.self.inside.entries.items in
     let start = c.self.inside.versions.chains in
     let lies = lies_at block _ _ c.self.view_is c.requires.lies in
-    let rest = c.sweep_at.ensures.rest in
+    let rest = c.sweep_at-first.ensures.rest in
     record {
-      stands = c.sweep_at.ensures.lies.stands;
-      list = c.sweep_at.ensures.lies.listed;
-      swept = c.sweep_at.ensures.swept;
+      stands = c.sweep_at-first.ensures.lies.stands;
+      list = c.sweep_at-first.ensures.lies.listed;
+      swept = c.sweep_at-first.ensures.swept;
       few = omega (arith, lies.holds.fits, c.self.invariant.2, ap (λ (h : Heads). h.used) rest);
       long = omega (arith, c.self.invariant.7, lies.holds.chains, chains_long block start, ap (λ (h : Heads). length h.heads) rest);
       as_long = omega (arith, c.self.invariant.8, lies.holds.chains, chains_long block start, ap (λ (h : Heads). length h.heads) rest);
@@ -62,14 +62,14 @@ begins c =
 
 pub loop-place-init : goal.loop-place-init
 loop-place-init c =
-    let at = (goal.at.loop-place-init c).After-sweep_at in
+    let at = (goal.at.loop-place-init c).After-sweep_at-first in
     let start = begins at in
     record {
       begins = start;
       so_far = record {
         stands = start.stands;
         rest = refl;
-        own = own_none c.args.block.now c.sweep_at.new.self.chains;
+        own = own_none c.args.block.now c.sweep_at-first.new.self.chains;
         listed = start.list;
         swept = start.swept;
         stays = λ slot stamp. refl;
@@ -80,7 +80,7 @@ loop-place-init c =
         visited = omega arith;
         room = refl;
         keys = λ items have knows. knows;
-        moved = λ items have. moved_none c.args.stamp (marked_together c.args.stamp items (chain_lists c.args.block.now c.sweep_at.new.self.chains)) c.self.inside.index.tags;
+        moved = λ items have. moved_none c.args.stamp (marked_together c.args.stamp items (chain_lists c.args.block.now c.sweep_at-first.new.self.chains)) c.self.inside.index.tags;
       };
       long = refl;
       noted = λ chain. sym (or-false (get_or c.self.inside.changed chain false));
@@ -89,21 +89,21 @@ loop-place-init c =
       rest = refl;
     }
 
-within : (c : After-kept_in-kept) → c.loop-place.place < length (places c.sweep_at.new.self.chains c.args.stamp)
-within c = omega (arith, c.loop-place-test.true, (places_long c.sweep_at.new.self.chains c.args.stamp c.places_at-first.result.0 c.places_at-first.result.1 c.places_at-first.ensures))
+within : (c : After-kept_in-kept) → c.loop-place.place < length (places c.sweep_at-first.new.self.chains c.args.stamp)
+within c = omega (arith, c.loop-place-test.true, (places_long c.sweep_at-first.new.self.chains c.args.stamp c.sweep_at-first.result.0 c.sweep_at-first.result.1 c.sweep_at-first.ensures.run))
 
-is : (c : After-kept_in-kept) → c.kept_in-kept.result ≡ get_or (places c.sweep_at.new.self.chains c.args.stamp) c.loop-place.place c.kept_in-kept.result
+is : (c : After-kept_in-kept) → c.kept_in-kept.result ≡ get_or (places c.sweep_at-first.new.self.chains c.args.stamp) c.loop-place.place c.kept_in-kept.result
 is c =
-    place_in c.sweep_at.new.self.chains c.args.stamp c.places_at-first.result.0 c.places_at-first.result.1 c.places_at-first.ensures c.loop-place.place c.kept_in-kept.result c.loop-place-test.true
-    (c.kept_in-kept.ensures ∙ ap (λ (h : Heads). get_or h.kept (c.places_at-first.result.0 + c.loop-place.place) c.kept_in-kept.result) c.loop-place.invariant.so_far.rest)
+    place_in c.sweep_at-first.new.self.chains c.args.stamp c.sweep_at-first.result.0 c.sweep_at-first.result.1 c.sweep_at-first.ensures.run c.loop-place.place c.kept_in-kept.result c.loop-place-test.true
+    (c.kept_in-kept.ensures ∙ ap (λ (h : Heads). get_or h.kept (c.sweep_at-first.result.0 + c.loop-place.place) c.kept_in-kept.result) c.loop-place.invariant.so_far.rest)
 
 few : (c : After-kept_in-kept) → c.loop-place.place + 1 < 2 ^ 32
 few c =
     let least = within c in
-    let listed = held_few c.args.block.now c.sweep_at.new.self.chains c.loop-place.invariant.begins.stands c.loop-place.invariant.begins.list c.args.stamp c.loop-place.invariant.begins.swept in
+    let listed = held_few c.args.block.now c.sweep_at-first.new.self.chains c.loop-place.invariant.begins.stands c.loop-place.invariant.begins.list c.args.stamp c.loop-place.invariant.begins.swept in
     omega (arith, least, listed, c.loop-place.invariant.begins.few)
 
-named : (c : After-kept_in-kept) → Named c.args.block.now c.sweep_at.new.self.chains c.args.stamp c.kept_in-kept.result
+named : (c : After-kept_in-kept) → Named c.args.block.now c.sweep_at-first.new.self.chains c.args.stamp c.kept_in-kept.result
 named c = named_start _ _ _ _ _ _ _ _ _ _ _ _ c.loop-place.invariant.begins.stands (within c) (is c) c.loop-place.invariant.so_far
 
 pub overflow_add-count : goal.overflow_add-count
@@ -111,8 +111,8 @@ overflow_add-count c = omega (arith, few (goal.at.overflow_add-count c).After-ke
 
 pub tick-requires : goal.tick-requires
 tick-requires c =
-    let listed = held_few c.args.block.now c.sweep_at.new.self.chains c.loop-place.invariant.begins.stands c.loop-place.invariant.begins.list c.args.stamp c.loop-place.invariant.begins.swept in
-    omega (arith, c.loop-place-test.true, (places_long c.sweep_at.new.self.chains c.args.stamp c.places_at-first.result.0 c.places_at-first.result.1 c.places_at-first.ensures), listed, c.loop-place.invariant.begins.few, c.loop-place.invariant.so_far.visited, c.requires.before)
+    let listed = held_few c.args.block.now c.sweep_at-first.new.self.chains c.loop-place.invariant.begins.stands c.loop-place.invariant.begins.list c.args.stamp c.loop-place.invariant.begins.swept in
+    omega (arith, c.loop-place-test.true, (places_long c.sweep_at-first.new.self.chains c.args.stamp c.sweep_at-first.result.0 c.sweep_at-first.result.1 c.sweep_at-first.ensures.run), listed, c.loop-place.invariant.begins.few, c.loop-place.invariant.so_far.visited, c.requires.before)
 
 -- the chain of the place has the versions of an item whose tag the index has room for
 known_at : (c : After-kept_in-kept)
@@ -120,12 +120,12 @@ known_at : (c : After-kept_in-kept)
 known_at c =
     let start = named c in
     let known = c.loop-place.invariant.begins.known in
-    let owner = owner_of c.args.block.now c.sweep_at.new.self.chains (chain_in c.args.block.now c.kept_in-kept.result.slot) c.args.stamp start.version.prepared known.0 c.loop-place.invariant.begins.stands start.known start.found known.1 in
+    let owner = owner_of c.args.block.now c.sweep_at-first.new.self.chains (chain_in c.args.block.now c.kept_in-kept.result.slot) c.args.stamp start.version.prepared known.0 c.loop-place.invariant.begins.stands start.known start.found known.1 in
     let i = owner.item.i in (
       i.entry.key,
       subst (λ (h : Heads). All (IsVersionOf i.entry.key) (chain_versions c.loop-place.block h (chain_in c.loop-place.block c.kept_in-kept.result.slot))) (sym c.loop-place.invariant.so_far.rest)
           (own_so_far _ _ _ _ _ _ _ _ _ _ _ _ c.loop-place.invariant.begins.stands (within c) (is c) c.loop-place.invariant.so_far i.entry.key owner.own),
-      has_place c.loop-place.self-inside.index (entries_of known.0) i.entry.key (ap is_some (entry_is known.0 (chain_lists c.args.block.now c.sweep_at.new.self.chains) known.1.laid owner.item.k i owner.item.within owner.item.is))
+      has_place c.loop-place.self-inside.index (entries_of known.0) i.entry.key (ap is_some (entry_is known.0 (chain_lists c.args.block.now c.sweep_at-first.new.self.chains) known.1.laid owner.item.k i owner.item.within owner.item.is))
           (c.loop-place.invariant.so_far.keys known.0 known.1 known.2) (omega (arith, length-map known.0 (λ (x : ChainedItem). x.entry), known.3, c.loop-place.invariant.so_far.room)),
     )
 
@@ -133,7 +133,7 @@ pub mark_slot-chain-requires-clause-named : goal.mark_slot-chain-requires-clause
 mark_slot-chain-requires-clause-named c =
     let at = (goal.at.mark_slot-chain-requires-clause-named c).After-kept_in-kept in
     subst (λ (h : Heads). is_named h.tenant c.loop-place.block c.kept_in-kept.result ≡ true) (sym c.loop-place.invariant.so_far.rest)
-    (place_named _ c.sweep_at.new.self.chains c.args.stamp _ _ (within at) (is at) c.loop-place.invariant.so_far.swept)
+    (place_named _ c.sweep_at-first.new.self.chains c.args.stamp _ _ (within at) (is at) c.loop-place.invariant.so_far.swept)
 
 -- the versions that the chain had are of the item
 own : (c : After-mark_slot-chain) (key : List ℕ) → All (IsVersionOf key) (chain_versions c.loop-place.block c.loop-place.self-inside.versions.chains (chain_in c.loop-place.block c.kept_in-kept.result.slot))
@@ -193,7 +193,7 @@ loop-place-preserved c =
     let was = c.loop-place.invariant.so_far in
     let u = c.in-Some.latest in
     let tags : index.tags ≡ with_tag before.tags u.key u.tag = ap (λ (x : Index). x.tags) c.move_item.ensures in
-    let rest : after ≡ with_latest c.sweep_at.new.self.chains after.latest = done.only.rest ∙ ap (λ (h : Heads). with_latest h after.latest) was.rest in
+    let rest : after ≡ with_latest c.sweep_at-first.new.self.chains after.latest = done.only.rest ∙ ap (λ (h : Heads). with_latest h after.latest) was.rest in
     let less : chain < length c.loop-place.self-inside.changed = omega (arith, done.known, c.loop-place.invariant.long, c.loop-place.invariant.begins.long, ap (λ (h : Heads). length h.heads) was.rest) in
     let within_since : chain < length c.loop-place.self-inside.last_base.since = omega (arith, done.known, c.loop-place.invariant.as_long, c.loop-place.invariant.begins.as_long, ap (λ (h : Heads). length h.heads) was.rest) in
     let Facts : ℕ → Type 0 = λ n.
@@ -209,10 +209,10 @@ loop-place-preserved c =
       so_far = one_more _ _ _ _ _ _ _ _ _ _ _ _ c.loop-place.invariant.begins.stands (within at) (is at) was next after index done.changed.stands rest (done.only.stays, facts.0, facts.1, facts.2) done.places done.changed.own (ap (λ (x : Index). x.room) c.move_item.ensures);
       long = ap length c.note.ensures ∙ length-set c.loop-place.self-inside.changed chain true ∙ c.loop-place.invariant.long;
       noted = λ n. ap (λ (bs : List Bool). get_or bs n false) c.note.ensures
-          ∙ noted_more c.args.block.now (places c.sweep_at.new.self.chains c.args.stamp) c.loop-place.place c.kept_in-kept.result (within at) (is at) c.self.inside.changed c.loop-place.self-inside.changed chain chain_is less c.loop-place.invariant.noted n;
+          ∙ noted_more c.args.block.now (places c.sweep_at-first.new.self.chains c.args.stamp) c.loop-place.place c.kept_in-kept.result (within at) (is at) c.self.inside.changed c.loop-place.self-inside.changed chain chain_is less c.loop-place.invariant.noted n;
       as_long = ap length c.note-in-loop-place.ensures ∙ length-set c.loop-place.self-inside.last_base.since chain true ∙ c.loop-place.invariant.as_long;
       since = λ n. ap (λ (bs : List Bool). get_or bs n false) c.note-in-loop-place.ensures
-          ∙ noted_more c.args.block.now (places c.sweep_at.new.self.chains c.args.stamp) c.loop-place.place c.kept_in-kept.result (within at) (is at) c.self.inside.last_base.since c.loop-place.self-inside.last_base.since chain chain_is within_since c.loop-place.invariant.since n;
+          ∙ noted_more c.args.block.now (places c.sweep_at-first.new.self.chains c.args.stamp) c.loop-place.place c.kept_in-kept.result (within at) (is at) c.self.inside.last_base.since c.loop-place.self-inside.last_base.since chain chain_is within_since c.loop-place.invariant.since n;
       rest = ap (λ (s : Inside). record s {
         versions = record s.versions { chains = after };
         index = index;
@@ -223,7 +223,7 @@ loop-place-preserved c =
 
 pub returns : goal.returns
 returns c =
-    let at = (goal.at.returns c).After-sweep_at in
+    let at = (goal.at.returns c).After-sweep_at-first in
     let was = c.loop-place.invariant in
     let so_far = was.so_far in
     let stands = was.begins.stands in
@@ -234,14 +234,14 @@ returns c =
     let old = c.self.inside in
     let new = c.loop-place.self-inside in
     let start = old.versions.chains in
-    let swept : Heads = c.sweep_at.new.self.chains in
+    let swept : Heads = c.sweep_at-first.new.self.chains in
     let heads : Heads = new.versions.chains in
     let lies = lies_at block _ _ c.self.view_is c.requires.lies in
     let few = c.self.invariant.0 in
     let seen = view at in
-    let end : length (places swept c.args.stamp) ≤ c.loop-place.place = omega (arith, c.loop-place-test.false, (places_long swept c.args.stamp c.places_at-first.result.0 c.places_at-first.result.1 c.places_at-first.ensures)) in
+    let end : length (places swept c.args.stamp) ≤ c.loop-place.place = omega (arith, c.loop-place-test.false, (places_long swept c.args.stamp c.sweep_at-first.result.0 c.sweep_at-first.result.1 c.sweep_at-first.ensures.run)) in
     let test = λ (v : Version). v.prepared.stamp == c.args.stamp in
-    let own = own_after block start swept c.sweep_at.ensures.rest after heads so_far.own in
+    let own = own_after block start swept c.sweep_at-first.ensures.rest after heads so_far.own in
     let marked : held_in after heads ≡ record { share = start.share; used = start.used; chains = map (map (marked_at c.args.stamp)) (chain_lists block start) } =
     let lists = ap (λ (h : Heads). chain_lists after h) so_far.rest ∙ all_marked _ _ _ stands listed no_other _ _ _ _ _ _ _ _ so_far end ∙ ap (λ (h : Chained). map (map (marked_at c.args.stamp)) h.chains) seen in
     let share = ap (λ (h : Heads). h.share) so_far.rest ∙ ap (λ (h : Chained). h.share) seen in

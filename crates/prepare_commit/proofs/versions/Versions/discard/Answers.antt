@@ -13,22 +13,23 @@ use Rattle.prepare_commit.proofs.versions.Versions.discard.Goals as goal
 
 pub note_at-requires : goal.note_at-requires
 note_at-requires c =
-    let done = c.sweep_at.ensures in
+    let done = c.sweep_at-first.ensures in
     record {
       stands = done.lies.stands;
       list = done.lies.listed;
       swept = done.swept;
-      run = c.places_at-first.ensures;
+      run = done.run;
       long = c.requires.as_long ∙ chains_long c.args.block.now c.args.self.now.chains ∙ sym (ap (λ (h : Heads). length h.heads) done.rest);
     }
 
 pub discard_at-requires : goal.discard_at-requires
 discard_at-requires c =
-    let done = c.sweep_at.ensures in
+    let done = c.sweep_at-first.ensures in
     record {
       stands = done.lies.stands;
       list = done.lies.listed;
       swept = done.swept;
+      run = done.run;
       few = omega (arith, c.requires.few, ap (λ (h : Heads). h.used) done.rest);
       before = c.requires.before;
     }
@@ -38,8 +39,8 @@ returns c =
     let done = c.discard_at.ensures in
     let block = c.args.block.now in
     let start = c.args.self.now.chains in
-    let heads : Heads = c.sweep_at.new.self.chains in
-    let swept = c.sweep_at.ensures in
+    let heads : Heads = c.sweep_at-first.new.self.chains in
+    let swept = c.sweep_at-first.ensures in
     let seen : held_in block heads ≡ held_in block start = ap (held_in block) swept.rest in
     let test = λ (v : Version). v.prepared.stamp == c.args.stamp in
     record {

@@ -10,5 +10,6 @@ returns c =
     record {
       lies = record { stands = still_stands c.args.block.now c.args.self.now.chains c.sweep_at.new.self done.rest c.requires.stands; listed = done.list };
       swept = done.swept;
+      run = done.run;
       rest = done.rest;
     }

@@ -1,15 +1,8 @@
-use Rattle.std.proofs.Common.{sym, subst}
-use Rattle.version_chain.specs.Heads.{Heads}
-use Rattle.version_chain.specs.Listed.{Lists}
-use Rattle.version_chain.proofs.Listing.{lists_swept, swept_at}
+use Rattle.std.proofs.Common.{◌≡◌, true, false, sym, ◌∙◌}
 use Rattle.version_chain.proofs.chains.Chains.sweep_at.Goals as goal
 
-pub returns-then-has_unheld-clause-list : goal.returns-then-has_unheld-clause-list
-returns-then-has_unheld-clause-list c =
-    let before : Heads = record { tenant = c.self.inside.tenant; share = c.self.inside.share; used = c.self.inside.used; heads = c.self.inside.heads.items; latest = c.self.inside.latest.items; kept = c.self.inside.kept.kept } in
-    lists_swept c.args.block.now before c.sweep.new.self.kept c.sweep.ensures.swept (subst (λ (h : Heads). Lists c.args.block.now h) (sym c.self.view_is) c.requires)
+pub returns-then-not-has_unheld-clause-swept : goal.returns-then-not-has_unheld-clause-swept
+returns-then-not-has_unheld-clause-swept c = c.has_unheld.ensures.0 c.if-not-has_unheld.true
 
-pub returns-then-has_unheld-clause-swept : goal.returns-then-has_unheld-clause-swept
-returns-then-has_unheld-clause-swept c =
-    let before : Heads = record { tenant = c.self.inside.tenant; share = c.self.inside.share; used = c.self.inside.used; heads = c.self.inside.heads.items; latest = c.self.inside.latest.items; kept = c.self.inside.kept.kept } in
-    swept_at c.args.block.now before c.sweep.new.self.kept c.sweep.ensures.swept c.args.stamp
+pub returns-clause-unswept : goal.returns-clause-unswept
+returns-clause-unswept c swept = absurd (let g : true ≡ false = sym c.if-not-has_unheld.false ∙ c.has_unheld.ensures.1 swept in cc)
