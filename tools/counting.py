@@ -41,7 +41,6 @@ hub/src/seat.rt: run
 WALKS = {
     "PREPARE": TO_PUT + """
 prepare_commit/src/cell.rt: apply_into prepare
-prepare_commit/src/versions.rt: insert
 version_chain/src/chains.rt: insert_from
 """,
     "COMMIT": TO_PUT + """
@@ -52,7 +51,6 @@ version_chain/src/chains.rt: mark_slot
 hub/src/seat.rt: get_all_into run
 """ + TO_CELL + """
 prepare_commit/src/cell.rt: apply_into get
-prepare_commit/src/versions.rt: latest
 version_chain/src/chains.rt: latest
 """,
 }

@@ -293,7 +293,7 @@ impl Cell {
                     return PrepareReply::Discarded;
                 }
                 self.last_base.since.note(item.chain);
-                return reply_of(self.versions.insert(block, item.chain, version));
+                return reply_of(self.versions.chains.insert_from(block, item.chain, version));
             }
             Err(place) => place,
         };
@@ -311,7 +311,7 @@ impl Cell {
             chain: self.entries.len() as u32,
         };
         self.last_base.since.note(item.chain);
-        if let Insert::Full = self.versions.insert(block, item.chain, version) {
+        if let Insert::Full = self.versions.chains.insert_from(block, item.chain, version) {
             return PrepareReply::FullSlots;
         }
         self.entries.insert(place, item);
@@ -450,7 +450,7 @@ impl Cell {
         };
         let item = self.entries.get(place);
         let Some(stamp) = stamp else {
-            return match self.versions.latest(block, item.chain) {
+            return match self.versions.chains.latest(block, item.chain) {
                 Some(latest) => {
                     let _written = latest.stamp();
                     GetReply::Version(latest)

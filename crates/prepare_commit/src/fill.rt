@@ -152,7 +152,7 @@ fn latest_tag(block: &Block, held: &Versions, chain: u32) -> Tag
     ensures { (key : List ℕ) → All (IsVersionOf key) (versions_at block.now held.now chain)
         → IsTagOf key (versions_at block.now held.now chain) result }
 {
-    match held.latest(block, chain) {
+    match held.chains.latest(block, chain) {
         Some(latest) => latest.tag(),
         None => items::no_tag(),
     }

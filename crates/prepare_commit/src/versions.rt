@@ -57,16 +57,6 @@ impl Versions {
         self.chains.find(block, chain, stamp)
     }
 
-    /// The latest committed record of a chain. It visits this one alone.
-    pub(crate) fn latest<'b>(&self, block: &'b Block, chain: u32) -> Option<StoredRecord<'b>>
-        requires { HasChain block.now self.now.chains chain }
-        ensures { (key : List ℕ) → All (IsVersionOf key) (versions_at block.now self.now chain)
-            → IsLatest key (versions_at block.now self.now chain)
-            (committed_version result) }
-    {
-        self.chains.latest(block, chain)
-    }
-
     /// The record of the greatest stamp in a chain, if it has any.
     pub(crate) fn first<'b>(&self, block: &'b Block, chain: u32) -> Option<StoredRecord<'b>>
         requires { HasChain block.now self.now.chains chain }
@@ -87,20 +77,6 @@ impl Versions {
         ensures { IfOk result (λ _. list.new ≡ list.old ++ versions_at block.now self.now chain) }
     {
         self.chains.pack_to(block, chain, list)
-    }
-
-    /// Puts a record into a chain, not committed as yet. It visits what a search for the record's stamp does, and shifts
-    /// the listed versions of greater stamps.
-    #[inline(always)]
-    pub(crate) fn insert(&mut self, block: &mut Block, chain: u32, version: &Record) -> Insert
-        requires known { chain < length (lists_of block.old self.old) }
-        requires share { HaveShare block.old self.old }
-        ensures gives { InsertGives result (held_in block.old self.old.chains)
-            (held_in block.new self.new.chains) chain version.now }
-        ensures changed { ChangesVersions block.old self.old block.new self.new }
-        ensures not_added { result ≢ Insert.Added → block.new ≡ block.old }
-    {
-        self.chains.insert_from(block, chain, version)
     }
 
     /// Puts a version with its mark into a chain, which has none of its stamp, while a slot is free. It visits what a
