@@ -27,7 +27,7 @@ server_sessions/src/line_session.rt: answer_lines answer_piece answer
 server_sessions/src/given.rt: ask_seat
 """
 TO_CELL = """
-hub/src/operation.rt: perform exchange
+hub/src/operation.rt: exchange
 hub/src/dispatcher.rt: dispatch
 shard/src/shard.rt: serve_round serve
 traced_book/src/traced.rt: serve_into

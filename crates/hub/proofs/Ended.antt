@@ -1,5 +1,5 @@
 -- Why a seat answers `restart` or `ended`: for the laws of reads.
-use Rattle.std.proofs.Common.{◌≡◌, ◌++◌, ◌∷◌, [], ◌==◌, List, Bool, true, false, Option, Some, None, cond, not, nat_lt, refl, sym, ap, ◌∙◌, subst, ◌&&◌}
+use Rattle.std.proofs.Common.{◌≡◌, ◌++◌, ◌∷◌, [], ◌==◌, List, Bool, true, false, Option, Some, None, cond, not, nat_lt, refl, ap, ◌∙◌, subst, ◌&&◌}
 use Rattle.std.specs.List.{list_any}
 use Rattle.std.proofs.lemmas.Bool.{ltb-true}
 use Rattle.stamps.specs.Limits.{max_found}

@@ -13,6 +13,7 @@ mod Behind
 mod Started
 mod Taking
 mod Moved
+mod Performed
 pub mod Evidence
 mod Reported
 mod Fresh

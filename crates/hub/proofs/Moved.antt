@@ -9,11 +9,12 @@ use Rattle.plain_store.specs.History.{Intent as Asked}
 use Rattle.plain_store.specs.Words.{Setup, Stamp}
 use Rattle.history.specs.declared.rule.Naming.{Ghosts}
 use Rattle.history.proofs.Lists.{prefix_join}
+use Rattle.shard.specs.declared.jobs.SeatReply.{SeatReply}
 use Rattle.tenant_sessions.specs.Moves.{is_last, moved}
 use Rattle.tenant_sessions.specs.declared.moves.MoveKind.{MoveKind}
 use Rattle.tenant_sessions.specs.declared.running.Running.{Running}
 use Rattle.tenant_sessions.specs.declared.session.ClientSession.{ClientSession}
-use Rattle.hub.specs.Operating.{FollowsMove, TakesReplies}
+use Rattle.hub.specs.Operating.{EntersReply, FollowsMove, TakesReplies}
 use Rattle.hub.specs.Replies.{Reads}
 use Rattle.hub.specs.Seats.{EndsSo, Extends, spare, told_by}
 use Rattle.hub.specs.Sights.{OperationSight, operation_of, sight_of}
@@ -87,6 +88,26 @@ module _ {G : Type 0} {naming : Ghosts G} where
             (operations old.name old.name _ _ _ _ refl refl seen) items (ap (λ (s : ClientSession). s.running) session) told reads;
         served = λ start are.
             served-same _ _ old.first old.first (old.first + old.dispatcher.sent) (old.first + staged.dispatcher.sent) start old.entries.items staged.entries.items (sights old.name old.name _ _ refl seen) refl (omega (arith, sent)) items are;
+        counter = omega (arith, ap (λ (s : ClientSession). s.counter) session);
+        goes_on = record { name = name; first = first; seen = prefix_is _ _ (sym seen); mark = mark };
+      }
+
+  -- a reply that is not entered leaves all but the fault
+  pub enters_none : (own : Stamp) (reply : SeatReply G naming) (old new : RunningOperation G naming) (answer : Answer) → new.name ≡ old.name → new.first ≡ old.first → new.dispatcher ≡ old.dispatcher → new.session ≡ old.session
+      → new.entries ≡ old.entries → new.place ≡ old.place → new.seen ≡ old.seen → new.mark ≡ old.mark → EntersReply own reply old answer new answer
+  enters_none own reply old new answer name first dispatcher session entries place seen mark =
+      let items = ap (λ e. e.items) entries in
+      let told = ap (λ p. told_by p answer) place in
+      record {
+        room = omega (arith, ap (λ e. e.room) entries, ap spare place);
+        replies = omega (arith, ap replies_in items);
+        ends = λ was. subst (λ (p : Option AnswerRoom). EndsSo p answer) (sym place) was;
+        entered = λ start follows. follows-told start _ _ new.entries.items (sym told) (follows-same start _ old.entries.items new.entries.items items follows);
+        read = λ sight setup asked start stamped its own marked pre reads.
+            reads_same sight sight setup asked start old.entries.items new.entries.items old.session.running new.session.running _ _ refl items (ap (λ (s : ClientSession). s.running) session) told reads;
+        served = λ since last start its own pre behind up_to are.
+            served-same (sight_of old.name old.seen) (sight_of old.name new.seen) since since last last start old.entries.items new.entries.items (sights old.name old.name _ _ refl seen) refl (omega arith) items are;
+        sent = omega (arith, ap (λ q. q.sent) dispatcher);
         counter = omega (arith, ap (λ (s : ClientSession). s.counter) session);
         goes_on = record { name = name; first = first; seen = prefix_is _ _ (sym seen); mark = mark };
       }

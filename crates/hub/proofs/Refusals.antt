@@ -1,4 +1,4 @@
--- What an open session refuses stands in the transcript: for `RunningOperation::perform`.
+-- What an open session refuses stands in the transcript: for `RunningOperation::begin`.
 use Rattle.std.proofs.Common.{◌≡◌, Bool, true, false, sym, ap, cond, is_some, nat_le}
 use Rattle.std.specs.Prelude.{Result, Ok, Err}
 use Rattle.plain_store.specs.declared.refusal.Refusal.{Refusal}

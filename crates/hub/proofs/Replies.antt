@@ -18,7 +18,7 @@ use Rattle.tenant_sessions.specs.declared.moves.Move.{Move}
 use Rattle.tenant_sessions.specs.declared.moves.Move.TheVariants.{Wait, Decided, Done, Ask, Begins as BeginsCalls, Read, Listed, Restart, Ended, Ignored}
 use Rattle.plain_store.specs.Moves.{Waits, Decides, Finishes, Asks, Begins, Lists, Restarts, Fails, Move as PlainMove, Reads as ReadsAll}
 use Rattle.tenant_sessions.specs.Moves.{answer_of, is_last, told as told_of}
-use Rattle.tenant_sessions.specs.Showing.{IfReads, IfLists, IfTells, TellsStamp, IsAnswerTo, IsMoveAt, IsShown, IsTakenFor, Shows}
+use Rattle.tenant_sessions.specs.Showing.{IfReads, IfLists, IfTells, TellsStamp, IsAnswerTo, IsShown, IsTakenFor, Shows}
 use Rattle.tenant_sessions.specs.Running.{MayBegin}
 use Rattle.plain_store.specs.declared.answer.Rows.{Rows}
 use Rattle.hub.specs.Replies.{IsUnder, IsOf, IsStampOf, IsReplyIn, AreAmong, IsFromReplies, IsWriteOf, IsReadOf, IsListOf, IsToldOf, IsToldFor, IsMoveOf, IsMoveFor, IsMovedBy, answer_to, IfRuns, IfShows, IfDone, IfRead, IfListed, IfSays, IsReadBySeat, IfTold, Reads}

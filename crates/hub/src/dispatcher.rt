@@ -315,7 +315,7 @@ impl<'a, G: Naming> Dispatcher<'a, G> {
 }
 
 impl<'a, G: Gate + Naming> Dispatcher<'a, G> {
-    ghost use Rattle.hub.specs.Rooms.{HandsOut, HasPlaces, HasRoom, ServesHere};
+    ghost use Rattle.hub.specs.Rooms.{HandsOut, HasPlaces, HasRoom};
 
     /// Stages the call in this box as the seat's call of this number, for `dispatch`, once it has passed the gate, with the mark of its
     /// operation, and with what the seat has seen of the history: that shows of which put it is, and has the mark.
@@ -438,17 +438,8 @@ impl<'a, G: Gate + Naming> Dispatcher<'a, G> {
                 }
             }
         }
-        self.serve_held(rt, left);
-        self.hand_over(rt)
-    }
-
-    /// Waits for the partitions of the staged calls from this place on that are left, and serves them.
-    fn serve_held<R: Wait>(&mut self, rt: &R, from: usize)
-        ensures { ServesHere self.old self.new }
-    {
-        let shards = self.shards;
-        for at in from..self.calls.len() {
-            if let Some(partition) = self.open_at(at)
+        for held in left..self.calls.len() {
+            if let Some(partition) = self.open_at(held)
                 && let Some(shard) = shards.get(partition as usize)
             {
                 let mut guard = shard.lock_soon(rt);
@@ -457,6 +448,7 @@ impl<'a, G: Gate + Naming> Dispatcher<'a, G> {
                 self.follow_up(rt, shard, follow_up);
             }
         }
+        self.hand_over(rt)
     }
 }
 

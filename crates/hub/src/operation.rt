@@ -258,31 +258,30 @@ fn enter_given_up<G: Naming>(
 }
 
 impl<'a, G: Gate + Naming> RunningOperation<'a, G> {
-    ghost use Rattle.std.specs.Prelude.{◌≡◌, ◌<◌, ◌≤◌, ◌+◌, ◌^◌, ℕ, [], ◌∷◌, ◌++◌, List, Option, true, false, None, Some, Ok, Err, IfErr, IfOk, OnOk, OnErr, IsSome, IsNone, IsTrue, ◌↔◌, length, map, slice_get};
+    ghost use Rattle.std.specs.Prelude.{◌≡◌, ◌<◌, ◌≤◌, ◌+◌, ◌^◌, ℕ, [], ◌∷◌, ◌++◌, List, Option, true, false, None, Some, Ok, Err, IfErr, IfOk, IfSome, IfNone, OnOk, OnErr, IsSome, IsNone, IsTrue, ◌↔◌, length, map, slice_get};
     ghost use Rattle.stamps.specs.Bounds.{IsParts};
     ghost use Rattle.plain_store.specs.declared.calls.Reply.{Reply as Served};
-    ghost use Rattle.plain_store.specs.declared.answer.Answer.{Answer as Said};
     ghost use Rattle.plain_store.specs.declared.answer.Rows.{Rows as Told};
     ghost use Rattle.plain_store.specs.declared.reading.Reading.{Reading as Shown};
     ghost use Rattle.tenant_sessions.specs.Moves.{moved, is_last, answer_of, ending};
     ghost use Rattle.entry_list.specs.declared.kinds.Entry.{Entry as Entered};
     ghost use Rattle.shard.specs.declared.jobs.Fault.{Fault as Broken};
     ghost use Rattle.hub.specs.Limits.{max_calls};
-    ghost use Rattle.hub.specs.Operating.{BeginsAs, FollowsMove, GoesOnAs, IsSameSeat, IsUnderWayAt, KeepsSession, OnlyEnters, OnlySends, ReadsAt, SeesMore, SendsOn, StagesOne, StillFollows, StillServed, TakesReplies};
+    ghost use Rattle.hub.specs.Operating.{BeginsAs, EntersReply, FollowsMove, GoesOnAs, IsUnderWayAt, KeepsSession, OnlyEnters, OnlySends, Performs, SeesMore, SendsOn, StagesOne, StartsUnder, TakesReplies};
     ghost use Rattle.hub.specs.Rooms.{HasPlaces, HasRoom, awaited};
     ghost use Rattle.tenant_sessions.specs.CallsLeft.{calls_left, calls_waiting, calls_sent};
     ghost use Rattle.plain_store.specs.declared.refusal.Refusal.{Refusal as Why};
     ghost use Rattle.hub.specs.Requests.{act_of, calls_for, test_of};
     ghost use Rattle.plain_store.specs.History.{Intent as Asked};
     ghost use Rattle.plain_store.specs.Words.{Setup};
-    ghost use Rattle.hub.specs.Sights.{OperationSight, operation_of, sight_of};
+    ghost use Rattle.hub.specs.Sights.{operation_of};
     ghost use mathlib.Core.List.{IsPrefix};
-    ghost use Rattle.hub.specs.Replies.{AreServed, IsDrawn, IsMoveFor, IsStampOf, IfShows, IsToldFor, IsUnder};
-    ghost use Rattle.hub.specs.Evidence.{HasOwnReadEntry, IsLookedAt};
+    ghost use Rattle.hub.specs.Replies.{IsUnder};
+    ghost use Rattle.hub.specs.Evidence.{IsLookedAt};
     ghost use Rattle.hub.specs.Clocks.{IsReported};
     ghost use Rattle.hub.specs.Evidence.{no_mark};
     ghost use Rattle.stamps.specs.Stamp.{stamp};
-    ghost use Rattle.hub.specs.Seats.{at_seat, is_final, is_unrecorded, outcome_of, recorded, spare, EndsSo, Follows, Extends};
+    ghost use Rattle.hub.specs.Seats.{at_seat, is_final, outcome_of, recorded, spare, EndsSo, Follows, Extends};
     ghost use Rattle.shard.specs.Asked.{without_reply};
     ghost use Rattle.plain_store.specs.Run.{call_message};
     ghost use Rattle.plain_store.specs.declared.message.Message.{Message as Sent};
@@ -354,7 +353,6 @@ impl<'a, G: Gate + Naming> RunningOperation<'a, G> {
         ensures fault { OnOk result (IsNone self.new.fault) }
         ensures awaited { awaited self.new.dispatcher ≡ awaited self.old.dispatcher }
         ensures keeps { BeginsAs self.old self.new }
-        ensures first { self.new.first ≡ self.old.first }
     {
         self.dispatcher.reserve(request.most_calls(parts))?;
         self.entries
@@ -387,52 +385,30 @@ impl<'a, G: Gate + Naming> RunningOperation<'a, G> {
         place
     }
 
-    /// Runs the operation that was prepared, and writes its answer into the caller's buffer. It takes at most so many
-    /// replies. Where the session refuses it, that is its answer.
+    /// Begins the operation that was prepared, and enters that in the history. Answers the stamp under which it writes,
+    /// if it writes.
     ///
-    /// It fails with the first fault of a worker, after which nothing is entered any more. A call that did not go out, which is
-    /// never for want of room, and a reply that cannot come, count as no tenant.
-    pub(crate) fn perform<R: Wait>(
+    /// None where nothing is to be sent: the session refused it, and that is its answer; or what began could not be
+    /// entered, which is a fault.
+    pub(crate) fn begin(
         &mut self,
-        rt: &R,
         parts: u32,
         request: &SeatRequest<'_>,
-        takes: usize,
         answer: &mut Answer,
-    ) -> Result<(), Fault>
+    ) -> Option<Stamp>
         requires parts { IsParts parts }
         requires place { IsSome self.old.place }
         requires fault { IsNone self.old.fault }
         requires room { max_calls + 5 ≤ self.old.entries.room }
         requires calls { HasRoom (calls_for parts request.now) self.old.dispatcher }
-        ensures answered { OnOk result
-            (Follows self.old.entries.items (Some answer.new) self.new.entries.items) }
-        ensures few { replies_in self.new.entries.items
-            ≤ replies_in self.old.entries.items + takes }
-        ensures recorded { OnOk result (is_unrecorded answer.new ≡ false) }
-        ensures read { OnOk result
-            (IsToldFor (operation_of self.old.name self.new.mark self.new.seen) parts
-            (IsDrawn self.old.name.client self.old.session.counter self.new.session.counter)
-            request.now answer.new self.old.entries.items self.new.entries.items) }
-        ensures moved { OnOk result
-            (IsMoveFor (operation_of self.old.name self.new.mark self.new.seen) parts
-            (stamp (self.old.session.counter + 1) self.old.name.client)
-            request.now answer.new self.old.entries.items self.new.entries.items) }
-        ensures counter { self.old.session.counter ≤ self.new.session.counter }
-        ensures served { StillServed self.old self.new }
+        ensures begun { IfSome result
+            (λ own. StartsUnder parts request.now own self.old self.new answer.new) }
+        ensures over { IfNone result
+            (Performs parts 0 request.now (outcome_of self.new.fault self.new.place)
+            self.old self.new answer.new) }
         ensures refused { (refusal : Why) → test_of self.old.session request.now ≡ Err refusal
-            → answer.new ≡ Answer.Refused refusal }
-        // Each of its calls was answered.
-        ensures awaited { awaited self.old.dispatcher ≡ 0
-            → OnOk result (awaited self.new.dispatcher ≡ 0) }
-        ensures outcome { result ≡ outcome_of self.new.fault self.new.place }
-        ensures entered { (told : Option Said)
-            × Follows self.old.entries.items told self.new.entries.items }
-        // A read has its entry behind all that was seen before.
-        ensures since { OnOk result
-            (IfShows request.now answer.new
-            (HasOwnReadEntry self.old.name self.new.mark self.new.seen self.old.seen)) }
-        ensures goes_on { IsSameSeat self.old self.new }
+            → (answer.new ≡ Answer.Refused refusal)
+            × (outcome_of self.new.fault self.new.place ≡ Ok tt) }
     {
         let client = self.name.client;
         match request.start(&mut self.session, client, parts) {
@@ -442,16 +418,15 @@ impl<'a, G: Gate + Naming> RunningOperation<'a, G> {
                 let Some(mark) = enter_begun(&mut self.client, &mut self.seen, name, own, request)
                 else {
                     self.fault = Some(Fault::NoTenant);
-                    return Err(Fault::NoTenant);
+                    return None;
                 };
                 self.mark = mark;
-                self.exchange(rt, own, takes, answer);
-                self.outcome()
+                Some(own)
             }
             Err(refusal) => {
                 tell_refusal(refusal, answer);
                 self.enter_answer(answer);
-                Ok(())
+                None
             }
         }
     }
@@ -579,7 +554,7 @@ impl<'a, G: Gate + Naming> RunningOperation<'a, G> {
     }
 
     /// How the operation ended: with its first fault, and as one of no tenant where nothing was answered.
-    fn outcome(&self) -> Result<(), Fault>
+    pub(crate) fn outcome(&self) -> Result<(), Fault>
         ensures { result ≡ outcome_of self.now.fault self.now.place }
     {
         match self.fault {
@@ -589,10 +564,19 @@ impl<'a, G: Gate + Naming> RunningOperation<'a, G> {
         }
     }
 
-    /// Sends the calls of the operation that the session has begun, under this stamp if it writes, and takes replies until each call was
-    /// answered, or so many were taken, or none can come. What a reply has the session ask for is sent before the next one is taken. A
-    /// reply that is still to come then is a fault.
-    fn exchange<R: Wait>(&mut self, rt: &R, own: Stamp, takes: usize, answer: &mut Answer)
+    /// Sends the calls of the operation that the session has begun, under this stamp if it writes, and takes replies until
+    /// each call was answered, or so many were taken, or none can come. What a reply has the session ask for is sent
+    /// before the next one is taken.
+    ///
+    /// After a fault nothing is entered any more. A call that did not go out, which is never for want of room, is one,
+    /// and so is a reply that cannot come, or is still to come then.
+    pub(crate) fn exchange<R: Wait>(
+        &mut self,
+        rt: &R,
+        own: Stamp,
+        takes: usize,
+        answer: &mut Answer,
+    )
         requires room { max_calls + spare self.old.place ≤ self.old.entries.room }
         requires calls { HasRoom (calls_waiting self.old.session.running
             + calls_left self.old.session.running) self.old.dispatcher }
@@ -637,8 +621,8 @@ impl<'a, G: Gate + Naming> RunningOperation<'a, G> {
         requires room { 1 + spare self.old.place ≤ self.old.entries.room }
         requires calls { HasRoom (calls_left self.old.session.running) self.old.dispatcher }
         requires own { (reply.now.tenant ≡ self.old.name.tenant)
-            × (reply.now.seat ≡ self.old.name.seat) × (reply.now.mark ≡ self.old.mark) }
-        requires front { IsPrefix reply.now.front self.old.seen }
+            × (reply.now.seat ≡ self.old.name.seat) × (reply.now.mark ≡ self.old.mark)
+            × IsPrefix reply.now.front self.old.seen }
         requires under_way { IsUnderWayAt
             (operation_of self.old.name self.old.mark self.old.seen) own self.old answer.old }
         ensures calls { HasRoom (calls_left self.new.session.running) self.new.dispatcher }
@@ -655,29 +639,7 @@ impl<'a, G: Gate + Naming> RunningOperation<'a, G> {
             → (self.new.fault ≡ Some fault) × (self.new.entries ≡ self.old.entries) }
         ensures over { IsSome self.old.fault
             → (self.new.fault ≡ self.old.fault) × (self.new.entries ≡ self.old.entries) }
-        ensures room { self.old.entries.room + spare self.new.place
-            ≤ self.new.entries.room + 1 + spare self.old.place }
-        ensures replies { replies_in self.new.entries.items
-            ≤ replies_in self.old.entries.items + 1 }
-        ensures ends { EndsSo self.old.place answer.old → EndsSo self.new.place answer.new }
-        ensures entered { StillFollows self.old answer.old self.new answer.new }
-        ensures read { (sight : OperationSight) (setup : Setup) (asked : Asked)
-            (start : List Entered)
-            → IsStampOf own asked → reply.now.tenant ≡ sight.tenant → reply.now.seat ≡ sight.seat
-            → reply.now.mark ≡ sight.mark → IsPrefix reply.now.front sight.seen
-            → ReadsAt sight setup asked start self.old answer.old
-            → ReadsAt sight setup asked start self.new answer.new }
-        ensures served { (first last : ℕ) (start : List Entered)
-            → reply.now.tenant ≡ self.old.name.tenant → reply.now.seat ≡ self.old.name.seat
-            → IsPrefix reply.now.front self.old.seen → first < reply.now.number
-            → reply.now.number ≤ last
-            → AreServed
-            (sight_of self.old.name self.old.seen) first last start self.old.entries.items
-            → AreServed
-            (sight_of self.old.name self.new.seen) first last start self.new.entries.items }
-        ensures sent { self.old.dispatcher.sent ≤ self.new.dispatcher.sent }
-        ensures counter { self.old.session.counter ≤ self.new.session.counter }
-        ensures goes_on { GoesOnAs self.old self.new }
+        ensures takes { EntersReply own reply.now self.old answer.old self.new answer.new }
     {
         if self.fault.is_some() {
             return;

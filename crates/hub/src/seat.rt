@@ -334,7 +334,10 @@ impl<'a, G: Gate + Naming> Seat<'a, G> {
             tell_refusal(Refusal::OutOfMemory, answer);
             return 0;
         };
-        let told = self.operation.perform(rt, parts, request, takes, answer);
+        if let Some(own) = self.operation.begin(parts, request, answer) {
+            self.operation.exchange(rt, own, takes, answer);
+        }
+        let told = self.operation.outcome();
         self.stopped = told.is_err();
         let sent = self.operation.count();
         self.finish(rt, sent, told, answer);

@@ -11,27 +11,21 @@ hand_over-requires g c = ends_there c.args.self.now 0 c.requires
 
 pub hand_over-requires-2 : goal.hand_over-requires-2
 hand_over-requires-2 g c =
-    let free = c.loop-at.invariant in
-    let held = c.serve_held.ensures in
-    ends_there c.serve_held.new.self 0 (same_room c.loop-at.self c.serve_held.new.self held.room held.sent held.calls.0 held.served 0
-    (same_room c.args.self.now c.loop-at.self free.room free.sent free.calls.0 free.served 0 c.requires))
+    let here = c.loop-held.invariant in
+    ends_there c.loop-held.self 0 (same_room c.args.self.now c.loop-held.self here.room here.sent here.calls.0 here.served 0 c.requires)
 
 pub returns-clause-hands : goal.returns-clause-hands
 returns-clause-hands g c =
-    let before = c.args.self.now in
-    let free = c.loop-at.invariant in
-    let held = c.serve_held.ensures in
-    let now = c.serve_held.new.self in
+    let here = c.loop-held.invariant in
+    let now = c.loop-held.self in
     let hands = c.hand_over-2.ensures.hands in
     record {
-      room = λ calls room. hands.room calls
-          (same_room c.loop-at.self now held.room held.sent held.calls.0 held.served calls
-          (same_room before c.loop-at.self free.room free.sent free.calls.0 free.served calls room));
-      none = λ past. hands.none (omega (arith, past, free.calls.0, held.calls.0, free.served, held.served));
-      sent = hands.sent ∙ held.sent ∙ free.sent;
+      room = λ calls room. hands.room calls (same_room c.args.self.now now here.room here.sent here.calls.0 here.served calls room);
+      none = λ past. hands.none (omega (arith, past, here.calls.0, here.served));
+      sent = hands.sent ∙ here.sent;
       kept = λ all bound.
-          let few : deque_len now.calls + now.queued < 2 ^ 64 = omega (arith, bound, free.calls.0, free.calls.1, held.calls.0, held.calls.1) in
-          omega (arith, hands.kept all few, free.calls.0, free.calls.1, held.calls.0, held.calls.1);
+          let few : deque_len now.calls + now.queued < 2 ^ 64 = omega (arith, bound, here.calls.0, here.calls.1) in
+          omega (arith, hands.kept all few, here.calls.0, here.calls.1);
       served = hands.served;
     }
 
@@ -43,9 +37,8 @@ returns-then-self-gt0-clause-asked g c all bound same =
 
 pub returns-clause-asked : goal.returns-clause-asked
 returns-clause-asked g c all bound same =
-    let free = c.loop-at.invariant in
-    let held = c.serve_held.ensures in
-    let now = c.serve_held.new.self in
-    let few : deque_len now.calls + now.queued < 2 ^ 64 = omega (arith, bound, free.calls.0, free.calls.1, held.calls.0, held.calls.1) in
-    let none : unserved now.served now.calls.items ≡ 0 = omega (arith, c.hand_over-2.ensures.handed all few, same, free.calls.1, held.calls.1) in
-    ap (λ q. map asked_by q.items) (c.hand_over-2.ensures.here none) ∙ held.asked ∙ free.asked
+    let here = c.loop-held.invariant in
+    let now = c.loop-held.self in
+    let few : deque_len now.calls + now.queued < 2 ^ 64 = omega (arith, bound, here.calls.0, here.calls.1) in
+    let none : unserved now.served now.calls.items ≡ 0 = omega (arith, c.hand_over-2.ensures.handed all few, same, here.calls.1) in
+    ap (λ q. map asked_by q.items) (c.hand_over-2.ensures.here none) ∙ here.asked

@@ -1,4 +1,4 @@
-use Rattle.std.proofs.Common.{◌≡◌, ℕ, List, Ok, Some, refl, sym, ap, arith, subst}
+use Rattle.std.proofs.Common.{◌≡◌, ◌∙◌, ℕ, List, Ok, Option, Some, refl, sym, ap, arith, subst}
 use Rattle.std.proofs.Math.Logic.{∥∥₁_map, ∥∥₁_map₂}
 use Rattle.plain_store.specs.History.{Intent as Asked}
 use Rattle.history.specs.declared.entry.HistoryEntry.{HistoryEntry}
@@ -6,7 +6,8 @@ use Rattle.history.proofs.Lists.{prefix_join}
 use Rattle.shard.specs.declared.seat_name.SeatName.{SeatName}
 use Rattle.tenant_sessions.specs.Moves.{moved}
 use Rattle.hub.specs.Evidence.{IsUnderWay, MayBeDecided}
-use Rattle.hub.specs.Seats.{told_by}
+use Rattle.hub.specs.Seats.{EndsSo, spare, told_by}
+use Rattle.hub.specs.declared.operation.AnswerRoom.{AnswerRoom}
 use Rattle.entry_list.specs.declared.kinds.Entry.TheVariants.{Took}
 use Rattle.hub.proofs.Evidence.{under_way_decided, under_way_on}
 use Rattle.plain_store.specs.declared.message.Message.{Message}
@@ -22,26 +23,55 @@ use Rattle.hub.specs.Replies.{IsUnder, IsOf, IsStampOf}
 use Rattle.hub.proofs.Replies.{reads-served, under-asked}
 use Rattle.hub.proofs.operation.RunningOperation.enter_reply.Goals as goal
 
-pub returns-clause-entered : goal.returns-clause-entered
-returns-clause-entered g c start follows =
-    c.follow.ensures.moves.entered start
-    (follows-told start _ _ c.push_took.new.self.entries.items (told-same c.args.self.now.place c.push_took.new.self.place c.args.answer.now c.push_took.ensures.place)
-    (follows-same start _ _ c.push_took.new.self.entries.items c.push_took.ensures.took (follows-took start _ c.args.self.now.entries.items _ refl refl follows)))
-
-pub returns-clause-read : goal.returns-clause-read
-returns-clause-read g c name setup asked start stamped its own marked pre reads =
+pub returns-clause-takes : goal.returns-clause-takes
+returns-clause-takes g c =
+    let before = c.args.self.now in
+    let answer = c.args.answer.now in
     let reply = c.args.reply.now in
+    let kept = c.push_took.new.self in
+    let only = c.push_took.ensures.only in
+    let took = c.push_took.ensures.took in
+    let place = c.push_took.ensures.place in
+    let moves = c.follow.ensures.moves in
+    let same = c.follow.ensures.same in
     let is : reply.outcome ≡ Ok c.in-Ok.place = cc in
     let has : reply.message.value.reply ≡ Some c.in-Some.told = cc in
-    let under : IsUnder c.args.own c.deref-message.result.now.call = c.is_under.ensures.0 c.if-not-is_under.false in
-    let of : IsOf asked reply.message.value.call = under-asked c.args.own asked _ stamped (subst (λ (m : Message). IsUnder c.args.own m.call) c.deref-message.ensures under) in
-    let at : reply.message.value.partition ≡ reply.partition = subst (λ (m : Message). m.partition ≡ reply.partition) c.deref-message.ensures c.if-message-reply.false in
-    let enters = λ (m : Message) (same : IsTakenFor c.deref-message.result.now m).
-    came-taken name reply.front reply.mark asked reply.partition reply.tenant reply.seat reply.number c.in-Ok.place reply.message.value m reply.outcome _ pre is has its own marked reply.came of at
-    (subst (λ (from : Message). IsTakenFor from m) c.deref-message.ensures same) in
-    let served = reads-served name setup asked start c.args.self.now.entries.items c.push_took.new.self.entries.items c.args.self.now.session c.push_took.new.self.session c.move_into.new.self c.args.self.now.place c.push_took.new.self.place c.args.answer.now _ _ _ _ _ _
-    c.push_took.ensures.took c.push_took.ensures.only.session c.push_took.ensures.place enters c.move_into.ensures.shown reads in
-    c.follow.ensures.moves.read name setup asked start served.0 served.1 served.2
+    record {
+      room = omega (arith, c.push_took.ensures.room, ap spare place, moves.room);
+      replies = omega (arith, moves.replies, replies-more before.entries.items kept.entries.items _ took);
+      ends = λ was. moves.ends (subst (λ (p : Option AnswerRoom). EndsSo p answer) (sym place) was);
+      entered = λ start follows.
+          moves.entered start
+          (follows-told start _ _ kept.entries.items (told-same before.place kept.place answer place)
+          (follows-same start _ _ kept.entries.items took (follows-took start _ before.entries.items _ refl refl follows)));
+      read = λ name setup asked start stamped its own marked pre reads.
+          let under : IsUnder c.args.own c.deref-message.result.now.call = c.is_under.ensures.0 c.if-not-is_under.false in
+          let of : IsOf asked reply.message.value.call = under-asked c.args.own asked _ stamped (subst (λ (m : Message). IsUnder c.args.own m.call) c.deref-message.ensures under) in
+          let at : reply.message.value.partition ≡ reply.partition = subst (λ (m : Message). m.partition ≡ reply.partition) c.deref-message.ensures c.if-message-reply.false in
+          let enters = λ (m : Message) (same : IsTakenFor c.deref-message.result.now m).
+          came-taken name reply.front reply.mark asked reply.partition reply.tenant reply.seat reply.number c.in-Ok.place reply.message.value m reply.outcome _ pre is has its own marked reply.came of at
+          (subst (λ (from : Message). IsTakenFor from m) c.deref-message.ensures same) in
+          let served = reads-served name setup asked start before.entries.items kept.entries.items before.session kept.session c.move_into.new.self before.place kept.place answer _ _ _ _ _ _
+          took only.session place enters c.move_into.ensures.shown reads in
+          moves.read name setup asked start served.0 served.1 served.2;
+      served = λ first last start its own pre behind up_to are.
+          let one = sight_of before.name before.seen in
+          let between = sight_of kept.name kept.seen in
+          served-same (sight_of kept.name c.follow.new.self.seen) (sight_of before.name c.follow.new.self.seen) first first last last start c.follow.new.self.entries.items c.follow.new.self.entries.items
+          (sights _ _ _ _ (sym only.name) refl) refl (omega arith) refl
+          (moves.served first last start
+          (served-took between one reply.front reply.mark first last start before.entries.items kept.entries.items reply.partition reply.tenant reply.seat reply.number c.in-Ok.place reply.message.value reply.outcome _
+          pre took (sights _ _ _ _ only.name only.seen) is has its own behind up_to reply.came are));
+      -- the calls that the move asks for are sent after those before
+      sent = omega (arith, ap (λ q. q.sent) only.dispatcher, c.follow.ensures.counted);
+      counter = omega (arith, ap (λ (s : ClientSession). s.counter) only.session, ap (λ (s : ClientSession). s.counter) c.follow.ensures.session, c.move_into.ensures.counter);
+      goes_on = record {
+        name = same.name ∙ only.name;
+        first = same.first ∙ only.first;
+        seen = prefix_join _ _ _ (prefix_is _ _ (sym only.seen)) same.seen;
+        mark = same.mark ∙ only.mark;
+      };
+    }
 
 -- what was under way is, with what is seen now
 pub returns-clause-under_way : goal.returns-clause-under_way
@@ -52,7 +82,7 @@ returns-clause-under_way g c =
     ∥∥₁_map c.requires.under_way
     (under_way_on (operation_of before.name before.mark before.seen) now c.args.own _ _ _ _ _ _ (record { tenant = refl; seat = refl; mark = refl; seen = seen })
     (λ setup asked start stamped reads.
-    returns-clause-read g c now setup asked start stamped c.requires.own.0 c.requires.own.1 c.requires.own.2 (prefix_join _ _ _ c.requires.front seen) reads))
+    (returns-clause-takes g c).read now setup asked start stamped c.requires.own.0 c.requires.own.1 c.requires.own.2 (prefix_join _ _ _ c.requires.own.3 seen) reads))
 
 -- where the move is that the put is decided, it may be
 pub follow-requires-clause-decided : goal.follow-requires-clause-decided
@@ -67,7 +97,7 @@ follow-requires-clause-decided g c stamp is =
     let under_own : IsUnder c.args.own reply.message.value.call = subst (λ (m : Message). IsUnder c.args.own m.call) c.deref-message.ensures under in
     let at : reply.message.value.partition ≡ reply.partition = subst (λ (m : Message). m.partition ≡ reply.partition) c.deref-message.ensures c.if-message-reply.false in
     let enters = λ (asked : Asked) (stamped : IsStampOf c.args.own asked) (m : Message) (same : IsTakenFor c.deref-message.result.now m).
-    came-taken sight reply.front reply.mark asked reply.partition reply.tenant reply.seat reply.number c.in-Ok.place reply.message.value m reply.outcome _ c.requires.front is-served has c.requires.own.0 c.requires.own.1 c.requires.own.2 reply.came
+    came-taken sight reply.front reply.mark asked reply.partition reply.tenant reply.seat reply.number c.in-Ok.place reply.message.value m reply.outcome _ c.requires.own.3 is-served has c.requires.own.0 c.requires.own.1 c.requires.own.2 reply.came
     (under-asked c.args.own asked _ stamped under_own) at (subst (λ (from : Message). IsTakenFor from m) c.deref-message.ensures same) in
     let Q : ClientSession → Type 0 = λ s. IsUnderWay sight c.args.own before.entries.items s.running (told_by before.place c.args.answer.now) in
     let P : ℕ → Type 0 = λ t. MayBeDecided before.seen t stamp in
@@ -77,35 +107,8 @@ follow-requires-clause-decided g c stamp is =
     (under_way_decided sight c.args.own before.entries.items kept.session.running _ _ c.deref-message.result.now _ (Took reply.number reply.partition c.in-Ok.place c.in-Some.told) stamp legal enters c.move_into.ensures.shown (ap (λ k. moved k c.move_into.new.readings) is)
     (subst Q (sym c.push_took.ensures.only.session) u))))
 
-pub returns-clause-served : goal.returns-clause-served
-returns-clause-served g c first last start its own pre behind up_to are =
-    let reply = c.args.reply.now in
-    let is : reply.outcome ≡ Ok c.in-Ok.place = cc in
-    let before = sight_of c.args.self.now.name c.args.self.now.seen in
-    let between = sight_of c.push_took.new.self.name c.push_took.new.self.seen in
-    let has : reply.message.value.reply ≡ Some c.in-Some.told = cc in
-    served-same (sight_of c.push_took.new.self.name c.follow.new.self.seen) (sight_of c.args.self.now.name c.follow.new.self.seen) first first last last start c.follow.new.self.entries.items c.follow.new.self.entries.items
-    (sights _ _ _ _ (sym c.push_took.ensures.only.name) refl) refl (omega arith) refl
-    (c.follow.ensures.moves.served first last start
-    (served-took between before reply.front reply.mark first last start c.args.self.now.entries.items c.push_took.new.self.entries.items reply.partition reply.tenant reply.seat reply.number c.in-Ok.place reply.message.value reply.outcome _
-    pre c.push_took.ensures.took (sights _ _ _ _ c.push_took.ensures.only.name c.push_took.ensures.only.seen) is has its own behind up_to reply.came are))
-
-pub returns-clause-counter : goal.returns-clause-counter
-returns-clause-counter g c =
-    let before = ap (λ (s : ClientSession). s.counter) c.push_took.ensures.only.session in
-    let after = ap (λ (s : ClientSession). s.counter) c.follow.ensures.session in
-    omega (arith, before, after, c.move_into.ensures.counter)
-
 -- what the move sends, it may send
 pub follow-requires-clause-calls : goal.follow-requires-clause-calls
 follow-requires-clause-calls g c =
     let before = ap (λ (s : ClientSession). calls_left s.running) c.push_took.ensures.only.session in
     room_stays c.args.self.now.dispatcher c.push_took.new.self.dispatcher _ _ c.push_took.ensures.only.dispatcher (omega (arith, before, c.move_into.ensures.calls)) c.requires.calls
-
-pub returns-clause-replies : goal.returns-clause-replies
-returns-clause-replies g c =
-    omega (arith, c.follow.ensures.moves.replies, replies-more c.args.self.now.entries.items c.push_took.new.self.entries.items _ c.push_took.ensures.took)
-
--- the calls that the move asks for are sent after those before
-pub returns-clause-sent : goal.returns-clause-sent
-returns-clause-sent g c = omega (arith, ap (λ q. q.sent) c.push_took.ensures.only.dispatcher, c.follow.ensures.counted)

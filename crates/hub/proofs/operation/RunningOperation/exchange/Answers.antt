@@ -5,7 +5,7 @@ use Rattle.hub.specs.Sights.{operation_of, sight_of}
 use Rattle.hub.proofs.Evidence.{under_way_later, under_way_same}
 use Rattle.hub.proofs.Given.{IsLaterOperation, IsLaterSight, operations, served-later, served-same, sights}
 use Rattle.hub.proofs.Replies.{reads-later}
-use Rattle.hub.proofs.Moved.{LeavesRest, runs_as, runs_begun}
+use Rattle.hub.proofs.Moved.{runs_as, runs_begun}
 use Rattle.hub.proofs.Rooms.{places_with, room_for_fewer}
 use Rattle.tenant_sessions.specs.CallsLeft.{calls_left}
 use Rattle.tenant_sessions.specs.declared.session.ClientSession.{ClientSession}
@@ -61,7 +61,8 @@ loop-taken-preserved g c =
     let name = c.args.self.now.name in
     let before = c.loop-taken.self in
     let after = c.enter_reply.new.self in
-    let entered = c.enter_reply.ensures in
+    let told = c.enter_reply.ensures in
+    let entered = told.takes in
     let own = c.in-Some.ensures.own in
     let numbered = c.in-Some.ensures.numbered in
     let at = sight_of name before.seen in
@@ -79,15 +80,15 @@ loop-taken-preserved g c =
     let all = first + after.dispatcher.sent in
     record {
       room = omega (arith, entered.room, so_far.room);
-      calls = record { boxes = omega (arith, entered.calls.boxes, c.keep.ensures.no_fewer); there = places_with _ _ refl refl refl refl _ entered.calls.there };
+      calls = record { boxes = omega (arith, told.calls.boxes, c.keep.ensures.no_fewer); there = places_with _ _ refl refl refl refl _ told.calls.there };
       over = λ some.
           let was = so_far.over some in
           let kept = c.first_fault-self.ensures.first (ap is_some was.0 ∙ some) in
-          let is = entered.over (ap is_some (kept ∙ was.0) ∙ some) in
+          let is = told.over (ap is_some (kept ∙ was.0) ∙ some) in
           (is.0 ∙ kept ∙ was.0, is.1 ∙ was.1);
       few = omega (arith, entered.replies, so_far.few);
       ends = λ ended. entered.ends (so_far.ends ended);
-      under_way = ∥∥₁_map entered.under_way (under_way_same _ _ c.args.own _ _ _ _ _ _ (operations _ _ _ _ _ _ entered.goes_on.name entered.goes_on.mark refl) refl refl refl);
+      under_way = ∥∥₁_map told.under_way (under_way_same _ _ c.args.own _ _ _ _ _ _ (operations _ _ _ _ _ _ entered.goes_on.name entered.goes_on.mark refl) refl refl refl);
       runs = record {
         few = omega (arith, entered.replies, so_far.few);
         entered = λ start follows. entered.entered start (runs.entered start follows);
