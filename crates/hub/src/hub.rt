@@ -228,8 +228,9 @@ impl<G: Gate + Naming> Hub<G> {
 
     /// Puts how much each tenant uses of a partition, in their order and at one moment, in place of what the list has, and sees the history as it
     /// is then: what each tenant uses is what all calls left that it has of the partition. It takes the partition's lock, and time for
-    /// each tenant, and visits none of what they hold. Answers false where there is no such partition, or where the state behind its lock is
-    /// another's, or served fewer calls. The one error is that an allocation failed.
+    /// each tenant, and visits none of what they hold. Answers false where there is no such partition, or where the state
+    /// behind its lock is another's, served fewer calls, or has not as many tenants. The one error is that an allocation
+    /// failed.
     pub fn status<R: Wait>(
         &self,
         rt: &R,
@@ -239,13 +240,18 @@ impl<G: Gate + Naming> Hub<G> {
     ) -> Result<bool, AllocError>
         ensures used { IfOk result (λ is_there. IsTrue is_there
             → AreUsagesAt seen.new self.now.parts partition usages.new.items) }
+        ensures each { IfOk result (λ is_there. IsTrue is_there
+            → length usages.new.items ≡ length self.now.limits) }
         ensures later { IsPrefix seen.old seen.new }
         ensures past { self.now.parts ≤ partition → result ≡ Ok false }
     {
-        match self.shards.get(partition as usize) {
-            Some(shard) => shard.put_usages(rt, self.config.parts, partition, usages, seen),
-            None => Ok(false),
+        let Some(shard) = self.shards.get(partition as usize) else {
+            return Ok(false);
+        };
+        if !shard.put_usages(rt, self.config.parts, partition, usages, seen)? {
+            return Ok(false);
         }
+        Ok(usages.len() == self.config.limits.len())
     }
 
     /// The limits of its tenants.
