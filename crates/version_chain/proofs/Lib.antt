@@ -1,4 +1,5 @@
 pub mod Answered
+mod BothSlots
 pub mod Changing
 mod Committed
 mod Cutting

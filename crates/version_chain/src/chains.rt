@@ -10,6 +10,7 @@ ghost use Rattle.version_chain.specs.Listed.{is_named, chain_in, with_kept, List
 ghost use Rattle.version_chain.specs.Sweeping.{IsShort};
 ghost use Rattle.version_chain.specs.Sharing.{ChangesOwn};
 
+use crate::chain_slots::ChainSlots;
 use crate::kept_list::KeptList;
 use crate::shared_block::Block;
 use crate::stamp_list::{Kept, is_held};
@@ -58,8 +59,7 @@ pub enum Insert {
 /// version of the tenant.
 #[derive(Drop)]
 pub struct Chains {
-    heads: Vec<Option<Slot>>,
-    latest: Vec<Option<Slot>>,
+    slots: ChainSlots,
     tenant: u32,
     share: u32,
     used: u32,
@@ -72,7 +72,7 @@ impl Model for Chains {
 
     ghost Value = { Heads };
 
-    ghost view = { λ c. record { tenant = c.tenant; share = c.share; used = c.used; heads = c.heads.items; latest = c.latest.items; kept = c.kept.kept } };
+    ghost view = { λ c. record { tenant = c.tenant; share = c.share; used = c.used; heads = c.slots.heads; latest = c.slots.latest; kept = c.kept.kept } };
 
     ghost invariant = { λ c. c.kept.room ≡ c.share };
 }
@@ -86,8 +86,7 @@ impl Chains {
         ensures { IfOk result (λ opened. opened ≡ no_versions tenant cells chains) }
     {
         Ok(Chains {
-            heads: no_slots(alloc, chains)?,
-            latest: no_slots(alloc, chains)?,
+            slots: ChainSlots::open(alloc, chains)?,
             tenant,
             share: cells,
             used: 0,
@@ -129,7 +128,7 @@ impl Chains {
         ensures { IsPlace block.now self.now chain (least_of bound.now) result.0 result.1 }
     {
         let mut last = None;
-        let mut here = self.heads[chain as usize];
+        let mut here = self.slots.head(chain);
         for _step in 0..FEW {
             let Some(slot) = here else {
                 return (last, here);
@@ -161,7 +160,7 @@ impl Chains {
         requires { HasChain block.now self.now chain }
         ensures { IsNear block.now self.now chain (least_of bound.now) result }
     {
-        let mut here = self.heads[chain as usize];
+        let mut here = self.slots.head(chain);
         let mut listed = self.kept.upward(bound);
         for _step in 0..self.used {
             let Some(slot) = here else {
@@ -226,7 +225,7 @@ impl Chains {
     {
         match slot {
             Some(slot) => block.next(slot),
-            None => self.heads[chain as usize],
+            None => self.slots.head(chain),
         }
     }
 
@@ -378,10 +377,11 @@ impl Chains {
         let rises = self.rises(block, chain, stamp_of(prepared), committed);
         let slot = block.put(self.tenant, chain, prepared, committed, here);
         self.used += 1;
-        self.latest[chain as usize] = latest_of(rises, slot, self.latest[chain as usize]);
+        let latest = latest_of(rises, slot, self.slots.latest(chain));
+        self.slots.set_latest(chain, latest);
         match last {
             Some(last) => block.set_next(last, Some(slot)),
-            None => self.heads[chain as usize] = Some(slot),
+            None => self.slots.set_head(chain, Some(slot)),
         }
         slot
     }
@@ -473,7 +473,8 @@ impl Chains {
         let chain = block.get(kept.slot).chain();
         let rises = self.is_past(block, chain, kept.stamp);
         block.mark(kept.slot);
-        self.latest[chain as usize] = latest_of(rises, kept.slot, self.latest[chain as usize]);
+        let latest = latest_of(rises, kept.slot, self.slots.latest(chain));
+        self.slots.set_latest(chain, latest);
         chain
     }
 
@@ -482,7 +483,7 @@ impl Chains {
         requires { HasChain block.now self.now chain }
         ensures { result ≡ latest_record block.now self.now chain }
     {
-        let slot = self.latest[chain as usize]?;
+        let slot = self.slots.latest(chain)?;
         Some(block.get(slot).into_record())
     }
 
@@ -506,7 +507,7 @@ impl Chains {
             result ≡ slice_get committed index }
     {
         let mut left = index;
-        let mut here = self.heads[chain as usize];
+        let mut here = self.slots.head(chain);
         while let Some(slot) = here {
             let node = block.get(slot);
             here = block.next(slot);
@@ -526,7 +527,7 @@ impl Chains {
         requires { HasChain block.now self.now chain }
         ensures { result ≡ first_record (chain_versions block.now self.now chain) }
     {
-        let slot = self.heads[chain as usize]?;
+        let slot = self.slots.head(chain)?;
         Some(block.get(slot).into_record())
     }
 
@@ -542,7 +543,7 @@ impl Chains {
         ensures { lent_version result ≡ slice_get (chain_versions block.now self.now chain) index }
     {
         let mut left = index;
-        let mut here = self.heads[chain as usize];
+        let mut here = self.slots.head(chain);
         while let Some(slot) = here {
             let node = block.get(slot);
             here = block.next(slot);
@@ -567,7 +568,7 @@ impl Chains {
         ensures { IfOk result (λ _. list.new
             ≡ list.old ++ chain_versions block.now self.now chain) }
     {
-        let mut here = self.heads[chain as usize];
+        let mut here = self.slots.head(chain);
         while let Some(slot) = here {
             let node = block.get(slot);
             here = block.next(slot);
@@ -702,10 +703,10 @@ impl Chains {
         let latest = self.latest_without(block, chain, here);
         block.free(here);
         self.used -= 1;
-        self.latest[chain as usize] = latest;
+        self.slots.set_latest(chain, latest);
         match last {
             Some(last) => block.set_next(last, next),
-            None => self.heads[chain as usize] = next,
+            None => self.slots.set_head(chain, next),
         }
     }
 
@@ -722,7 +723,7 @@ impl Chains {
         if self.is_latest(block, chain, stamp) {
             return self.committed_from(block, chain, block.next(here));
         }
-        self.latest[chain as usize]
+        self.slots.latest(chain)
     }
 
     // Whether this stamp is that of the latest committed version of a chain.
@@ -802,17 +803,6 @@ impl Chains {
         }
         false
     }
-}
-
-// So many places with no slot. The one error is that the allocation failed.
-fn no_slots(alloc: Global, count: u32) -> Result<Vec<Option<Slot>>, AllocError>
-    ensures { IfOk result (λ slots. slots.items ≡ replicate count None) }
-{
-    let mut slots = Vec::with_capacity(alloc, count as usize)?;
-    for _place in 0..count {
-        slots.push_reserved(None);
-    }
-    Ok(slots)
 }
 
 // The slot of a version where it rises, and else the one that was kept.

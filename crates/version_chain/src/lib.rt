@@ -2,6 +2,7 @@
 #![tactic(auto)]
 
 mod chain_list;
+mod chain_slots;
 mod chains;
 mod kept_list;
 mod shared_block;

@@ -47,7 +47,7 @@ listed c =
     (subst (λ stamp. P c.self.inside.kept.kept stamp) c.stamp_of-stamp.ensures c.insert.ensures.listed)
 
 abbrev after : (c : goal.After-insert) → Heads
-after c = record { tenant = c.self.inside.tenant; share = c.self.inside.share; used = c.self.inside.used; heads = c.self.inside.heads.items; latest = c.self.inside.latest.items; kept = c.insert.new.self.kept }
+after c = record { tenant = c.self.inside.tenant; share = c.self.inside.share; used = c.self.inside.used; heads = c.self.inside.slots.heads; latest = c.self.inside.slots.latest; kept = c.insert.new.self.kept }
 
 pub returns-clause-changed : goal.returns-clause-changed
 returns-clause-changed c =

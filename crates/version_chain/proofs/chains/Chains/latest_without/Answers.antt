@@ -1,5 +1,4 @@
-use Rattle.std.proofs.Common.{◌≡◌, None, sym, ap, subst, ◌∙◌, arith}
-use Rattle.std.proofs.lemmas.List.{get_or_read}
+use Rattle.std.proofs.Common.{◌≡◌, sym, ap, subst, ◌∙◌}
 use Rattle.version_chain.specs.Heads.{latest_slot}
 use Rattle.version_chain.specs.Chain.{KeepsLatest, chain_versions}
 use Rattle.version_chain.specs.Place.{KeepsLatestBut, is_at, versions_from}
@@ -26,7 +25,7 @@ returns-then-is_latest c =
 
 pub returns : goal.returns
 returns c =
-    let is : c.index.result.now ≡ latest_slot c.args.self.now c.args.chain = get_or_read c.args.self.now.latest c.args.chain _ (omega (arith, c.requires.chain.known, c.requires.chain.stands.long)) (rw (← c.self.view_is) c.index.ensures) None in
+    let is : c.latest.result ≡ latest_slot c.args.self.now c.args.chain = rw (← c.self.view_is) c.latest.ensures in
     subst (λ k. KeepsLatestBut c.args.block.now c.args.self.now c.args.chain c.args.here k) (sym is)
     (but_here c.args.block.now c.args.self.now c.args.chain c.args.here c.get.result c.requires.chain.stands c.requires.chain.known c.get.ensures
     (ap (λ s. is_at (first_committed (chain_versions c.args.block.now c.args.self.now c.args.chain)) s) (sym c.stamp-stamp.ensures.value) ∙ sym c.is_latest.ensures ∙ c.if-is_latest.false))

@@ -1,12 +1,11 @@
-use Rattle.std.proofs.Common.{◌≡◌, None, ap, is_some}
-use Rattle.std.proofs.lemmas.List.{get_or_read}
+use Rattle.std.proofs.Common.{◌≡◌, ap, is_some}
 use Rattle.version_chain.specs.Heads.{head}
 use Rattle.version_chain.proofs.Walks.{at_head, on_cell, read_cell, step}
 use Rattle.version_chain.proofs.chains.Chains.near.Goals as goal
 
 pub loop-step-init : goal.loop-step-init
 loop-step-init c =
-    let first : c.index-here.result.now ≡ head c.args.self.now c.args.chain = get_or_read c.args.self.now.heads c.args.chain _ c.requires.known (rw (← c.self.view_is) c.index-here.ensures) None in
+    let first : c.head-here.result ≡ head c.args.self.now c.args.chain = rw (← c.self.view_is) c.head-here.ensures in
     rw first (at_head _ _ c.args.chain c.requires.stands c.requires.known)
 
 pub get-requires : goal.get-requires

@@ -1,5 +1,4 @@
-use Rattle.std.proofs.Common.{◌≡◌, None, refl, ap, sym, is_some, slice_get, ◌∙◌}
-use Rattle.std.proofs.lemmas.List.{get_or_read}
+use Rattle.std.proofs.Common.{◌≡◌, refl, ap, sym, is_some, slice_get, ◌∙◌}
 use Rattle.version_chain.specs.Chain.{committed_records}
 use Rattle.version_chain.specs.Heads.{head}
 use Rattle.version_chain.proofs.Committed.{nth_skip, nth_next, nth_here}
@@ -8,7 +7,7 @@ use Rattle.version_chain.proofs.chains.Chains.nth_committed.Goals as goal
 
 pub loop-here-init : goal.loop-here-init
 loop-here-init c =
-    let first : c.index-here.result.now ≡ head c.args.self.now c.args.chain = get_or_read c.args.self.now.heads c.args.chain _ c.requires.known (rw (← c.self.view_is) c.index-here.ensures) None in
+    let first : c.head-here.result ≡ head c.args.self.now c.args.chain = rw (← c.self.view_is) c.head-here.ensures in
     rw first (at_head _ _ c.args.chain c.requires.stands c.requires.known, refl)
 
 pub get-node-requires : goal.get-node-requires

@@ -5,7 +5,7 @@ returns c = λ i. record {
   tenant = c.args.tenant;
   share = c.args.cells;
   used = 0;
-  heads = c.in_ok-no_slots.ensures i;
-  latest = c.in_ok-no_slots-2.ensures i;
-  kept = (c.in_ok-open.ensures i).kept;
+  heads = c.in_ok-open.ensures.heads i;
+  latest = c.in_ok-open.ensures.latest i;
+  kept = (c.in_ok-open-2.ensures i).kept;
 }

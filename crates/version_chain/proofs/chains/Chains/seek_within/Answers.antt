@@ -1,6 +1,5 @@
-use Rattle.std.proofs.Common.{◌≡◌, None, refl, ap, sym, is_some, ◌∙◌}
+use Rattle.std.proofs.Common.{◌≡◌, refl, ap, sym, is_some, ◌∙◌}
 use Rattle.std.proofs.lemmas.Bool.{ltb-false}
-use Rattle.std.proofs.lemmas.List.{get_or_read}
 use Rattle.version_chain.specs.Heads.{head}
 use Rattle.version_chain.proofs.Seeking.{reached_head, reached_next}
 use Rattle.version_chain.proofs.Walks.{on_cell, read_cell}
@@ -8,7 +7,7 @@ use Rattle.version_chain.proofs.chains.Chains.seek_within.Goals as goal
 
 pub loop-step-init : goal.loop-step-init
 loop-step-init c =
-    let first : c.index-here.result.now ≡ head c.args.self.now c.args.chain = get_or_read c.args.self.now.heads c.args.chain _ c.requires.known (rw (← c.self.view_is) c.index-here.ensures) None in
+    let first : c.head-here.result ≡ head c.args.self.now c.args.chain = rw (← c.self.view_is) c.head-here.ensures in
     reached_head _ _ _ _ _ _ c.requires.stands c.requires.known refl first
 
 pub get-requires : goal.get-requires

@@ -8,12 +8,12 @@ use Rattle.version_chain.proofs.chains.Chains.tidy.Goals as goal
 
 pub returns-then-is_due-clause-list : goal.returns-then-is_due-clause-list
 returns-then-is_due-clause-list c =
-    let before : Heads = record { tenant = c.self.inside.tenant; share = c.self.inside.share; used = c.self.inside.used; heads = c.self.inside.heads.items; latest = c.self.inside.latest.items; kept = c.self.inside.kept.kept } in
+    let before : Heads = record { tenant = c.self.inside.tenant; share = c.self.inside.share; used = c.self.inside.used; heads = c.self.inside.slots.heads; latest = c.self.inside.slots.latest; kept = c.self.inside.kept.kept } in
     lists_swept c.args.block.now before c.sweep.new.self.kept c.sweep.ensures.swept (subst (λ (h : Heads). Lists c.args.block.now h) (sym c.self.view_is) c.requires.list)
 
 pub returns-then-is_due-clause-room : goal.returns-then-is_due-clause-room
 returns-then-is_due-clause-room c =
-    let before : Heads = record { tenant = c.self.inside.tenant; share = c.self.inside.share; used = c.self.inside.used; heads = c.self.inside.heads.items; latest = c.self.inside.latest.items; kept = c.self.inside.kept.kept } in
+    let before : Heads = record { tenant = c.self.inside.tenant; share = c.self.inside.share; used = c.self.inside.used; heads = c.self.inside.slots.heads; latest = c.self.inside.slots.latest; kept = c.self.inside.kept.kept } in
     let block = c.args.block.now in
     let kept = c.sweep.new.self.kept in
     let lists = lists_swept block before kept c.sweep.ensures.swept (subst (λ (h : Heads). Lists block h) (sym c.self.view_is) c.requires.list) in

@@ -29,7 +29,7 @@ abbrev shrunk : ℕ → Option ℕ → Heads → Heads
 shrunk chain latest chains = with_used chains (chains.used - 1) chains.heads (slice_set chains.latest chain latest)
 
 after : (c : goal.After-set_next) (stamp : ℕ) → IsPlace c.args.block.now c.args.self.now c.args.chain stamp c.args.last (Some c.args.here)
-    → Unlinked c.args.block.now c.set_next.new.self c.args.self.now (shrunk c.args.chain c.latest_without-latest.result (record { tenant = c.self.inside.tenant; share = c.self.inside.share; used = c.self.inside.used; heads = c.self.inside.heads.items; latest = c.self.inside.latest.items; kept = c.self.inside.kept.kept })) c.args.chain (stored_node c.args.block.now c.args.here).version stamp (Some c.in-Some.last) (next_beside c.args.block.now c.args.here)
+    → Unlinked c.args.block.now c.set_next.new.self c.args.self.now (shrunk c.args.chain c.latest_without-latest.result (record { tenant = c.self.inside.tenant; share = c.self.inside.share; used = c.self.inside.used; heads = c.self.inside.slots.heads; latest = c.self.inside.slots.latest; kept = c.self.inside.kept.kept })) c.args.chain (stored_node c.args.block.now c.args.here).version stamp (Some c.in-Some.last) (next_beside c.args.block.now c.args.here)
 after c stamp place =
     let positive = used_here c.args.block.now c.args.self.now c.args.chain stamp _ _ c.requires.chain.stands c.requires.chain.known place in
     subst (λ (h : Heads). Unlinked c.args.block.now c.set_next.new.self c.args.self.now (shrunk c.args.chain c.latest_without-latest.result h) c.args.chain (stored_node c.args.block.now c.args.here).version stamp (Some c.in-Some.last) (next_beside c.args.block.now c.args.here)) (sym c.self.view_is)
@@ -37,19 +37,19 @@ after c stamp place =
     (unlinked_after _ _ _ stamp _ _ c.requires.chain.stands c.requires.chain.known (there c.args.block.now c.args.self.now c.args.chain c.args.last c.args.here c.requires.place) (c.args.self.now.used - 1) (omega (arith, positive)) c.latest_without-latest.result c.latest_without-latest.ensures _ (subst (λ last. IsPlace c.args.block.now c.args.self.now c.args.chain stamp last (Some c.args.here)) c.in-Some.is place)))
 
 pub returns-in-Some-clause-changed : goal.returns-in-Some-clause-changed
-returns-in-Some-clause-changed c = (after c c.requires.place.0 c.requires.place.1).changed
+returns-in-Some-clause-changed c = rw c.set_latest.ensures (after c c.requires.place.0 c.requires.place.1).changed
 
 pub returns-in-Some-clause-removed : goal.returns-in-Some-clause-removed
-returns-in-Some-clause-removed c = rw (there c.args.block.now c.args.self.now c.args.chain c.args.last c.args.here c.requires.place) (after c c.requires.place.0 c.requires.place.1).removed
+returns-in-Some-clause-removed c = rw (c.set_latest.ensures, there c.args.block.now c.args.self.now c.args.chain c.args.last c.args.here c.requires.place) (after c c.requires.place.0 c.requires.place.1).removed
 
 pub returns-in-Some-clause-place : goal.returns-in-Some-clause-place
-returns-in-Some-clause-place c stamp place = rw c.in-Some.is (after c stamp place).place
+returns-in-Some-clause-place c stamp place = rw (c.set_latest.ensures, c.in-Some.is) (after c stamp place).place
 
 abbrev shrunk_at : ℕ → Option ℕ → Option ℕ → Heads → Heads
 shrunk_at chain next latest chains = with_used chains (chains.used - 1) (slice_set chains.heads chain next) (slice_set chains.latest chain latest)
 
-first : (c : goal.After-self-in-None-1) (stamp : ℕ) → IsPlace c.args.block.now c.args.self.now c.args.chain stamp c.args.last (Some c.args.here)
-    → Unlinked c.args.block.now c.free.new.self c.args.self.now (shrunk_at c.args.chain c.next-next.result c.latest_without-latest.result (record { tenant = c.self.inside.tenant; share = c.self.inside.share; used = c.self.inside.used; heads = c.self.inside.heads.items; latest = c.self.inside.latest.items; kept = c.self.inside.kept.kept })) c.args.chain (stored_node c.args.block.now c.args.here).version stamp None (next_beside c.args.block.now c.args.here)
+first : (c : goal.After-set_head) (stamp : ℕ) → IsPlace c.args.block.now c.args.self.now c.args.chain stamp c.args.last (Some c.args.here)
+    → Unlinked c.args.block.now c.free.new.self c.args.self.now (shrunk_at c.args.chain c.next-next.result c.latest_without-latest.result (record { tenant = c.self.inside.tenant; share = c.self.inside.share; used = c.self.inside.used; heads = c.self.inside.slots.heads; latest = c.self.inside.slots.latest; kept = c.self.inside.kept.kept })) c.args.chain (stored_node c.args.block.now c.args.here).version stamp None (next_beside c.args.block.now c.args.here)
 first c stamp place =
     let positive = used_here c.args.block.now c.args.self.now c.args.chain stamp _ _ c.requires.chain.stands c.requires.chain.known place in
     subst (λ (h : Heads). Unlinked c.args.block.now c.free.new.self c.args.self.now (shrunk_at c.args.chain c.next-next.result c.latest_without-latest.result h) c.args.chain (stored_node c.args.block.now c.args.here).version stamp None (next_beside c.args.block.now c.args.here)) (sym c.self.view_is)
@@ -57,13 +57,13 @@ first c stamp place =
     (unlinked_first _ _ _ stamp _ _ c.requires.chain.stands c.requires.chain.known (there c.args.block.now c.args.self.now c.args.chain c.args.last c.args.here c.requires.place) (c.args.self.now.used - 1) (omega (arith, positive)) c.latest_without-latest.result c.latest_without-latest.ensures (subst (λ last. IsPlace c.args.block.now c.args.self.now c.args.chain stamp last (Some c.args.here)) c.in-None.is place)))
 
 pub returns-in-None-clause-changed : goal.returns-in-None-clause-changed
-returns-in-None-clause-changed c = (first c c.requires.place.0 c.requires.place.1).changed
+returns-in-None-clause-changed c = rw (c.set_head.ensures, c.set_latest.ensures) (first c c.requires.place.0 c.requires.place.1).changed
 
 pub returns-in-None-clause-removed : goal.returns-in-None-clause-removed
-returns-in-None-clause-removed c = rw (there c.args.block.now c.args.self.now c.args.chain c.args.last c.args.here c.requires.place) (first c c.requires.place.0 c.requires.place.1).removed
+returns-in-None-clause-removed c = rw (c.set_head.ensures, c.set_latest.ensures, there c.args.block.now c.args.self.now c.args.chain c.args.last c.args.here c.requires.place) (first c c.requires.place.0 c.requires.place.1).removed
 
 pub returns-in-None-clause-place : goal.returns-in-None-clause-place
-returns-in-None-clause-place c stamp place = rw c.in-None.is (first c stamp place).place
+returns-in-None-clause-place c stamp place = rw (c.set_head.ensures, c.set_latest.ensures, c.in-None.is) (first c stamp place).place
 
 live : (c : goal.After-set_next) → IsSome (entry (set c.args.block.now c.args.here None) c.in-Some.last)
 live c =
