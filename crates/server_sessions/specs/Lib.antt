@@ -15,3 +15,4 @@ pub mod LineTiming
 pub mod Passing
 pub mod Promised
 pub mod Receipts
+pub mod Streams

@@ -29,6 +29,7 @@ mod session_count;
 mod session_options;
 mod tenant_counts;
 mod tenants;
+mod unanswered;
 
 pub use answer_counts::AnswerCounts;
 pub use kept_transcripts::KeptTranscripts;

@@ -7,7 +7,6 @@ ghost use Rattle.server_sessions.specs.Peers.{HasRead, flushes_left};
 use crate::line_times::LineClock;
 use crate::session_count::SessionCount;
 use std::io::{self, ErrorKind, Read, Write};
-use std::net::{Shutdown, TcpStream};
 use std::sync::atomic::{AtomicBool, Ordering};
 use std::thread;
 use std::time::Clock;
@@ -34,20 +33,6 @@ pub(crate) trait PeerStream {
 
     /// Sends the end: nothing is written any more.
     fn send_end(&self) -> io::Result<()>;
-}
-
-impl PeerStream for &TcpStream {
-    fn set_waits(&self, waits: bool) -> io::Result<()> {
-        self.set_nonblocking(!waits)
-    }
-
-    fn met_error(&self) -> io::Result<Option<io::Error>> {
-        self.take_error()
-    }
-
-    fn send_end(&self) -> io::Result<()> {
-        self.shutdown(Shutdown::Write)
-    }
 }
 
 /// The peer of a connection: what is read is what its stream gave, and what is written is handed to its stream, byte by byte. A read fails

@@ -1,16 +1,15 @@
 //! A server's connections: those that it serves, and what those that ended left.
 ghost use Rattle.std.specs.Prelude.{◌≡◌, false, true, is_none, IfOk, IfSome, IsTrue};
-ghost use Rattle.std.specs.Arc.{arc_value};
 ghost use Rattle.server_sessions.specs.declared.served.Change.TheVariants.{Begun, Ended, Failed, GivenUp};
 ghost use Rattle.std.specs.IoError.{raw_os_error};
 ghost use Rattle.server_sessions.specs.Histories.{IsGivenIn};
 ghost use Rattle.server_sessions.specs.Passing.{is_passing};
 ghost use Rattle.server_sessions.specs.Ports.{IsServerOf, answers_of, count_of, listener_of, most_of, options_of, stays_of, tenants_of};
 ghost use Rattle.server_sessions.specs.Receipts.{IsRunFor};
+ghost use Rattle.server_sessions.specs.Streams.{IsGivenStream, IsStreamOf};
 
 use crate::answer_counts::AnswerCounts;
 use crate::kept_transcripts::KeptTranscripts;
-use crate::line_session::SessionRun;
 use crate::line_times::{LineClock, LineTimes};
 use crate::listener::{Accept, passes};
 use crate::peer::Peer;
@@ -18,13 +17,14 @@ use crate::served::{Connections, Left, Receipt, ServedConnections};
 use crate::session_count::SessionCount;
 use crate::session_options::SessionOptions;
 use crate::tenants::Tenants;
+use crate::unanswered::{Answered, Side, Unanswered, shared};
 use hub::Naming;
 use line_protocol::Name;
 use std::alloc::{AllocError, Global};
 use std::io;
 use std::net::{Shutdown, TcpStream};
 use std::sync::atomic::{AtomicBool, Ordering};
-use std::sync::{Arc, Condvar, CondvarTimeouts, Mutex, Wait};
+use std::sync::{Condvar, CondvarTimeouts, Mutex, Wait};
 use std::time::{Clock, Duration};
 
 /// After how many milliseconds an `accept` that failed is tried again, where no session has ended before.
@@ -56,11 +56,11 @@ pub struct Server<L, G: Naming, N> {
     count: SessionCount,
 }
 
-/// A connection that has a place of a server. Who serves it gives its place back.
+/// A connection that has a place of a server. Who has its stream answered gives its place back.
 #[derive(Drop)]
 pub(crate) struct Entered {
     pub(crate) place: usize,
-    pub(crate) stream: Arc<TcpStream>,
+    pub(crate) stream: Unanswered<Side, Side>,
     begun: Receipt,
 }
 
@@ -289,11 +289,11 @@ impl<L, G: Naming, N> Server<L, G, N> {
     /// Gives a connection this place. None where it is to end by now, and where it found no memory: then it is closed, and the
     /// program reports so at its end.
     fn enter<R: Wait>(&self, rt: &R, place: usize, stream: TcpStream) -> Option<Entered>
-        ensures stream { IfSome result (λ entered. arc_value entered.stream ≡ stream) }
+        ensures stream { IfSome result (λ entered. IsStreamOf stream entered.stream) }
         ensures begun { IfSome result
             (λ entered. (entered.begun.change ≡ Begun place) × (entered.place ≡ place)) }
     {
-        let Ok((stream, same)) = shared(self.alloc, stream) else {
+        let Ok((stream, held)) = shared(self.alloc, stream) else {
             self.served.lock(rt).refuse();
             return None;
         };
@@ -301,22 +301,13 @@ impl<L, G: Naming, N> Server<L, G, N> {
         if self.is_ending() {
             return None;
         }
-        let begun = served.begin(place, same);
+        let begun = served.begin(place, held);
         Some(Entered {
             place,
             stream,
             begun,
         })
     }
-}
-
-/// A connection, as its thread and the server hold it.
-fn shared(alloc: Global, stream: TcpStream) -> Result<(Arc<TcpStream>, Arc<TcpStream>), AllocError>
-    ensures { IfOk result (λ both. (arc_value both.0 ≡ stream) × (arc_value both.1 ≡ stream)) }
-{
-    let stream = Arc::new(alloc, stream)?;
-    let same = Arc::try_clone(&stream)?;
-    Ok((stream, same))
 }
 
 impl<L, G: Naming, N: Tenants> Server<L, G, N> {
@@ -327,26 +318,21 @@ impl<L, G: Naming, N: Tenants> Server<L, G, N> {
         self.tenants.names()
     }
 
-    /// The connection is served no longer. Its session was run for this server: by the names of its tenants and with its options, and its
-    /// answers were counted here. Each reply in its transcript has its place in what was seen. The connection is closed, if nobody
-    /// else has it, before another gets its place.
+    /// The connection at this place, whose stream was answered, is served no longer. The session that answered it was run for this server: by the names of
+    /// its tenants and with its options, and its answers were counted here. Each reply in its transcript has its place in what was
+    /// seen. The connection is closed, if nobody else has it, before another gets its place.
     pub(crate) fn leave<R: Wait>(
         &self,
         rt: &R,
-        entered: Entered,
-        session: SessionRun<'_, G>,
+        place: usize,
+        answered: Answered<'_, G, Side>,
     ) -> Receipt
         requires run { IsRunFor (N.listed (tenants_of self.now)) (options_of self.now)
-            (answers_of self.now) session }
-        requires given { IfSome session.left (λ its. IsGivenIn its.1 its.0) }
-        ensures { result.change ≡ Ended entered.place }
+            (answers_of self.now) answered.session }
+        requires given { IfSome answered.session.left (λ its. IsGivenIn its.1 its.0) }
+        ensures { result.change ≡ Ended place }
     {
-        let Entered {
-            place,
-            stream,
-            begun: _,
-        } = entered;
-        drop(stream);
+        let session = answered.into_session();
         let ended = self.served.lock(rt).end(place, session);
         self.changed.notify_all();
         ended
@@ -359,7 +345,7 @@ impl<L: Accept, G: Naming, N> Server<L, G, N> {
     /// not pass ends the server.
     pub(crate) fn next<R: Wait + Clock>(&self, rt: &R) -> Option<Entered>
         ensures given { IfSome result
-            (λ next. L.has_given (listener_of self.now) (arc_value next.stream)) }
+            (λ next. IsGivenStream (L.has_given (listener_of self.now)) next.stream) }
         ensures begun { IfSome result (λ next. next.begun.change ≡ Begun next.place) }
     {
         for _ in rt.forever() {

@@ -2,21 +2,15 @@
 ghost use Rattle.std.specs.Prelude.{◌≡◌, false, IsTrue};
 ghost use Rattle.std.specs.Io.KnownBytes.{IsAtEnd};
 ghost use Rattle.server_sessions.specs.declared.served.Change.TheVariants.{Ended};
-ghost use Rattle.server_sessions.specs.Ports.{answers_of, listener_of, options_of, stays_of, tenants_of};
-ghost use Rattle.server_sessions.specs.Promised.{HasRun};
-ghost use Rattle.server_sessions.specs.Receipts.{IsRunFor};
+ghost use Rattle.server_sessions.specs.Ports.{listener_of, stays_of};
 
-use crate::line_session::{SessionRun, run_session_as};
-use crate::line_times::LineClock;
 use crate::listener::Accept;
-use crate::peer::{Peer, PeerStream};
 use crate::served::Receipt;
 use crate::server::{Entered, Server};
 use crate::tenants::Tenants;
 use hub::{Gate, Hub, Named, Naming, Seat};
-use line_runs::RunFault;
 use std::alloc::Global;
-use std::io::{ErrorKind, Read, Write};
+use std::io::{ErrorKind, Read};
 use std::sync::Wait;
 use std::thread;
 use std::thread::Threads;
@@ -122,8 +116,8 @@ fn accept_all<
     );
 }
 
-// Answers one connection's lines. Its seat has ended before the stream is closed, so that its client may connect again
-// at once.
+// Answers one connection's lines, by this server's names and options alone: only behind an answered stream a connection leaves, and
+// each stream is answered once. Its seat has ended before the stream is closed, so that its client may connect again at once.
 fn serve_connection<J: Naming, H: Wait + Clock, L, N: Tenants>(
     rt: &H,
     alloc: Global,
@@ -134,54 +128,6 @@ fn serve_connection<J: Naming, H: Wait + Clock, L, N: Tenants>(
     // Its place is given back.
     ensures { result.change ≡ Ended entered.place }
 {
-    let stream = &*entered.stream;
-    // A stream that can't be told so only answers later.
-    let _ = stream.set_nodelay(true);
-    let clock = LineClock::new(rt, server.times());
-    let mut reader = server.peer(stream, &clock);
-    let mut writer = server.peer(stream, &clock);
-    let begun = server.count().begin();
-    let (session, _) = answer_peer(rt, alloc, hub, server, &mut reader, &mut writer);
-    begun.end();
-    if server.is_ending() {
-        reader.part();
-    }
-    server.leave(rt, entered, session)
-}
-
-// Answers the lines of a peer by this store, the names of the server's tenants and the server's options. What is handed to its stream is the
-// answers to what its stream gave, byte by byte.
-fn answer_peer<
-    's,
-    J: Naming,
-    H: Wait + Clock,
-    L,
-    N: Tenants,
-    R: PeerStream + Read,
-    W: PeerStream + Write,
->(
-    rt: &H,
-    alloc: Global,
-    hub: &'s OpenHub<J>,
-    server: &'s Server<L, Named<J, Open>, N>,
-    reader: &mut Peer<'_, R, H>,
-    writer: &mut Peer<'_, W, H>,
-) -> (SessionRun<'s, Named<J, Open>>, Result<(), RunFault>)
-    ensures run { HasRun (options_of server.now) hub.now (N.listed (tenants_of server.now))
-        (R.remaining reader.old.stream) (W.contents writer.old.stream)
-        (W.contents writer.new.stream) result.0.left result.1 }
-    ensures receipt { IsRunFor (N.listed (tenants_of server.now)) (options_of server.now)
-        (answers_of server.now) result.0 }
-{
-    let counts = Some(server.answers());
-    run_session_as(
-        rt,
-        alloc,
-        hub,
-        server.names(),
-        server.options(),
-        counts,
-        reader,
-        writer,
-    )
+    let (answered, _) = entered.stream.answer(rt, alloc, hub, server);
+    server.leave(rt, entered.place, answered)
 }
