@@ -4,7 +4,7 @@ ghost use Rattle.hub.specs.Hubs.{view_with};
 ghost use Rattle.load.specs.Stores.{DoneOrRefused, IsClosed};
 ghost use Rattle.server_sessions.specs.Histories.{IsOfHistory};
 ghost use Rattle.server_sessions.specs.Ports.{transcripts_of};
-ghost use Rattle.server_verdicts.specs.Judged.{AreLeft};
+ghost use Rattle.server_verdicts.specs.Judged.{AreEnded, AreLeft};
 
 use hub::{Closed, Front, Hub, HubFault, Named, Naming, NewStore, Sink};
 use line_runs::ProgramFault;
@@ -56,6 +56,8 @@ impl<J: Naming> NamedClosed<J> {
         ensures limits { IfOk result
             (λ endings. endings.limits.items ≡ self.config.limits.items) }
         ensures left { IfOk result (λ endings. AreLeft self.journals.items endings.rows.items) }
+        ensures known { IfOk result
+            (λ endings. AreEnded C.has_ended known.items endings.rows.items) }
     {
         let closed = self.into_closed();
         let limits = closed.config.limits;

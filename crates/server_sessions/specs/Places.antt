@@ -1,11 +1,12 @@
 -- The places of a server's connections, and how many are still to be begun.
-use Rattle.std.specs.Prelude.{◌≡◌, ◌⊎◌, ◌≤◌, ◌+◌, ◌-◌, ◌^◌, ◌++◌, ◌∷◌, [], ℕ, false, true, List, Option, None, IsSome, All, count_by, is_some, min, vec_capacity, vec_len}
+use Rattle.std.specs.Prelude.{◌≡◌, ◌⊎◌, ◌≤◌, ◌+◌, ◌-◌, ◌^◌, ◌++◌, ◌∷◌, [], ℕ, Bool, false, true, List, Option, None, IsSome, All, count_by, is_some, min, vec_capacity, vec_len}
 use Rattle.std.specs.Option.{option_map}
 use Rattle.std.specs.Global.{Vec}
 use Rattle.closed_store.specs.declared.transcript.Transcript.{Transcript}
 use Rattle.history.specs.declared.rule.Naming.{Ghosts}
 use Rattle.server_sessions.specs.declared.served.Left.{Left}
 use Rattle.server_sessions.specs.declared.served.ServedConnections.{ServedConnections}
+use Rattle.server_sessions.specs.declared.served.ServerFaults.{ServerFaults}
 use Rattle.server_sessions.specs.declared.session_options.SessionOptions.{SessionOptions}
 
 -- each place has a connection
@@ -51,15 +52,27 @@ pub record ServesNone {G : Type 0} {naming : Ghosts G} (count : ℕ) (more : Opt
   pub transcripts : served.kept.transcripts ≡ before
   pub well : (served.has_failed ≡ false) × (served.has_refused ≡ false) × (served.has_lost ≡ false)
 
+-- whether a connection could not be accepted, a thread could not be started, or the input could not be read
+abbrev pub failed_in : ServerFaults → Bool
+failed_in faults = faults.has_failed
+
+-- whether a connection found no memory for its place
+abbrev pub refused_in : ServerFaults → Bool
+refused_in faults = faults.has_refused
+
+-- whether a transcript found no memory
+abbrev pub lost_in : ServerFaults → Bool
+lost_in faults = faults.has_lost
+
 -- what a server left whose connections were these, and whose sessions were answered by these names and with these options
 pub record IsLeftOf {G N : Type 0} {naming : Ghosts G} (tenants : N) (options : SessionOptions)
     (served : ServedConnections G naming) (left : Left G N naming) : Type 0 where
   pub names : left.tenants ≡ tenants
   pub manner : left.options ≡ options
   pub transcripts : left.kept.transcripts ≡ served.kept.transcripts
-  pub failed : left.has_failed ≡ served.has_failed
-  pub refused : left.has_refused ≡ served.has_refused
-  pub lost : left.has_lost ≡ served.has_lost
+  pub failed : failed_in left.faults ≡ served.has_failed
+  pub refused : refused_in left.faults ≡ served.has_refused
+  pub lost : lost_in left.faults ≡ served.has_lost
 
 -- the same connections are served, as many are to be begun, and the same transcripts are kept
 pub record StaysServed {G : Type 0} {naming : Ghosts G} (old new : ServedConnections G naming) : Type 0 where

@@ -36,7 +36,7 @@ pub use kept_transcripts::KeptTranscripts;
 pub use line_session::{SessionLeft, SessionRun, run_session, run_session_as};
 pub use line_times::LineTimes;
 pub use listener::{Accept, Listener};
-pub use served::{Connections, Left};
+pub use served::{Connections, Left, ServerFaults};
 pub use server::Server;
 pub use serving::{Open, OpenHub, OpenSeat, serve_connections};
 pub use session_options::SessionOptions;

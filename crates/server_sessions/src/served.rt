@@ -1,7 +1,7 @@
 //! Whom a server serves, and what those that ended left: what the server's lock keeps.
 ghost use Rattle.std.specs.Prelude.{◌≡◌, ◌≢◌, ◌⊎◌, ◌↔◌, ◌+◌, ◌-◌, ◌^◌, false, true, min, slice_get, slice_set, vec_len, IfNone, IfOk, IfSome, IsTrue, MatchOption, None, Some};
 ghost use Rattle.server_sessions.specs.Histories.{IsGivenIn};
-ghost use Rattle.server_sessions.specs.Places.{AreFree, AreTaken, IsKeptOrLost, IsLeftOf, LeavesTheSame, ServesNone, StaysServed, one_less, one_more, taken_count};
+ghost use Rattle.server_sessions.specs.Places.{AreFree, AreTaken, IsKeptOrLost, IsLeftOf, LeavesTheSame, ServesNone, StaysServed, failed_in, lost_in, one_less, one_more, refused_in, taken_count};
 ghost use Rattle.server_sessions.specs.Receipts.{kept_of};
 
 use crate::kept_transcripts::KeptTranscripts;
@@ -66,12 +66,39 @@ pub struct Left<G: Naming, N> {
     pub options: SessionOptions,
     /// The transcripts of the seats of its sessions, but for those that found no memory, and what these seats have seen.
     pub kept: KeptTranscripts<G>,
+    /// What kept it from some of its connections, or of their transcripts.
+    pub faults: ServerFaults,
+}
+
+/// What kept a server from some of its connections, or of their transcripts. A server that ended alone gives one.
+#[derive(Drop)]
+pub struct ServerFaults {
+    has_failed: bool,
+    has_refused: bool,
+    has_lost: bool,
+}
+
+impl ServerFaults {
     /// Whether a connection could not be accepted, a thread could not be started, or the input could not be read.
-    pub has_failed: bool,
+    pub fn has_failed(&self) -> bool
+        ensures { result ≡ failed_in self.now }
+    {
+        self.has_failed
+    }
+
     /// Whether a connection found no memory for its place: it was closed, and not counted.
-    pub has_refused: bool,
+    pub fn has_refused(&self) -> bool
+        ensures { result ≡ refused_in self.now }
+    {
+        self.has_refused
+    }
+
     /// Whether a transcript found no memory.
-    pub has_lost: bool,
+    pub fn has_lost(&self) -> bool
+        ensures { result ≡ lost_in self.now }
+    {
+        self.has_lost
+    }
 }
 
 impl<G: Naming> ServedConnections<G> {
@@ -113,9 +140,11 @@ impl<G: Naming> ServedConnections<G> {
             tenants,
             options,
             kept,
-            has_failed,
-            has_refused,
-            has_lost,
+            faults: ServerFaults {
+                has_failed,
+                has_refused,
+                has_lost,
+            },
         }
     }
 

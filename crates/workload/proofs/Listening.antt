@@ -12,7 +12,7 @@ use Rattle.closed_store.specs.declared.closed.Closed.{Closed}
 use Rattle.line_runs.specs.Statuses.{status_of}
 use Rattle.workload.specs.Amounts.{AreAmounts, IsAmountOf, TellsAmounts, judged_line}
 use Rattle.workload.specs.declared.judged_lines.Amount.{Amount}
-use Rattle.workload.specs.Serving.{ComesBehind, EndsAfter, HasChecked, HasClosed, HasListened, HasServed, HasServedOf, IsFaultBefore, TellsPortFirst, TellsPortFor, greater_fault, is_told, listening_line}
+use Rattle.workload.specs.Serving.{ComesBehind, HasChecked, HasClosed, HasListened, HasServed, HasServedOf, IsFaultBefore, TellsPortFirst, TellsPortFor, greater_fault, is_told, listening_line}
 use Rattle.workload.specs.TenantLines.{TellsLines}
 use Rattle.workload.proofs.ToldLines.{same_lines}
 use Rattle.load.specs.Stores.{IsClosed}
@@ -39,17 +39,19 @@ both_not : {A : Type 0} → ◌≡◌ {A = Bool} false true → A
 both_not bad = absurd cc
 
 -- a server told its port, closed its store, and told the verdicts, and of how much they are where that is asked for
-pub closed_on : (IsMeant : Closed → Type 0) (counts : Bool) (view : ConfigView) (names : List (List ℕ)) (old between behind new : Option (List ℕ)) (closed : Closed) (told came ended : Result (Unit {0}) ProgramFault)
-    → HasListened old between (Ok tt) → IsClosed view closed → IsMeant closed ⊎ ((told ≡ Err OutOfMemory) × Keeps between behind) → (view.epoch ≡ 0 → TellsVerdicts closed names between behind told)
+pub closed_on : (IsMeant : Closed → Result (Unit {0}) ProgramFault → Type 0) (counts : Bool) (view : ConfigView) (names : List (List ℕ)) (old between behind new : Option (List ℕ)) (closed : Closed) (told came before ended : Result (Unit {0}) ProgramFault)
+    → HasListened old between (Ok tt) → IsClosed view closed → IsMeant closed before ⊎ ((told ≡ Err OutOfMemory) × Keeps between behind) → (view.epoch ≡ 0 → TellsVerdicts closed names between behind told)
     → (0 < view.epoch → HasChecked view closed names between behind told) → ComesBehind (is_told told && counts) (TellsAmounts (nat_eq view.epoch 0) closed names) behind new told came
-    → EndsAfter came ended → HasServedOf IsMeant false counts view names old new ended
-closed_on IsMeant counts view names old between behind new closed told came (Ok done) listened opened meant verdicts checks amounts ends = record {
+    → IsFaultBefore before → ended ≡ greater_fault before came → HasServedOf IsMeant false counts view names old new ended
+closed_on IsMeant counts view names old between behind new closed told came before (Ok done) listened opened meant verdicts checks amounts may ends = record {
   between = between;
   listened = listened;
   closed = closed;
   opened = opened;
   behind = behind;
   told = told;
+  before = before;
+  may_be = may;
   meant = meant;
   verdicts = λ recorded. verdicts;
   checks = λ recorded. checks;
@@ -58,13 +60,15 @@ closed_on IsMeant counts view names old between behind new closed told came (Ok 
   amounts = amounts;
   ends = ends;
 }
-closed_on IsMeant counts view names old between behind new closed told came (Err fault) listened opened meant verdicts checks amounts ends = inr (record {
+closed_on IsMeant counts view names old between behind new closed told came before (Err fault) listened opened meant verdicts checks amounts may ends = inr (record {
   between = between;
   listened = listened;
   closed = closed;
   opened = opened;
   behind = behind;
   told = told;
+  before = before;
+  may_be = may;
   meant = meant;
   verdicts = λ recorded. verdicts;
   checks = λ recorded. checks;
@@ -75,16 +79,18 @@ closed_on IsMeant counts view names old between behind new closed told came (Err
 })
 
 -- a server that records nothing told its port, closed its store, and told what it had answered
-pub closed_unrecorded : (IsMeant : Closed → Type 0) (counts : Bool) (view : ConfigView) (names : List (List ℕ)) (old between new : Option (List ℕ)) (closed : Closed) (told ended : Result (Unit {0}) ProgramFault)
-    → HasListened old between (Ok tt) → IsClosed view closed → IsMeant closed ⊎ ((told ≡ Err OutOfMemory) × Keeps between new) → TellsServed (length view.limits) names between new told → EndsAfter told ended
+pub closed_unrecorded : (IsMeant : Closed → Result (Unit {0}) ProgramFault → Type 0) (counts : Bool) (view : ConfigView) (names : List (List ℕ)) (old between new : Option (List ℕ)) (closed : Closed) (told before ended : Result (Unit {0}) ProgramFault)
+    → HasListened old between (Ok tt) → IsClosed view closed → IsMeant closed before ⊎ ((told ≡ Err OutOfMemory) × Keeps between new) → TellsServed (length view.limits) names between new told → IsFaultBefore before → ended ≡ greater_fault before told
     → HasServedOf IsMeant true counts view names old new ended
-closed_unrecorded IsMeant counts view names old between new closed told (Ok done) listened opened meant served ends = record {
+closed_unrecorded IsMeant counts view names old between new closed told before (Ok done) listened opened meant served may ends = record {
   between = between;
   listened = listened;
   closed = closed;
   opened = opened;
   behind = new;
   told = told;
+  before = before;
+  may_be = may;
   meant = meant;
   verdicts = λ recorded. not_both recorded;
   checks = λ recorded. not_both recorded;
@@ -93,13 +99,15 @@ closed_unrecorded IsMeant counts view names old between new closed told (Ok done
   amounts = (refl, refl);
   ends = ends;
 }
-closed_unrecorded IsMeant counts view names old between new closed told (Err fault) listened opened meant served ends = inr (record {
+closed_unrecorded IsMeant counts view names old between new closed told before (Err fault) listened opened meant served may ends = inr (record {
   between = between;
   listened = listened;
   closed = closed;
   opened = opened;
   behind = new;
   told = told;
+  before = before;
+  may_be = may;
   meant = meant;
   verdicts = λ recorded. not_both recorded;
   checks = λ recorded. not_both recorded;
@@ -110,29 +118,29 @@ closed_unrecorded IsMeant counts view names old between new closed told (Err fau
 })
 
 -- a server that found no memory for a transcript, or for how much there was to judge, told its port and no verdict
-pub no_transcript : (IsMeant : Closed → Type 0) (counts : Bool) (view : ConfigView) (names : List (List ℕ)) (old new : Option (List ℕ)) (closed : Closed)
+pub no_transcript : (IsMeant : Closed → Result (Unit {0}) ProgramFault → Type 0) (counts : Bool) (view : ConfigView) (names : List (List ℕ)) (old new : Option (List ℕ)) (closed : Closed)
     → HasListened old new (Ok tt) → IsClosed view closed → view.epoch ≡ 0 → HasServedOf IsMeant false counts view names old new (Err OutOfMemory)
 no_transcript IsMeant counts view names old new closed listened opened kept =
-    closed_on IsMeant counts view names old new new new closed (Err OutOfMemory) (Err OutOfMemory) (Err OutOfMemory) listened opened (inr (refl, Keeps-refl new))
+    closed_on IsMeant counts view names old new new new closed (Err OutOfMemory) (Err OutOfMemory) (Ok tt) (Err OutOfMemory) listened opened (inr (refl, Keeps-refl new))
     (λ again. record { verdicts = []; few = omega arith; each = λ tenant verdict at. absurd (let bad : None ≡ Some verdict = at in cc); size = 0; written = Appends-nil new })
-    (λ cut. absurd (omega (arith, kept, cut))) (refl, refl) (Ok tt, tt, refl)
+    (λ cut. absurd (omega (arith, kept, cut))) (refl, refl) tt refl
 
 -- a server that could not open its store told nothing
-pub nothing_told : (IsMeant : Closed → Type 0) (unrecorded counts : Bool) (view : ConfigView) (names : List (List ℕ)) (writer : Option (List ℕ)) (fault : ProgramFault) → (fault ≡ OutOfMemory) ⊎ (fault ≡ Device)
+pub nothing_told : (IsMeant : Closed → Result (Unit {0}) ProgramFault → Type 0) (unrecorded counts : Bool) (view : ConfigView) (names : List (List ℕ)) (writer : Option (List ℕ)) (fault : ProgramFault) → (fault ≡ OutOfMemory) ⊎ (fault ≡ Device)
     → HasServedOf IsMeant unrecorded counts view names writer writer (Err fault)
 nothing_told IsMeant unrecorded counts view names writer fault (inl same) = subst (λ (f : ProgramFault). HasServedOf IsMeant unrecorded counts view names writer writer (Err f)) (sym same) (inl (Keeps-refl writer))
 nothing_told IsMeant unrecorded counts view names writer fault (inr same) =
     subst (λ (f : ProgramFault). HasServedOf IsMeant unrecorded counts view names writer writer (Err f)) (sym same) (inl (0, omega arith, (0, Appends-nil writer)))
 
 -- a server whose epochs were checked told its port and nothing else, since an allocation failed
-pub no_room_to_check : (IsMeant : Closed → Type 0) (counts : Bool) (view : ConfigView) (names : List (List ℕ)) (old new : Option (List ℕ)) (closed : Closed)
+pub no_room_to_check : (IsMeant : Closed → Result (Unit {0}) ProgramFault → Type 0) (counts : Bool) (view : ConfigView) (names : List (List ℕ)) (old new : Option (List ℕ)) (closed : Closed)
     → HasListened old new (Ok tt) → IsClosed view closed → 0 < view.epoch → HasServedOf IsMeant false counts view names old new (Err OutOfMemory)
 no_room_to_check IsMeant counts view names old new closed listened opened cut =
-    closed_on IsMeant counts view names old new new new closed (Err OutOfMemory) (Err OutOfMemory) (Err OutOfMemory) listened opened (inr (refl, Keeps-refl new)) (λ kept. absurd (omega (arith, kept, cut))) (λ more. inl (refl, Keeps-refl new)) (refl, refl) (Ok tt, tt, refl)
+    closed_on IsMeant counts view names old new new new closed (Err OutOfMemory) (Err OutOfMemory) (Ok tt) (Err OutOfMemory) listened opened (inr (refl, Keeps-refl new)) (λ kept. absurd (omega (arith, kept, cut))) (λ more. inl (refl, Keeps-refl new)) (refl, refl) tt refl
 
 -- what was told of the store that is meant was told of some store
-some_store : (IsMeant : Closed → Type 0) (unrecorded counts : Bool) (view : ConfigView) (names : List (List ℕ)) (old new : Option (List ℕ)) (ended : Result (Unit {0}) ProgramFault)
-    → HasClosed IsMeant unrecorded counts view names old new ended → HasClosed (λ closed. Unit {0}) unrecorded counts view names old new ended
+some_store : (IsMeant : Closed → Result (Unit {0}) ProgramFault → Type 0) (unrecorded counts : Bool) (view : ConfigView) (names : List (List ℕ)) (old new : Option (List ℕ)) (ended : Result (Unit {0}) ProgramFault)
+    → HasClosed IsMeant unrecorded counts view names old new ended → HasClosed (λ closed before. Unit {0}) unrecorded counts view names old new ended
 some_store IsMeant unrecorded counts view names old new ended its = record {
   between = its.between;
   listened = its.listened;
@@ -140,6 +148,8 @@ some_store IsMeant unrecorded counts view names old new ended its = record {
   opened = its.opened;
   behind = its.behind;
   told = its.told;
+  before = its.before;
+  may_be = its.may_be;
   meant = inl tt;
   verdicts = its.verdicts;
   checks = its.checks;
@@ -149,7 +159,7 @@ some_store IsMeant unrecorded counts view names old new ended its = record {
   ends = its.ends;
 }
 
-pub served_some : (IsMeant : Closed → Type 0) (unrecorded counts : Bool) (view : ConfigView) (names : List (List ℕ)) (old new : Option (List ℕ)) (ended : Result (Unit {0}) ProgramFault)
+pub served_some : (IsMeant : Closed → Result (Unit {0}) ProgramFault → Type 0) (unrecorded counts : Bool) (view : ConfigView) (names : List (List ℕ)) (old new : Option (List ℕ)) (ended : Result (Unit {0}) ProgramFault)
     → HasServedOf IsMeant unrecorded counts view names old new ended → HasServed unrecorded counts view names old new ended
 served_some IsMeant unrecorded counts view names old new (Ok done) its = some_store IsMeant unrecorded counts view names old new (Ok done) its
 served_some IsMeant unrecorded counts view names old new (Err fault) (inl listened) = inl listened
@@ -261,6 +271,11 @@ text_behind true counts with_operations closed names old behind new told came du
     (one.0 ++ more.0, Appends-trans old behind new one.0 more.0 one.1 more.1)
 text_behind false counts with_operations closed names old behind new told came due first (kept, is) all =
     subst (λ (writer : Option (List ℕ)). (text : List ℕ) × Appends old writer text) (sym kept) (first (ap is_told (sym is) ∙ all))
+
+-- what a server comes to whose last lines came to this, after what kept it from some connections
+abbrev pub EndsAfter : Result (Unit {0}) ProgramFault → Result (Unit {0}) ProgramFault → Type 0
+EndsAfter told ended =
+    (before : Result (Unit {0}) ProgramFault) × IsFaultBefore before × (ended ≡ greater_fault before told)
 
 -- the text was written behind the line of the port
 pub port_then : (port : ℕ) (old between new : Option (List ℕ)) (came ended : Result (Unit {0}) ProgramFault) → Appends old between (listening_line port) → HasText between new came → EndsAfter came ended

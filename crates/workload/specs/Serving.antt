@@ -1,6 +1,6 @@
 -- What a server reports about itself, and what one did that the words ask for.
 use Rattle.std.specs.Prelude.{◌≡◌, ◌⊎◌, ℕ, ◌<◌, ◌≤◌, ◌^◌, ◌++◌, length, List, Option, None, Some, Result, Ok, Err, OnOk}
-use Rattle.std.specs.Prelude.{Bool, IsTrue, ◌&&◌, codes, decimal, false, true, if◌then◌else◌, map, nat_eq, nat_lt, not, take}
+use Rattle.std.specs.Prelude.{Bool, IsTrue, ◌&&◌, codes, cond, decimal, false, true, if◌then◌else◌, map, nat_eq, nat_lt, not, take}
 use Rattle.std.specs.Io.KnownBytes.{Appends, Keeps}
 use Rattle.stamps.specs.Bounds.{IsParts}
 use Rattle.stamps.specs.declared.bounds.Limits.{Limits}
@@ -19,7 +19,9 @@ use Rattle.workload.specs.declared.serve.StoreLeft.TheVariants.{Whole, Endings}
 use Rattle.server_verdicts.specs.Judged.{AreLeft, TellsChecks}
 use Rattle.server_verdicts.specs.Verdicts.{TellsVerdicts}
 use Rattle.command_line.specs.Words.{AreTenants, AsksForServer}
+use Rattle.server_sessions.specs.Places.{failed_in, refused_in}
 use Rattle.server_sessions.specs.Ports.{IsPortFor}
+use Rattle.server_sessions.specs.declared.served.ServerFaults.{ServerFaults}
 use Rattle.server_sessions.specs.declared.session_options.SessionOptions.{SessionOptions}
 use Rattle.load.specs.Stores.{IsClosed}
 use Rattle.workload.specs.Amounts.{TellsAmounts}
@@ -88,10 +90,9 @@ greater_fault (Ok done) told = told
 greater_fault (Err before) (Ok done) = Err before
 greater_fault (Err before) (Err told) = if nat_lt (status_of told) (status_of before) then Err told else Err before
 
--- what a server comes to whose last lines came to this, after what kept it from some connections
-abbrev pub EndsAfter : Result (Unit {0}) ProgramFault → Result (Unit {0}) ProgramFault → Type 0
-EndsAfter told ended =
-    (before : Result (Unit {0}) ProgramFault) × IsFaultBefore before × (ended ≡ greater_fault before told)
+-- what kept a server from some connections, as it is reported: an allocation failure comes before a device
+abbrev pub fault_before : ServerFaults → Result (Unit {0}) ProgramFault
+fault_before faults = cond (refused_in faults) (Err OutOfMemory) (cond (failed_in faults) (Err Device) (Ok tt))
 
 -- all verdicts were reported that came to this
 abbrev pub is_told : Result (Unit {0}) ProgramFault → Bool
@@ -114,8 +115,9 @@ ComesBehind false Tells old new told came = (new ≡ old) × (came ≡ told)
 -- or, where its journals were cut, those over what was left of them; or, where it records nothing, how many lines of each
 -- tenant it answered. It told them also where an allocation failed to a connection or a device failed before. Where counts are
 -- asked for and all verdicts were reported, whether yes or no, it reported behind them of how much of what the close answered they are.
--- What the close answered is of the store that is meant, unless an allocation failed before any of these lines.
-pub record HasClosed (IsMeant : Closed → Type 0) (unrecorded counts : Bool) (view : ConfigView) (names : List (List ℕ)) (old new : Option (List ℕ))
+-- What the close answered is of the store that is meant, and what kept the server from some connections is what is meant, unless an
+-- allocation failed before any of these lines.
+pub record HasClosed (IsMeant : Closed → Result (Unit {0}) ProgramFault → Type 0) (unrecorded counts : Bool) (view : ConfigView) (names : List (List ℕ)) (old new : Option (List ℕ))
     (ended : Result (Unit {0}) ProgramFault) : Type 0 where
   pub between : Option (List ℕ)
   pub listened : HasListened old between (Ok tt)
@@ -123,14 +125,16 @@ pub record HasClosed (IsMeant : Closed → Type 0) (unrecorded counts : Bool) (v
   pub opened : IsClosed view closed
   pub behind : Option (List ℕ)
   pub told : Result (Unit {0}) ProgramFault
-  pub meant : IsMeant closed ⊎ ((told ≡ Err OutOfMemory) × Keeps between behind)
+  pub before : Result (Unit {0}) ProgramFault
+  pub may_be : IsFaultBefore before
+  pub meant : IsMeant closed before ⊎ ((told ≡ Err OutOfMemory) × Keeps between behind)
   pub verdicts : unrecorded ≡ false → view.epoch ≡ 0 → TellsVerdicts closed names between behind told
   pub checks : unrecorded ≡ false → 0 < view.epoch → HasChecked view closed names between behind told
   pub served : IsTrue unrecorded → TellsServed (length view.limits) names between behind told
   pub came : Result (Unit {0}) ProgramFault
   pub amounts : ComesBehind (not unrecorded && is_told told && counts)
       (TellsAmounts (nat_eq view.epoch 0) closed names) behind new told came
-  pub ends : EndsAfter came ended
+  pub ends : ended ≡ greater_fault before came
 
 -- What a server of such a store wrote that ended so, whether it served so many connections or stayed until its input
 -- ended: its port and all verdicts, which are all yes where it ended well, and not all where it ended with Settle; one that
@@ -138,7 +142,7 @@ pub record HasClosed (IsMeant : Closed → Type 0) (unrecorded counts : Bool) (v
 -- Where an allocation failed, it told its port at most, or its port and some verdicts: all, where it was refused to a
 -- connection alone. Where a device failed, it told a beginning of the line of its port, or its port and the verdicts:
 -- all, unless that device was the one that takes them. It ends in no other way.
-abbrev pub HasServedOf : (Closed → Type 0) → Bool → Bool → ConfigView → List (List ℕ) → Option (List ℕ) → Option (List ℕ)
+abbrev pub HasServedOf : (Closed → Result (Unit {0}) ProgramFault → Type 0) → Bool → Bool → ConfigView → List (List ℕ) → Option (List ℕ) → Option (List ℕ)
     → Result (Unit {0}) ProgramFault → Type 0
 HasServedOf IsMeant unrecorded counts view names old new (Ok done) = HasClosed IsMeant unrecorded counts view names old new (Ok done)
 HasServedOf IsMeant unrecorded counts view names old new (Err fault) =
@@ -147,13 +151,15 @@ HasServedOf IsMeant unrecorded counts view names old new (Err fault) =
 -- the same of some store that was closed
 abbrev pub HasServed : Bool → Bool → ConfigView → List (List ℕ) → Option (List ℕ) → Option (List ℕ)
     → Result (Unit {0}) ProgramFault → Type 0
-HasServed unrecorded counts view names old new ended = HasServedOf (λ closed. Unit {0}) unrecorded counts view names old new ended
+HasServed unrecorded counts view names old new ended = HasServedOf (λ closed before. Unit {0}) unrecorded counts view names old new ended
 
--- what was left, as it is returned, is of the store that was closed: all of it, or, where journals are cut, what was left of them
-abbrev pub IsLeftIn : {J : Type 0} → Option (StoreLeft J) → Closed → Type 0
-IsLeftIn None closed = ⊥
-IsLeftIn (Some (Whole its)) closed = its ≡ closed
-IsLeftIn (Some (Endings endings)) closed = AreLeft closed.journals.items endings.rows.items
+-- What was left, as it is returned, is of the store that was closed: all of it, or, where journals are cut, what was left of them. What kept
+-- the server from some connections is what is returned too.
+abbrev pub IsLeftIn : {J : Type 0} → Option (StoreLeft J) → Closed → Result (Unit {0}) ProgramFault → Type 0
+IsLeftIn None closed before = ⊥
+IsLeftIn (Some (Whole its faults)) closed before = (its ≡ closed) × (before ≡ fault_before faults)
+IsLeftIn (Some (Endings endings faults)) closed before =
+    AreLeft closed.journals.items endings.rows.items × (before ≡ fault_before faults)
 
 -- A store of so many partitions and a tenant of these limits for each name. As many calls may wait at a partition, and
 -- it is collected after so many. It keeps journals, and one is cut after so many events, or never.

@@ -1,11 +1,11 @@
 //! A server: sessions over TCP, and the verdicts over the store that they left.
-ghost use Rattle.std.specs.Prelude.{◌≡◌, ◌<◌, ◌≤◌, ◌⊎◌, ◌&&◌, cond, false, length, not, slice_get, true, Ok, Err, IfOk, IfErr, Some, string_bytes};
+ghost use Rattle.std.specs.Prelude.{◌≡◌, ◌<◌, ◌≤◌, ◌⊎◌, ◌&&◌, false, length, not, slice_get, true, Ok, Err, IfOk, IfErr, Some, string_bytes};
 ghost use Rattle.line_runs.specs.declared.fault.ProgramFault.TheVariants.{Device, OutOfMemory as NoMemory};
 ghost use Rattle.hub.specs.Hubs.{config_view, view_with};
 ghost use Rattle.load.specs.Stores.{DoneOrRefused};
 ghost use Rattle.workload.specs.Amounts.{judged_line};
 ghost use Rattle.workload.specs.TenantLines.{TellsLines};
-ghost use Rattle.workload.specs.Serving.{ComesBehind, HasServedOf, IsAskedFor, IsFaultBefore, IsLeftIn, ServesAndTells, TellsOfPort, TellsPortFirst, TellsPortFor, greater_fault, is_told, listening_line};
+ghost use Rattle.workload.specs.Serving.{ComesBehind, HasServedOf, IsAskedFor, IsFaultBefore, IsLeftIn, ServesAndTells, TellsOfPort, TellsPortFirst, TellsPortFor, fault_before, greater_fault, is_told, listening_line};
 ghost use Rattle.server_sessions.specs.Ports.{IsServerOf, listener_of, most_of, options_of, port_of, stays_of, tenants_of};
 
 use crate::judged_lines::{Amount, amounts_asked, tell_judged};
@@ -15,7 +15,9 @@ use hub::{Config, HubFault, Named, Naming, NewStore};
 use line_protocol::Name;
 use line_runs::{ProgramFault, write_text};
 use load::{NamedClosed, NamedEndings, close_store, open_hub};
-use server_sessions::{Left, Listener, Open, OpenHub, Server, SessionOptions, serve_connections};
+use server_sessions::{
+    Left, Listener, Open, OpenHub, Server, ServerFaults, SessionOptions, serve_connections,
+};
 use server_status::{StatusPort, Watched, serve_and_report};
 use server_verdicts::{Checking, Known, tell_checks, tell_verdicts};
 use std::alloc::{AllocError, Global};
@@ -54,10 +56,10 @@ where
 /// What the store of a name left. There is one such store, since a hub is opened with its history.
 #[derive(Drop)]
 pub enum StoreLeft<J: Naming> {
-    /// All that it left.
-    Whole(NamedClosed<J>),
-    /// What it left of its journals, where they are cut, with what is known of each.
-    Endings(NamedEndings<J>),
+    /// All that it left, and what kept its server from some connections.
+    Whole(NamedClosed<J>, ServerFaults),
+    /// What it left of its journals, where they are cut, with what is known of each; and what kept its server from some connections.
+    Endings(NamedEndings<J>, ServerFaults),
 }
 
 /// The port that reports how a server stands, if it has one, and what is known of the journals, where epochs are checked.
@@ -176,7 +178,8 @@ fn serve_named<
 
 impl<J: Naming + Send + Sync + Drop + 'static> StoreServer<'_, J> {
     /// Opens the store, has its server write the port and serve it, closes it, and writes the last lines, all as `run_server`. These are
-    /// of what the store of this name left, which is returned, unless an allocation failed before them. Whoever connects to this
+    /// of what the store of this name left, which is returned, unless an allocation failed before them, and with it what kept the server
+    /// from some connections: a fault of these is reported, unless the lines came to a greater one. Whoever connects to this
     /// server is served by that store: only a hub in its name serves the server's connections.
     pub fn serve<
         H: Threads + Wait + Clock + Clone + Send + Sync + Drop + 'static,
@@ -305,7 +308,7 @@ fn serve_and_settle<
     let before = fault_of(&left, names, options);
     let (left_here, _seen) = close_store(rt, hub, left.kept);
     told?;
-    if left.has_lost {
+    if left.faults.has_lost() {
         return Err(ProgramFault::OutOfMemory);
     }
     let closed = left_here.closed();
@@ -320,7 +323,7 @@ fn serve_and_settle<
         names,
         writer,
     );
-    *its = Some(StoreLeft::Whole(left_here));
+    *its = Some(StoreLeft::Whole(left_here, left.faults));
     ended_after(before, ended)
 }
 
@@ -376,7 +379,7 @@ fn serve_and_check<
         names,
         writer,
     );
-    *its = Some(StoreLeft::Endings(endings));
+    *its = Some(StoreLeft::Endings(endings, left.faults));
     ended_after(before, ended)
 }
 
@@ -420,7 +423,7 @@ fn serve_unrecorded<
     told?;
     let tenants = left_here.closed().config.limits.len();
     let ended = tell_served(alloc, &answers, tenants, names, writer);
-    *its = Some(StoreLeft::Whole(left_here));
+    *its = Some(StoreLeft::Whole(left_here, left.faults));
     ended_after(before, ended)
 }
 
@@ -432,13 +435,12 @@ fn fault_of<G: Naming>(
 ) -> Result<(), ProgramFault>
     requires asked { IsAskedFor _names.now _options left.now.tenants.now left.now.options }
     ensures before { IsFaultBefore result }
-    ensures exact { result
-        ≡ cond left.now.has_refused (Err NoMemory) (cond left.now.has_failed (Err Device) (Ok tt)) }
+    ensures exact { result ≡ fault_before left.now.faults }
 {
-    if left.has_refused {
+    if left.faults.has_refused() {
         return Err(ProgramFault::OutOfMemory);
     }
-    if left.has_failed {
+    if left.faults.has_failed() {
         return Err(ProgramFault::Device);
     }
     Ok(())

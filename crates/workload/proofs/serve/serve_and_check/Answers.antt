@@ -35,9 +35,9 @@ returns g c =
     amounts_behind (is_told told) c.args.given.options.counts false (nat_eq view.epoch 0) closed c.deref.result.now c.args.given.names.now behind new told came (is_cut view.epoch c.requires.cut) (λ asked. subst (AreAmounts closed) (sym c.deref.ensures.value) (subst (λ (its : Closed). AreAmounts its c.in_ok-amounts.amounts.items) c.closed.ensures (c.in_ok-amounts.ensures asked))) c.tell_behind-ended.ensures in
     record {
       served =
-          closed_on (IsLeftIn {J = g.row.J.Denot} (Some (Endings c.in_ok-endings.endings))) c.args.given.options.counts view c.args.given.names.now old between behind new closed told came c.ended_after.result c.in_ok-told.ensures.listened
-          (is_closed view _ closed c.close_store-left_here.ensures.closed (c.in_ok-hub.ensures.done ∙ ap (view_with c.args.given.store.config) (c.args.given.journals ∙ ap not c.requires.recorded))) (inl c.in_ok-endings.ensures.left) (λ kept. absurd (omega (arith, kept, c.requires.cut)))
-          (λ cut. checks) amounts (_, c.fault_of-before.ensures.before, c.ended_after.ensures);
+          closed_on (IsLeftIn {J = g.row.J.Denot} (Some (Endings c.in_ok-endings.endings c.left-left.result.faults))) c.args.given.options.counts view c.args.given.names.now old between behind new closed told came c.fault_of-before.result c.ended_after.result c.in_ok-told.ensures.listened
+          (is_closed view _ closed c.close_store-left_here.ensures.closed (c.in_ok-hub.ensures.done ∙ ap (view_with c.args.given.store.config) (c.args.given.journals ∙ ap not c.requires.recorded))) (inl (c.in_ok-endings.ensures.left, c.fault_of-before.ensures.exact)) (λ kept. absurd (omega (arith, kept, c.requires.cut)))
+          (λ cut. checks) amounts c.fault_of-before.ensures.before c.ended_after.ensures;
       port =
           port_then (port_of (listener_of c.args.given.server)) old between new came c.ended_after.result c.in_ok-told.ensures.port
           (text_behind (is_told told && c.args.given.options.counts) c.args.given.options.counts (nat_eq view.epoch 0) closed c.args.given.names.now between behind new told came refl

@@ -1,4 +1,4 @@
-use Rattle.std.proofs.Common.{◌∙◌, ◌≡◌, ◌&&◌, Some, ap, arith, false, inl, refl, rules, subst, sym, true}
+use Rattle.std.proofs.Common.{◌∙◌, ◌&&◌, Some, ap, arith, false, inl, refl, rules, subst, sym, true}
 use Rattle.std.specs.Prelude.{codes, length, nat_eq, not}
 use Rattle.std.proofs.lemmas.Result.{err_from_is_err_and}
 use Rattle.hub.specs.Hubs.{config_view, view_with}
@@ -28,9 +28,9 @@ returns g c =
     amounts_behind (is_told told) c.args.given.options.counts true (nat_eq view.epoch 0) closed c.deref.result.now c.args.given.names.now behind new told came (is_uncut view.epoch c.requires.kept) (λ asked. subst (AreAmounts closed) (sym c.deref.ensures.value) (subst (λ (its : Closed). AreAmounts its c.in_ok-amounts.amounts.items) c.closed-closed.ensures (c.in_ok-amounts.ensures asked))) c.tell_behind-ended.ensures in
     record {
       served =
-          closed_on (IsLeftIn {J = g.row.J.Denot} (Some (Whole closed))) c.args.given.options.counts view c.args.given.names.now old between behind new closed told came c.ended_after.result c.in_ok-told.ensures.listened
-          (is_closed view _ closed c.close_store-left_here.ensures.closed (c.in_ok-hub.ensures.done ∙ ap (view_with c.args.given.store.config) (c.args.given.journals ∙ ap not c.requires.recorded))) (inl refl) (λ kept. verdicts)
-          (λ cut. absurd (omega (arith, cut, c.requires.kept))) amounts (_, c.fault_of-before.ensures.before, c.ended_after.ensures);
+          closed_on (IsLeftIn {J = g.row.J.Denot} (Some (Whole closed c.left-left.result.faults))) c.args.given.options.counts view c.args.given.names.now old between behind new closed told came c.fault_of-before.result c.ended_after.result c.in_ok-told.ensures.listened
+          (is_closed view _ closed c.close_store-left_here.ensures.closed (c.in_ok-hub.ensures.done ∙ ap (view_with c.args.given.store.config) (c.args.given.journals ∙ ap not c.requires.recorded))) (inl (refl, c.fault_of-before.ensures.exact)) (λ kept. verdicts)
+          (λ cut. absurd (omega (arith, cut, c.requires.kept))) amounts c.fault_of-before.ensures.before c.ended_after.ensures;
       port =
           port_then (port_of (listener_of c.args.given.server)) old between new came c.ended_after.result c.in_ok-told.ensures.port
           (text_behind (is_told told && c.args.given.options.counts) c.args.given.options.counts (nat_eq view.epoch 0) closed c.args.given.names.now between behind new told came refl
@@ -38,8 +38,8 @@ returns g c =
           (_, c.fault_of-before.ensures.before, c.ended_after.ensures);
     }
 
-pub returns-then-left : goal.returns-then-left
-returns-then-left g c = record {
+pub returns-then-has_lost : goal.returns-then-has_lost
+returns-then-has_lost g c = record {
   served =
       no_transcript _ c.args.given.options.counts (config_view c.args.given.store.config) c.args.given.names.now (g.W.Write.contents c.args.writer.now) (g.W.Write.contents c.serve_all-told.new.writer) c.close_store-left_here.result.0 c.in_ok-told.ensures.listened
       (is_closed (config_view c.args.given.store.config) _ c.close_store-left_here.result.0 c.close_store-left_here.ensures.closed (c.in_ok-hub.ensures.done ∙ ap (view_with c.args.given.store.config) (c.args.given.journals ∙ ap not c.requires.recorded))) c.requires.kept;

@@ -1,4 +1,4 @@
-use Rattle.std.proofs.Common.{◌∙◌, ◌≡◌, Some, ap, inl, refl, rules, subst, false, true}
+use Rattle.std.proofs.Common.{◌∙◌, Some, ap, inl, refl, rules, subst, false, true}
 use Rattle.std.proofs.lemmas.Result.{err_from_is_err_and}
 use Rattle.std.specs.Prelude.{length, not, vec_len}
 use Rattle.closed_store.specs.declared.closed.Closed.{Closed}
@@ -20,8 +20,8 @@ returns g c =
     subst (λ n. TellsServed n c.args.given.names.now between new c.tell_served-ended.result) (c.len-tenants.ensures ∙ ap (λ (its : Closed). vec_len its.config.limits) c.closed.ensures ∙ c.close_store-left_here.result.0.config.limits.ok.0 ∙ ap (λ (v : ConfigView). length v.limits) c.close_store-left_here.ensures.closed.config ∙ ap (λ (v : ConfigView). length v.limits) opened) c.tell_served-ended.ensures in
     record {
       served =
-          closed_unrecorded (IsLeftIn {J = g.row.J.Denot} (Some (Whole c.close_store-left_here.result.0))) c.args.given.options.counts (view_with c.args.given.store.config false) c.args.given.names.now (g.W.Write.contents c.args.writer.now) between new c.close_store-left_here.result.0 c.tell_served-ended.result c.ended_after.result
-          c.in_ok-told.ensures.listened (is_closed (view_with c.args.given.store.config false) _ c.close_store-left_here.result.0 c.close_store-left_here.ensures.closed opened) (inl refl) served (_, c.fault_of-before.ensures.before, c.ended_after.ensures);
+          closed_unrecorded (IsLeftIn {J = g.row.J.Denot} (Some (Whole c.close_store-left_here.result.0 c.left_and_answers-left.result.0.faults))) c.args.given.options.counts (view_with c.args.given.store.config false) c.args.given.names.now (g.W.Write.contents c.args.writer.now) between new c.close_store-left_here.result.0 c.tell_served-ended.result c.fault_of-before.result c.ended_after.result
+          c.in_ok-told.ensures.listened (is_closed (view_with c.args.given.store.config false) _ c.close_store-left_here.result.0 c.close_store-left_here.ensures.closed opened) (inl (refl, c.fault_of-before.ensures.exact)) served c.fault_of-before.ensures.before c.ended_after.ensures;
       port =
           port_then (port_of (listener_of c.args.given.server)) (g.W.Write.contents c.args.writer.now) between new c.tell_served-ended.result c.ended_after.result c.in_ok-told.ensures.port
           (served_text (length (view_with c.args.given.store.config false).limits) c.args.given.names.now between new c.tell_served-ended.result served) (_, c.fault_of-before.ensures.before, c.ended_after.ensures);
