@@ -1,5 +1,5 @@
 //! The versions of a cell, in the chains of its items.
-ghost use Rattle.std.specs.Prelude.{◌≡◌, ◌≢◌, ◌+◌, ◌<◌, ◌≤◌, ◌==◌, ◌^◌, ℕ, List, ◌++◌, All, length, None, map, filter, count_by, nat_le, slice_set, IsTrue, true, IfOk};
+ghost use Rattle.std.specs.Prelude.{◌≡◌, ◌+◌, ◌<◌, ◌≤◌, ◌==◌, ◌^◌, List, ◌++◌, length, None, map, filter, count_by, nat_le, slice_set, IfOk};
 ghost use Rattle.prepare_commit.specs.declared.items.ChainedItem.{ChainedItem};
 ghost use Rattle.version_chain.specs.Chain.{HoldsChains, at_stamp, first_record, without_open};
 ghost use Rattle.version_chain.specs.Changes.{HasChain, IsRunOf};
@@ -7,15 +7,14 @@ ghost use Rattle.version_chain.specs.Heads.{no_versions};
 ghost use Rattle.version_chain.specs.Listed.{with_kept, Lists, IsSweptAt};
 ghost use Rattle.plain_store.specs.Stamps.{kth_greatest};
 ghost use Rattle.prepare_commit.specs.Calls.{lists_of, versions_at, ChangesVersions, HaveShare, NotesChanged};
-ghost use Rattle.prepare_commit.specs.Content.{IsLatest};
 ghost use Rattle.prepare_commit.specs.InBlock.{AreIn};
 ghost use Rattle.prepare_commit.specs.Begun.{IsNotedAt};
-ghost use Rattle.prepare_commit.specs.Layout.{held_in, chain_lists, together, item_chains, committed_of, committed_version, IsVersionOf, InsertGives, IsPutIn, HaveAll};
+ghost use Rattle.prepare_commit.specs.Layout.{held_in, chain_lists, together, item_chains, committed_of, IsPutIn, HaveAll};
 
 use crate::changed::ChangedChains;
-use stamps::{Keep, Record, Stamp, Visits};
+use stamps::{Keep, Stamp, Visits};
 use std::alloc::{AllocError, Global};
-use version_chain::{Block, Chains, Insert, StoredRecord, Version, VersionList};
+use version_chain::{Block, Chains, StoredRecord, Version, VersionList};
 
 /// Numbered chains of versions, in a block that the caller passes to each call. Contracts see the versions of each chain in the
 /// block, how many versions there are, and how many there may be.

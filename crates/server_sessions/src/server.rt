@@ -318,9 +318,10 @@ impl<L, G: Naming, N: Tenants> Server<L, G, N> {
         self.tenants.names()
     }
 
-    /// The connection at this place, whose stream was answered, is served no longer. The session that answered it was run for this server: by the names of
-    /// its tenants and with its options, and its answers were counted here. Each reply in its transcript has its place in what was
-    /// seen. The connection is closed, if nobody else has it, before another gets its place.
+    /// The connection at this place, whose stream was answered, is served no longer. The session that answered it was
+    /// run for this server: by the names of its tenants and with its options, and its answers were counted here. Each
+    /// reply in its transcript has its place in what was seen. The connection is closed, if nobody else has it, before
+    /// another gets its place.
     pub(crate) fn leave<R: Wait>(
         &self,
         rt: &R,

@@ -116,8 +116,9 @@ fn accept_all<
     );
 }
 
-// Answers one connection's lines, by this server's names and options alone: only behind an answered stream a connection leaves, and
-// each stream is answered once. Its seat has ended before the stream is closed, so that its client may connect again at once.
+// Answers one connection's lines, by this server's names and options alone: a connection leaves only once its stream was
+// answered, and each stream is answered once. Its seat has ended before the stream is closed, so that its client may
+// connect again at once.
 fn serve_connection<J: Naming, H: Wait + Clock, L, N: Tenants>(
     rt: &H,
     alloc: Global,

@@ -56,8 +56,8 @@ impl PeerStream for Side {
     }
 }
 
-/// A connection's stream, of which nothing was read, and to which nothing was written. Who has one can only have it answered, and that
-/// once.
+/// A connection's stream, of which nothing was read, and to which nothing was written. Who has one can only have it
+/// answered, and that once.
 #[derive(Drop)]
 pub(crate) struct Unanswered<R, W> {
     reader: R,
@@ -91,8 +91,9 @@ pub(crate) fn shared(
 }
 
 impl<R: PeerStream + Read, W: PeerStream + Write> Unanswered<R, W> {
-    /// Answers the lines of this stream by this store, the names of the server's tenants and the server's options. All that was written
-    /// to it are the answers to what it gave, byte by byte. Its seat has ended then, so that its client may connect again at once.
+    /// Answers the lines of this stream by this store, the names of the server's tenants and the server's options. All
+    /// that was written to it are the answers to what it gave, byte by byte. Its seat has ended then, so that its client
+    /// may connect again at once.
     pub(crate) fn answer<'s, J: Naming, H: Wait + Clock, L, N: Tenants>(
         self,
         rt: &H,

@@ -58,7 +58,8 @@ where
 pub enum StoreLeft<J: Naming> {
     /// All that it left, and what kept its server from some connections.
     Whole(NamedClosed<J>, ServerFaults),
-    /// What it left of its journals, where they are cut, with what is known of each; and what kept its server from some connections.
+    /// What it left of its journals, where they are cut, with what is known of each; and what kept its server from some
+    /// connections.
     Endings(NamedEndings<J>, ServerFaults),
 }
 
@@ -177,10 +178,11 @@ fn serve_named<
 }
 
 impl<J: Naming + Send + Sync + Drop + 'static> StoreServer<'_, J> {
-    /// Opens the store, has its server write the port and serve it, closes it, and writes the last lines, all as `run_server`. These are
-    /// of what the store of this name left, which is returned, unless an allocation failed before them, and with it what kept the server
-    /// from some connections: a fault of these is reported, unless the lines came to a greater one. Whoever connects to this
-    /// server is served by that store: only a hub in its name serves the server's connections.
+    /// Opens the store, has its server write the port and serve it, closes it, and writes the last lines, all as
+    /// `run_server`. These are of what the store of this name left, which is returned, unless an allocation failed before
+    /// them, and with it what kept the server from some connections: a fault of these is reported, unless the lines came
+    /// to a greater one. Whoever connects to this server is served by that store: only a hub in its name serves the
+    /// server's connections.
     pub fn serve<
         H: Threads + Wait + Clock + Clone + Send + Sync + Drop + 'static,
         R: Read,
