@@ -106,9 +106,7 @@ impl<'s, G: Gate + Naming, C: JournalChecks> Watched<'s, G, C> {
         ensures later { IsPrefix seen.old seen.new }
     {
         let mut usages = Vec::new(alloc);
-        if !self.hub.status(rt, partition, &mut usages, seen)?
-            || usages.len() != self.hub.limits().len()
-        {
+        if !self.hub.status(rt, partition, &mut usages, seen)? {
             return Ok(false);
         }
         // Behind the epochs that were cut, since a read of the checks waits: meanwhile more are cut, of which none seems to wait.
