@@ -1,7 +1,7 @@
 -- What the parts of an arena have of a live cell, and of the first free one.
 use Rattle.std.proofs.Common.{◌≡◌, ℕ, zero, suc, ◌<◌, List, map, length, get_or, Option, Some, None, is_some, IsSome, IsNone, nat_lt, if◌then◌else◌, ◌⊎◌, inl, inr, true, false, true≢false, refl, sym, ap, subst, ◌∙◌, arith}
-use Rattle.version_arena.specs.declared.cell_state.CellState.{CellState}
-use Rattle.version_arena.specs.declared.cell_state.CellState.TheVariants as state
+use Rattle.version_arena.specs.CellState.{CellState}
+use Rattle.version_arena.specs.CellState as state
 use Rattle.version_arena.specs.Cells.{ArenaCell, Free, Live, held_in, is_live, places, IsThreaded, IsFreeList}
 use Rattle.version_arena.proofs.Places.{length-places, live_at, free_at, empty_at}
 use Rattle.version_arena.proofs.Threading.{held_at, live_within, below_used, within_row, slot_here}

@@ -1,7 +1,7 @@
 -- The cells of an arena, of which each has a value or none, and a state once it was used.
 use Rattle.std.proofs.Common.{◌≡◌, ℕ, zero, suc, ◌<◌, ◌≤◌, List, [], ◌∷◌, ◌++◌, length, get_or, set, replicate, Option, Some, None, refl, ap, arith}
-use Rattle.version_arena.specs.declared.cell_state.CellState.{CellState}
-use Rattle.version_arena.specs.declared.cell_state.CellState.TheVariants as state
+use Rattle.version_arena.specs.CellState.{CellState}
+use Rattle.version_arena.specs.CellState as state
 use Rattle.version_arena.specs.Cells.{Free, Live, cell_of, unused, places}
 
 module _ {T : Type 0} where

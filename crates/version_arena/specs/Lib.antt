@@ -2,7 +2,10 @@ pub mod Arena
 pub mod Block
 pub mod BlockLends
 pub mod Cells
+pub mod CellState
 pub mod Lends
+pub mod NumberLaws
+pub mod Numbers
 pub mod Ownership
 pub mod RawCells
 pub mod RawCellsLends

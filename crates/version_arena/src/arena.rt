@@ -111,11 +111,11 @@ impl<T> Arena<T> {
         self.values.put(slot.index(), value);
         self.live += 1;
         if self.free.is_none() {
-            self.states.push_reserved(CellState::Live { next });
+            self.states.push_reserved(CellState::live(next));
             return Ok(slot);
         }
         self.free = self.states[slot.index()].next();
-        self.states[slot.index()] = CellState::Live { next };
+        self.states[slot.index()] = CellState::live(next);
         Ok(slot)
     }
 
@@ -126,7 +126,7 @@ impl<T> Arena<T> {
         ensures freed { self.new ≡ slice_set self.old slot None }
     {
         let value = self.values.take(slot.index());
-        self.states[slot.index()] = CellState::Free { next: self.free };
+        self.states[slot.index()] = CellState::free(self.free);
         self.free = Some(slot);
         self.live -= 1;
         value
@@ -162,7 +162,7 @@ impl<T> Arena<T> {
         requires { IsLive self.old slot }
         ensures { self.new ≡ slice_set self.old slot (with_next (entry self.old slot) after) }
     {
-        self.states[slot.index()] = CellState::Live { next: after };
+        self.states[slot.index()] = CellState::live(after);
     }
 }
 
@@ -185,6 +185,7 @@ impl<T: Drop> Drop for Arena<T> {
 
 // The cell that the next value comes into: the one that was freed last, or else the one behind those that were ever used.
 fn first_free(free: Option<Slot>, used: u32, cap: u32) -> Option<Slot>
+    requires { cap ≤ 4194304 }
     ensures freed { IsSome free → result ≡ free }
     ensures unused { IsNone free → result ≡ (if nat_lt used cap then Some used else None) }
 {

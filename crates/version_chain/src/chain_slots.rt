@@ -3,13 +3,13 @@ ghost use Rattle.std.specs.Prelude.{◌≡◌, ◌<◌, length, replicate, slice
 
 use std::alloc::{AllocError, Global};
 use std::marker::Model;
-use version_arena::Slot;
+use version_arena::{OptionSlot, Slot};
 
-// Both slots of a chain, which lie side by side, since a write reads both.
+// Both slots of a chain, in 8 bytes. They lie side by side, since a write reads both.
 #[derive(Clone, Copy)]
 struct ChainSlot {
-    head: Option<Slot>,
-    latest: Option<Slot>,
+    head: OptionSlot,
+    latest: OptionSlot,
 }
 
 /// For each chain the slots of its first and of its latest committed version. Contracts see two lists.
@@ -42,8 +42,8 @@ impl ChainSlots {
         let mut slots = Vec::with_capacity(alloc, chains as usize)?;
         for _chain in 0..chains {
             slots.push_reserved(ChainSlot {
-                head: None,
-                latest: None,
+                head: OptionSlot::new(None),
+                latest: OptionSlot::new(None),
             });
         }
         Ok(ChainSlots { slots })
@@ -54,7 +54,7 @@ impl ChainSlots {
         requires { chain < length self.now.heads }
         ensures { result ≡ slice_index_or self.now.heads chain None }
     {
-        self.slots[chain as usize].head
+        self.slots[chain as usize].head.get()
     }
 
     /// The slot of a chain's latest committed version.
@@ -62,7 +62,7 @@ impl ChainSlots {
         requires { chain < length self.now.latest }
         ensures { result ≡ slice_index_or self.now.latest chain None }
     {
-        self.slots[chain as usize].latest
+        self.slots[chain as usize].latest.get()
     }
 
     /// Writes the slot of a chain's first version.
@@ -71,7 +71,7 @@ impl ChainSlots {
         ensures { self.new
             ≡ record { heads = slice_set self.old.heads chain head; latest = self.old.latest } }
     {
-        self.slots[chain as usize].head = head;
+        self.slots[chain as usize].head = OptionSlot::new(head);
     }
 
     /// Writes the slot of a chain's latest committed version.
@@ -80,6 +80,6 @@ impl ChainSlots {
         ensures { self.new
             ≡ record { heads = self.old.heads; latest = slice_set self.old.latest chain latest } }
     {
-        self.slots[chain as usize].latest = latest;
+        self.slots[chain as usize].latest = OptionSlot::new(latest);
     }
 }

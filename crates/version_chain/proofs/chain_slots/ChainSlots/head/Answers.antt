@@ -1,4 +1,4 @@
-use Rattle.std.proofs.Common.{◌<◌, length, ap, arith}
+use Rattle.std.proofs.Common.{◌<◌, length, ap, ◌∙◌, arith}
 use Rattle.std.proofs.lemmas.List.{length-map}
 use Rattle.version_chain.specs.ChainSlots.{SlotLists}
 use Rattle.version_chain.specs.declared.chain_slots.ChainSlot.{ChainSlot}
@@ -12,4 +12,4 @@ pub returns : goal.returns
 returns c =
     let xs = c.self.inside.slots.items in
     let known : c.args.chain < length xs = omega (arith, c.requires, ap (λ (l : SlotLists). length l.heads) c.self.view_is, length-map xs (λ (s : ChainSlot). s.head)) in
-    rw (← c.self.view_is) (head_is xs c.args.chain c.index.result.now known c.index.ensures)
+    rw (← c.self.view_is) (c.get.ensures ∙ head_is xs c.args.chain c.index.result.now known c.index.ensures)

@@ -15,4 +15,4 @@ returns c =
     let known : c.args.chain < length xs = omega (arith, c.requires, ap (λ (l : SlotLists). length l.heads) c.self.view_is, length-map xs (λ (s : ChainSlot). s.head)) in
     let heads = map-set (λ (s : ChainSlot). s.head) xs c.args.chain (record { head = c.args.head; latest = old.latest }) in
     let latest = latest_stays xs c.args.chain old known c.index_mut.ensures.value c.args.head in
-    rw (← c.self.view_is) (λ i. record { heads = heads i; latest = latest i })
+    rw (← c.self.view_is, c.new.ensures) (λ i. record { heads = heads i; latest = latest i })

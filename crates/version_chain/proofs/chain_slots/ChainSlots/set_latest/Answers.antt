@@ -15,4 +15,4 @@ returns c =
     let known : c.args.chain < length xs = omega (arith, c.requires, ap (λ (l : SlotLists). length l.latest) c.self.view_is, length-map xs (λ (s : ChainSlot). s.latest)) in
     let heads = heads_stay xs c.args.chain old known c.index_mut.ensures.value c.args.latest in
     let latest = map-set (λ (s : ChainSlot). s.latest) xs c.args.chain (record { head = old.head; latest = c.args.latest }) in
-    rw (← c.self.view_is) (λ i. record { heads = heads i; latest = latest i })
+    rw (← c.self.view_is, c.new.ensures) (λ i. record { heads = heads i; latest = latest i })
