@@ -1,19 +1,19 @@
 //! Entries of bytes, packed one behind the other.
 ghost use Rattle.std.specs.Prelude.{◌≡◌, ℕ, ◌+◌, ◌<◌, ◌≤◌, ◌^◌, ◌++◌, ◌∷◌, ◌↔◌, [], length, Some, IsTrue, slice_get, take, drop, IfOk, OnOk, OnErr, vec_len, vec_capacity};
+ghost use Rattle.std.specs.Int.{w64, to_le_bytes};
 ghost use Rattle.packed.specs.Cuts.{IsCut, pieces, start_of};
-ghost use Rattle.packed.specs.Packing.{packed_record, IsStoreRecord};
-ghost use Rattle.packed.specs.Sizes.{max_record_bytes};
+ghost use Rattle.packed.specs.Sizes.{stamp_bytes};
 
-use crate::sizes::MAX_RECORD_BYTES;
-use crate::value_encoding::put_record;
+use crate::sizes::STAMP_BYTES;
+use crate::value_encoding::put_stamp;
 use crate::{Buffer, PackEntry};
-use stamps::Record;
+use stamps::Stamp;
 use std::alloc::{AllocError, Global};
 use std::marker::Model;
 use std::mem;
 
-/// The most bytes that a byte and a packed record take.
-const MAX_MARKED_BYTES: usize = 1 + MAX_RECORD_BYTES;
+/// How many bytes a byte and a stamp take.
+const HEAD_BYTES: usize = 1 + STAMP_BYTES;
 
 /// Entries of bytes, packed one behind the other. Contracts see the list of them, and how many more entries and bytes it
 /// has room for: memory is asked for only where that is not enough.
@@ -128,27 +128,25 @@ impl PackedList {
         Ok(())
     }
 
-    /// Puts an entry at the end that is a byte and then a packed record, without a copy of either. It takes up to
-    /// `1 + MAX_RECORD_BYTES`. At `Err` the entries are as they were.
-    pub fn push_record(&mut self, mark: u8, version: &Record) -> Result<(), AllocError>
+    /// Puts an entry at the end that is a byte, a stamp, and then these bytes. At `Err` the entries are as they were.
+    pub fn push_stamped(&mut self, mark: u8, stamp: Stamp, rest: &[u8]) -> Result<(), AllocError>
         ensures ok { OnOk result (self.new.items ≡ self.old.items
-            ++ (mark ∷ packed_record version.now) ∷ []) }
-        ensures stored { OnOk result (IsStoreRecord version.now) }
+            ++ (mark ∷ to_le_bytes w64 stamp ++ rest.now) ∷ []) }
         ensures err { OnErr result (self.new.items ≡ self.old.items) }
     {
-        self.reserve(1, MAX_MARKED_BYTES)?;
-        self.push_record_reserved(mark, version);
+        self.reserve(1, HEAD_BYTES + rest.len())?;
+        self.push_stamped_reserved(mark, stamp, rest);
         Ok(())
     }
 
     // Puts such an entry at the end, for which there is room.
-    fn push_record_reserved(&mut self, mark: u8, version: &Record)
+    fn push_stamped_reserved(&mut self, mark: u8, stamp: Stamp, rest: &[u8])
         requires place { 0 < self.old.places }
-        requires bytes { 1 + max_record_bytes ≤ self.old.bytes }
-        ensures items { self.new.items ≡ self.old.items ++ (mark ∷ packed_record version.now) ∷ [] }
-        ensures stored { IsStoreRecord version.now }
+        requires bytes { 1 + stamp_bytes + length rest.now ≤ self.old.bytes }
+        ensures { self.new.items ≡ self.old.items
+            ++ (mark ∷ to_le_bytes w64 stamp ++ rest.now) ∷ [] }
     {
-        append_record(&mut self.bytes, &mut self.ends, mark, version);
+        append_stamped(&mut self.bytes, &mut self.ends, mark, stamp, rest);
     }
 
     /// Puts entries of another list, so many from a place on, at the end. The one error is that an allocation failed; some of them
@@ -281,18 +279,20 @@ fn append_packed<E: PackEntry>(bytes: &mut Buffer, ends: &mut Vec<usize>, entry:
     ends.push_reserved(bytes.len());
 }
 
-/// Puts a piece at the end that is a byte and then a packed record, for which there is room.
-fn append_record(bytes: &mut Buffer, ends: &mut Vec<usize>, mark: u8, version: &Record)
+/// Puts a piece at the end that is a byte, a stamp, and then these bytes, for which there is room.
+fn append_stamped(bytes: &mut Buffer, ends: &mut Vec<usize>, mark: u8, stamp: Stamp, rest: &[u8])
     requires cut { IsCut 0 ends.old.items (length bytes.old.items) }
     requires place { vec_len ends.old < vec_capacity ends.old }
-    requires room { length bytes.old.items + (1 + max_record_bytes) ≤ bytes.old.capacity }
+    requires room { length bytes.old.items + (1 + stamp_bytes + length rest.now)
+        ≤ bytes.old.capacity }
     ensures cut { IsCut 0 ends.new.items (length bytes.new.items) }
     ensures items { pieces bytes.new.items 0 ends.new.items
-        ≡ pieces bytes.old.items 0 ends.old.items ++ (mark ∷ packed_record version.now) ∷ [] }
-    ensures stored { IsStoreRecord version.now }
+        ≡ pieces bytes.old.items 0 ends.old.items
+        ++ (mark ∷ to_le_bytes w64 stamp ++ rest.now) ∷ [] }
 {
     bytes.push_reserved(mark);
-    put_record(bytes, version);
+    put_stamp(bytes, stamp);
+    bytes.put_slice(rest);
     ends.push_reserved(bytes.len());
 }
 

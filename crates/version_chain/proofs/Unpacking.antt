@@ -1,31 +1,59 @@
 -- That a packed version is read again, and lists of packed versions.
 use Rattle.std.proofs.Common.{◌≡◌, ℕ, zero, suc, Bool, true, false, List, [], ◌∷◌, ◌++◌, length, take, drop, Some, refl, sym, ap, subst, ◌∙◌, arith}
-use Rattle.std.specs.Prelude.{slice_get, ◌==◌}
+use Rattle.std.specs.Prelude.{slice_get, ◌==◌, IsSome}
 use Rattle.std.specs.Option.{option_map}
-use Rattle.std.proofs.lemmas.List.{append-nil, take-map, drop-map}
+use Rattle.std.specs.Int.{w64, to_le_bytes}
+use Rattle.std.proofs.Math.Seq.{take-length}
+use Rattle.std.proofs.lemmas.List.{take-map, drop-map}
 use Rattle.stamps.specs.Record.{Record}
-use Rattle.packed.specs.Packing.{packed_record, IsStoreRecord}
-use Rattle.packed.specs.Reading.{record_at}
-use Rattle.packed.proofs.Records.{record_again}
+use Rattle.packed.specs.Bodies.{packed_body, record_in, IsPackedBody}
+use Rattle.packed.specs.Packing.{IsStoreRecord}
+use Rattle.packed.specs.Reading.{byte_at, stamp_at}
+use Rattle.packed.proofs.BodyParts.{record_is, found, pair_parts, is_there}
+use Rattle.packed.proofs.Texts.{stamp_again}
 use Rattle.version_chain.specs.declared.version.Version.{Version}
-use Rattle.version_chain.specs.PackedVersions.{mark_of, packed_version, version_at, version_in, IsPackedVersion, ArePackedVersions, versions_in}
+use Rattle.version_chain.specs.PackedVersions.{mark_of, packed_version, version_from, version_at, version_in, IsPackedVersion, ArePackedVersions, versions_in}
 
-record_alone : (r : Record) → IsStoreRecord r → record_at (packed_record r) ≡ Some (r, [])
-record_alone r h = ap record_at (sym (append-nil (packed_record r))) ∙ record_again r [] h
+stamp_there : (r : Record) → IsStoreRecord r → stamp_at (to_le_bytes w64 r.stamp ++ packed_body r) ≡ Some (r.stamp, packed_body r)
+stamp_there r h = stamp_again r.stamp (packed_body r) h.stamp
+
+record_there : (r : Record) → IsStoreRecord r → record_in r.stamp (packed_body r) ≡ r
+record_there r h = record_is r.stamp (packed_body r) (r, h, refl, refl)
 
 mark_again : (committed : Bool) → (mark_of committed == 1) ≡ committed
 mark_again true = refl
 mark_again false = refl
 
-pub version_again : (v : Version) → IsStoreRecord v.prepared → version_at (packed_version v) ≡ Some v
+version_again : (v : Version) → IsStoreRecord v.prepared → version_at (packed_version v) ≡ Some v
 unfolding version_at
-version_again v h = rw (record_alone v.prepared h) (λ i. Some (record { prepared = v.prepared; committed = mark_again v.committed i }))
+version_again v h = rw (stamp_there v.prepared h) (λ i. Some (record { prepared = record_there v.prepared h i; committed = mark_again v.committed i }))
 
 pub version_is : (v : Version) (bytes : List ℕ) → IsStoreRecord v.prepared → bytes ≡ packed_version v → version_in bytes ≡ v
 version_is v bytes h is = rw (is, version_again v h) refl
 
-pub found_again : (bytes : List ℕ) → IsPackedVersion bytes → version_at bytes ≡ Some (version_in bytes)
-found_again bytes h = ap version_at h.1 ∙ version_again (version_in bytes) h.0
+-- what is read of the bytes of a version, one part after the other
+module _ (v : Version) (h : IsStoreRecord v.prepared) (bytes : List ℕ) (is : bytes ≡ packed_version v) (mark : ℕ) (rest : List ℕ) (read : found mark rest ≡ byte_at bytes) where
+  parts : (mark ≡ mark_of v.committed) × (rest ≡ to_le_bytes w64 v.prepared.stamp ++ packed_body v.prepared)
+  parts = pair_parts mark (mark_of v.committed) rest (to_le_bytes w64 v.prepared.stamp ++ packed_body v.prepared) (read ∙ ap byte_at is)
+
+  found_stamp : stamp_at rest ≡ found v.prepared.stamp (packed_body v.prepared)
+  found_stamp = ap stamp_at parts.1 ∙ stamp_there v.prepared h
+
+  pub has_stamp : IsSome (stamp_at rest)
+  has_stamp = is_there found_stamp
+
+  module _ (stamp : ℕ) (body : List ℕ) (then : found stamp body ≡ stamp_at rest) where
+    others : (stamp ≡ v.prepared.stamp) × (body ≡ packed_body v.prepared)
+    others = pair_parts stamp v.prepared.stamp body (packed_body v.prepared) (then ∙ found_stamp)
+
+    pub has_body : IsPackedBody stamp (take (length body) body)
+    has_body = (v.prepared, h, sym others.0, take-length body ∙ others.1)
+
+    pub is_version : (r : Record) (all : Version) → r ≡ record_in stamp (take (length body) body) → all ≡ version_from mark r → all ≡ v
+    unfolding has_body
+    is_version r all own whole =
+        let same : r ≡ v.prepared = own ∙ record_is stamp (take (length body) body) has_body in
+        whole ∙ (λ i. record { prepared = same i; committed = (ap (λ (m : ℕ). m == 1) parts.0 ∙ mark_again v.committed) i })
 
 pub one_more : (pieces : List (List ℕ)) (v : Version) (bytes : List ℕ) → ArePackedVersions pieces → IsStoreRecord v.prepared → bytes ≡ packed_version v → ArePackedVersions (pieces ++ bytes ∷ [])
 one_more [] v bytes all h is =

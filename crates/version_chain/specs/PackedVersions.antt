@@ -1,18 +1,20 @@
 -- How a version is packed, and what is read of it.
-use Rattle.std.specs.Prelude.{◌≡◌, ◌==◌, ℕ, Bool, List, [], ◌∷◌, map, Option, Some, None, if◌then◌else◌}
+use Rattle.std.specs.Prelude.{◌≡◌, ◌==◌, ℕ, Bool, List, [], ◌∷◌, ◌++◌, map, Option, Some, None, if◌then◌else◌}
+use Rattle.std.specs.Int.{w64, to_le_bytes}
 use Rattle.std.specs.List.{AllByRecursion}
 use Rattle.stamps.specs.Record.{Record}
-use Rattle.packed.specs.Packing.{packed_record, IsStoreRecord}
-use Rattle.packed.specs.Reading.{◌>>=◌, byte_at, record_at}
+use Rattle.packed.specs.Bodies.{packed_body, record_in}
+use Rattle.packed.specs.Packing.{IsStoreRecord}
+use Rattle.packed.specs.Reading.{◌>>=◌, byte_at, stamp_at}
 use Rattle.version_chain.specs.declared.version.Version.{Version}
 
 -- the byte of a mark
 abbrev pub mark_of : Bool → ℕ
 mark_of committed = if committed then 1 else 0
 
--- a byte for the mark, and the record
+-- a byte for the mark, the stamp, and the other bytes of the record
 abbrev pub packed_version : Version → List ℕ
-packed_version v = mark_of v.committed ∷ packed_record v.prepared
+packed_version v = mark_of v.committed ∷ to_le_bytes w64 v.prepared.stamp ++ packed_body v.prepared
 
 abbrev pub version_from : ℕ → Record → Version
 version_from mark prepared = record { prepared = prepared; committed = mark == 1 }
@@ -20,8 +22,8 @@ version_from mark prepared = record { prepared = prepared; committed = mark == 1
 unfoldable pub version_at : List ℕ → Option Version
 version_at bytes = do
   mark ← byte_at bytes
-  prepared ← record_at mark.1
-  Some (version_from mark.0 prepared.0)
+  stamp ← stamp_at mark.1
+  Some (version_from mark.0 (record_in stamp.0 stamp.1))
 
 abbrev pub version_or : Version → Option Version → Version
 version_or other None = other

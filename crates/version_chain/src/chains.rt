@@ -572,7 +572,7 @@ impl Chains {
         while let Some(slot) = here {
             let node = block.get(slot);
             here = block.next(slot);
-            list.push(&node.version())?;
+            list.push(&node)?;
         }
         Ok(())
     }

@@ -8,17 +8,17 @@ ghost use Rattle.version_chain.specs.Place.{least_of};
 ghost use Rattle.version_chain.specs.Stored.{stored_node};
 
 use crate::shared_block::Block;
-use crate::version::{Bound, Version};
+use crate::version::Bound;
 use packed::{BODY_ROOM, body_record, front_key, front_tag, unpack_body};
 use stamps::{Key, Record, Stamp, Tag};
 use std::marker::Model;
 use version_arena::Slot;
 
 /// How many bytes a small record has at most, without its stamp. Its buffer is that much less to fill with zeros.
-const SMALL_BYTES: usize = 192;
+pub(crate) const SMALL_BYTES: usize = 192;
 
 /// The room of a buffer for a small record, which is copied in whole pieces.
-const SMALL_ROOM: usize = SMALL_BYTES + 63;
+pub(crate) const SMALL_ROOM: usize = SMALL_BYTES + 63;
 
 /// So many bytes at the front of a record have its key and its tag. Records with short keys and a short value have no more.
 const FRONT_BYTES: usize = 64;
@@ -102,7 +102,7 @@ impl<'b> StoredNode<'b> {
     }
 
     /// How many bytes the record has without its stamp.
-    fn len(&self) -> usize
+    pub(crate) fn len(&self) -> usize
         ensures exact { result ≡ length (packed_body self.now.version.prepared) }
         ensures few { result ≤ max_body_bytes }
     {
@@ -111,7 +111,7 @@ impl<'b> StoredNode<'b> {
     }
 
     /// Copies the record without its stamp to the front of a buffer, which has 63 bytes more, and answers how many bytes these are.
-    fn read(&self, body: &mut [u8]) -> usize
+    pub(crate) fn read(&self, body: &mut [u8]) -> usize
         requires { length (packed_body self.now.version.prepared) + 63 ≤ length body.old }
         ensures within { result ≤ length body.new }
         ensures packed { take result body.new ≡ packed_body self.now.version.prepared }
@@ -233,16 +233,6 @@ impl<'b> StoredNode<'b> {
         let mut body = [0; BODY_ROOM];
         self.read(&mut body);
         body_record(&body, stamp)
-    }
-
-    /// A copy of the version.
-    pub(crate) fn version(&self) -> Version
-        ensures { result ≡ self.now.version }
-    {
-        Version {
-            prepared: self.record(),
-            committed: self.is_committed(),
-        }
     }
 
     /// The version's record, where it lies.

@@ -1,15 +1,18 @@
 //! Versions, packed one behind the other.
-ghost use Rattle.std.specs.Prelude.{◌≡◌, ◌<◌, ◌≤◌, ◌+◌, ◌^◌, ◌++◌, ◌∷◌, ◌↔◌, [], length, Some, IsTrue, slice_get, take, drop, IfOk, OnOk, OnErr};
-ghost use Rattle.version_chain.specs.PackedVersions.{mark_of, version_from, version_at, version_in, IsPackedVersion};
+ghost use Rattle.std.specs.Prelude.{◌≡◌, ◌<◌, ◌≤◌, ◌+◌, ◌^◌, ◌++◌, ◌∷◌, ◌↔◌, [], length, Some, IsSome, IsTrue, slice_get, take, drop, IfOk, OnOk, OnErr};
+ghost use Rattle.packed.specs.Bodies.{packed_body};
+ghost use Rattle.packed.specs.Reading.{byte_at, stamp_at};
+ghost use Rattle.version_chain.specs.PackedVersions.{mark_of, version_from, version_in, IsPackedVersion};
 
+use crate::stored::{SMALL_BYTES, SMALL_ROOM, StoredNode};
 use crate::version::Version;
-use packed::{PackedList, read_byte, read_record};
-use stamps::Record;
+use packed::{BODY_ROOM, PackedList, body_record, read_byte, read_stamp};
+use stamps::{Record, Stamp};
 use std::alloc::{AllocError, Global};
 use std::marker::Model;
 
-/// Versions, packed one behind the other: a byte for the mark, and then the record as few bytes. Contracts see the list of
-/// them.
+/// Versions, packed one behind the other: a byte for the mark, the stamp, and the other bytes of the record as they lie in a block.
+/// Contracts see the list of them.
 #[derive(Drop)]
 pub struct VersionList {
     list: PackedList,
@@ -42,7 +45,7 @@ impl VersionList {
         ensures { IfOk result (λ list. list ≡ []) }
     {
         let mut list = PackedList::new(alloc);
-        list.reserve(versions, versions.saturating_mul(SMALL_BYTES))?;
+        list.reserve(versions, versions.saturating_mul(USUAL_BYTES))?;
         Ok(VersionList { list })
     }
 
@@ -83,13 +86,39 @@ impl VersionList {
         unpacked(self.list.get(at))
     }
 
-    /// Packs a version at the end. The one error is that an allocation failed; the versions are then as they were.
-    pub fn push(&mut self, version: &Version) -> Result<(), AllocError>
-        ensures ok { OnOk result (self.new ≡ self.old ++ version.now ∷ []) }
+    /// Copies a version of a block to the end, byte by byte. The one error is that an allocation failed; the versions are then as they
+    /// were.
+    pub(crate) fn push(&mut self, node: &StoredNode) -> Result<(), AllocError>
+        ensures ok { OnOk result (self.new ≡ self.old ++ node.now.version ∷ []) }
         ensures err { OnErr result (self.new ≡ self.old) }
     {
-        self.list
-            .push_record(mark_of(version.committed), &version.prepared)?;
+        if node.len() <= SMALL_BYTES {
+            let mut bytes = [0; SMALL_ROOM];
+            return self.push_by(node, &mut bytes);
+        }
+        self.push_large(node)
+    }
+
+    // The same of a version that may be as large as any.
+    #[inline(never)]
+    fn push_large(&mut self, node: &StoredNode) -> Result<(), AllocError>
+        ensures ok { OnOk result (self.new ≡ self.old ++ node.now.version ∷ []) }
+        ensures err { OnErr result (self.new ≡ self.old) }
+    {
+        let _short = node.len();
+        let mut bytes = [0; BODY_ROOM];
+        self.push_by(node, &mut bytes)
+    }
+
+    // The same by way of a buffer, which has 63 bytes more than the record without its stamp.
+    fn push_by(&mut self, node: &StoredNode, bytes: &mut [u8]) -> Result<(), AllocError>
+        requires { length (packed_body node.now.version.prepared) + 63 ≤ length bytes.old }
+        ensures ok { OnOk result (self.new ≡ self.old ++ node.now.version ∷ []) }
+        ensures err { OnErr result (self.new ≡ self.old) }
+    {
+        let len = node.read(bytes);
+        let mark = mark_of(node.is_committed());
+        self.list.push_stamped(mark, node.stamp(), &bytes[..len])?;
         Ok(())
     }
 
@@ -126,7 +155,7 @@ impl VersionList {
 }
 
 /// The bytes of a version with a short key and value.
-const SMALL_BYTES: usize = 64;
+const USUAL_BYTES: usize = 64;
 
 fn mark_of(committed: bool) -> u8
     ensures { result ≡ mark_of committed }
@@ -143,21 +172,36 @@ fn version_from(mark: u8, prepared: Record) -> Version
     }
 }
 
-#[tactic(auto, unfolding(crate::specs::PackedVersions::version_at))]
-fn version_at(bytes: &[u8]) -> Option<Version>
-    ensures { result ≡ version_at bytes.now }
-{
-    let (mark, rest) = read_byte(bytes)?;
-    let Some((prepared, _)) = read_record(rest) else {
-        return None;
-    };
-    Some(version_from(mark, prepared))
-}
-
 /// The version of these bytes.
 fn unpacked(bytes: &[u8]) -> Version
     requires { IsPackedVersion bytes.now }
     ensures { result ≡ version_in bytes.now }
 {
-    version_at(bytes).unwrap()
+    let (mark, rest) = front_mark(bytes);
+    let (stamp, body) = front_stamp(rest);
+    version_from(mark, body_record(body, stamp))
+}
+
+/// The byte at the front, and those behind it.
+#[inline(always)]
+fn front_mark(bytes: &[u8]) -> (u8, &[u8])
+    requires { IsSome (byte_at bytes.now) }
+    ensures { Some (result.0, result.1.now) ≡ byte_at bytes.now }
+{
+    match read_byte(bytes) {
+        Some(read) => read,
+        None => unreachable!(),
+    }
+}
+
+/// The stamp at the front, and the bytes behind it.
+#[inline(always)]
+fn front_stamp(bytes: &[u8]) -> (Stamp, &[u8])
+    requires { IsSome (stamp_at bytes.now) }
+    ensures { Some (result.0, result.1.now) ≡ stamp_at bytes.now }
+{
+    match read_stamp(bytes) {
+        Some(read) => read,
+        None => unreachable!(),
+    }
 }

@@ -24,7 +24,7 @@ moved all copies rest later new v was is pushed =
 pub loop-here-preserved : goal.loop-here-preserved
 loop-here-preserved c =
     let read = read_cell _ _ _ _ _ _ (on_cell _ _ _ _ _ _ c.loop-here.invariant.0.chained c.in-Some.is) c.get-node.ensures in
-    rw c.next-here.ensures (step _ _ _ _ _ _ c.loop-here.invariant.0 read, moved _ _ _ _ _ _ c.loop-here.invariant.1 read.is (c.in_ok-push.ensures.ok ∙ ap (λ v. c.loop-here.list ++ v ∷ []) c.version.ensures))
+    rw c.next-here.ensures (step _ _ _ _ _ _ c.loop-here.invariant.0 read, moved _ _ _ _ _ _ c.loop-here.invariant.1 read.is (c.in_ok-push.ensures.ok))
 
 pub returns : goal.returns
 returns c = sym (append-nil c.loop-here.list) ∙ ap (λ rest. c.loop-here.list ++ rest) (sym (at_end _ _ _ _ _ c.loop-here.invariant.0.chained c.in_default.is)) ∙ c.loop-here.invariant.1
