@@ -1,12 +1,12 @@
 -- The rule between a history and the words that count its entries, and what the steps tell.
-use Rattle.std.specs.Prelude.{ℕ, ◌≡◌, ◌≢◌, ◌==◌, ◌+◌, ◌^◌, ◌<◌, ◌≤◌, ◌⊎◌, Bool, true, false, List, [], ◌∷◌, ◌++◌, MatchBool, length}
+use Rattle.std.specs.Prelude.{ℕ, ◌≡◌, ◌≢◌, ◌==◌, ◌+◌, ◌^◌, ◌<◌, ◌≤◌, ◌⊎◌, Bool, true, false, List, [], ◌∷◌, ◌++◌, IsTrue, MatchBool, length}
 use mathlib.Core.List.{IsPrefix}
 use Rattle.logbook.specs.Pages.{Cell, Step, View, Book, Named, cell, nib, may_make}
 use Rattle.plain_store.specs.Words.{◌∈◌}
 use Rattle.history.specs.declared.entry.HistoryEntry.{HistoryEntry}
-use Rattle.history.specs.declared.entry.HistoryEntry.TheVariants.{Opened, Arrived}
-use Rattle.stamps.specs.Limits.{max_tenants}
-use Rattle.history.specs.Entries.{clock_of, own, count}
+use Rattle.history.specs.declared.entry.HistoryEntry.TheVariants.{Opened, Joined, Arrived}
+use Rattle.stamps.specs.Limits.{max_parts, max_tenants}
+use Rattle.history.specs.Entries.{but_last, clock_of, own, count}
 use Rattle.history.specs.Legal.{IsLegal, first_client}
 
 -- the words of the register and of the partitions are there from the start, a client's once it has an entry
@@ -40,6 +40,32 @@ IsAdded k entries e seen now =
 -- the word has other entries than so many
 abbrev pub IsOvertaken : ℕ → ℕ → List HistoryEntry → Type 0
 IsOvertaken k entries now = (count k now ≢ entries) × IsLegal now
+
+-- The word has just so many entries, by what was seen, and fewer than a word can have.
+pub record TakesEntry (k entries : ℕ) (seen : List HistoryEntry) : Type 0 where
+  pub room : entries < 2 ^ 62
+  pub counted : count k seen ≡ entries
+
+-- the word that is had is this one, a client's that has joined: it has an entry
+abbrev pub IsClientWord : ℕ → ℕ → ℕ → Type 0
+IsClientWord k word entries = (k ≡ word) × (max_parts < word) × (0 < entries)
+
+-- Who saw this sees as much and more now: the entry was added where the word had so many, or the word has other entries.
+pub record AddsEntry (did : Bool) (k entries : ℕ) (e : HistoryEntry) (old new : List HistoryEntry) : Type 0 where
+  pub later : IsPrefix old new
+  pub added : MatchBool did (IsAdded k entries e old new) (IsOvertaken k entries new)
+
+-- All that the evidence has is seen, and where an entry was added it stands before that entry.
+pub record HasEvidence (did : Bool) (known seen : List HistoryEntry) : Type 0 where
+  pub evidence : IsPrefix known seen
+  pub behind : IsTrue did → IsPrefix known (but_last seen)
+
+-- A client has come, as the so many-th (from 0) of all: under the next word, whose one entry is its arrival.
+pub record HasNewClient (word nth tenant client : ℕ) (seen : List HistoryEntry) : Type 0 where
+  pub key : word ≡ nth + first_client
+  pub joined : Joined (record { word = word; tenant = tenant; client = client }) ∈ seen
+  pub alone : own word seen ≡ Arrived word ∷ []
+  pub counted : count 0 seen ≡ nth + 1
 
 -- The word takes no entry behind what was seen: it has as many as a word can have, or what was found of the history has more of it.
 abbrev pub TakesNoEntry : ℕ → (seen found : List HistoryEntry) → Type 0

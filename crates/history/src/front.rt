@@ -1,15 +1,15 @@
 //! Beginnings of the history that were seen.
-ghost use Rattle.std.specs.Prelude.{◌≡◌, ◌≢◌, ◌+◌, ◌<◌, ◌≤◌, ◌^◌, [], ◌∷◌, MatchBool, IfNone, IfSome, IsTrue, None, true, false};
+ghost use Rattle.std.specs.Prelude.{◌≡◌, ◌≢◌, ◌+◌, ◌<◌, ◌≤◌, MatchBool, IfNone, IfSome, IsTrue, None, true, false};
 ghost use mathlib.Core.List.{IsPrefix};
 ghost use Rattle.stamps.specs.Limits.{max_parts};
 ghost use Rattle.plain_store.specs.Words.{◌∈◌};
-ghost use Rattle.history.specs.declared.entry.HistoryEntry.TheVariants.{Joined, Arrived, Decided, GivenUp, ReadBegan, Drew, Passed};
+ghost use Rattle.history.specs.declared.entry.HistoryEntry.TheVariants.{Joined, Decided, GivenUp, ReadBegan, Drew, Passed};
 ghost use Rattle.history.specs.declared.entry.JoinedClient.{JoinedClient as WhoJoined};
 ghost use Rattle.history.specs.Asking.{began_by, served_by};
 ghost use Rattle.history.specs.Clock.{IsDrawnBehind, IsOverrun, IsToldAt};
-ghost use Rattle.history.specs.Entries.{but_last, is_of, own, count};
-ghost use Rattle.history.specs.Legal.{first_client, IsLegal, MayFollow, MayBegin, MayDecide, MayEnd, MayServe};
-ghost use Rattle.history.specs.Rules.{IsClockOf, IsHome, IsAdded, IsOvertaken, is_opening};
+ghost use Rattle.history.specs.Entries.{is_of, own, count};
+ghost use Rattle.history.specs.Legal.{IsLegal, MayFollow, MayBegin, MayDecide, MayEnd, MayServe};
+ghost use Rattle.history.specs.Rules.{AddsEntry, HasEvidence, HasNewClient, IsClientWord, IsClockOf, IsHome, IsOvertaken, TakesEntry, is_opening};
 
 use crate::entry::{CallToServe, Decision, Draw, HistoryEntry, JoinedClient, WriteToBegin};
 use crate::rule::{Add, Arrive, GiveUp, Join, Law, Look, Naming, Nothing, Raise};
@@ -106,19 +106,14 @@ impl<J: Naming> Front<J> {
         evidence: &Front<J>,
         about: &X,
     ) -> bool
-        requires room { entries < 2 ^ 62 }
+        requires takes { TakesEntry tally.now.key entries self.old }
         requires home { IsHome tally.now.key self.old }
         requires apart { tally.now.key ≢ 0 }
-        requires counted { count tally.now.key self.old ≡ entries }
         requires its { is_of tally.now.key (M.ask about.now) ≡ true }
         requires plain { M.state about.now ≡ None }
         requires may { ∥ MayFollow self.old evidence.now (M.ask about.now) ∥₁ }
-        ensures later { IsPrefix self.old self.new }
-        ensures evidence { IsPrefix evidence.now self.new }
-        ensures added { MatchBool result
-            (IsAdded tally.now.key entries (M.ask about.now) self.old self.new)
-            (IsOvertaken tally.now.key entries self.new) }
-        ensures behind { IsTrue result → IsPrefix evidence.now (but_last self.new) }
+        ensures adds { AddsEntry result tally.now.key entries (M.ask about.now) self.old self.new }
+        ensures sees { HasEvidence result evidence.now self.new }
     {
         self.seen.learn(&evidence.seen);
         let mut offer: Report = self.seen.plain::<Nothing, X, M>(about);
@@ -144,18 +139,14 @@ impl<J: Naming> Front<J> {
         evidence: &Front<J>,
         asked: &CallToServe<'_>,
     ) -> bool
-        requires room { entries < 2 ^ 62 }
+        requires takes { TakesEntry tally.now.key entries self.old }
         requires partition { (tally.now.key ≡ asked.now.partition + 1)
             × (asked.now.partition < max_parts) }
-        requires counted { count tally.now.key self.old ≡ entries }
-        requires may { ∥ MayServe evidence.now asked.now.partition asked.now.tenant asked.now.call.now ∥₁ }
-        ensures later { IsPrefix self.old self.new }
-        ensures evidence { IsPrefix evidence.now self.new }
-        ensures added { MatchBool result
-            (IsAdded tally.now.key entries (served_by asked.now) self.old self.new)
-            (IsOvertaken tally.now.key entries self.new) }
-        // What stands before the entry has what the evidence has seen.
-        ensures behind { IsTrue result → IsPrefix evidence.now (but_last self.new) }
+        requires may { ∥ MayServe evidence.now asked.now.partition asked.now.tenant
+            asked.now.call.now ∥₁ }
+        ensures adds { AddsEntry result tally.now.key entries (served_by asked.now)
+            self.old self.new }
+        ensures sees { HasEvidence result evidence.now self.new }
     {
         self.add::<CallToServe<'_>, Add>(tally, entries, evidence, asked)
     }
@@ -163,15 +154,11 @@ impl<J: Naming> Front<J> {
     /// Enters that a put of a client began, and says whether it did. It did not where the client has other entries than were seen
     /// here.
     pub fn begin(&mut self, tally: &Tally<J>, entries: u64, begun: &WriteToBegin<'_>) -> bool
-        requires room { entries < 2 ^ 62 }
-        requires client { (tally.now.key ≡ begun.now.word) × (max_parts < begun.now.word)
-            × (0 < entries) }
-        requires counted { count tally.now.key self.old ≡ entries }
+        requires takes { TakesEntry tally.now.key entries self.old }
+        requires client { IsClientWord tally.now.key begun.now.word entries }
         requires may { ∥ MayFollow self.old self.old (began_by begun.now) ∥₁ }
-        ensures later { IsPrefix self.old self.new }
-        ensures added { MatchBool result
-            (IsAdded tally.now.key entries (began_by begun.now) self.old self.new)
-            (IsOvertaken tally.now.key entries self.new) }
+        ensures { AddsEntry result tally.now.key entries (began_by begun.now)
+            self.old self.new }
     {
         let evidence = self.again();
         self.add::<WriteToBegin<'_>, Add>(tally, entries, &evidence, begun)
@@ -186,17 +173,13 @@ impl<J: Naming> Front<J> {
         evidence: &Front<J>,
         decision: &Decision,
     ) -> bool
-        requires room { entries < 2 ^ 62 }
-        requires client { (tally.now.key ≡ decision.now.word) × (max_parts < decision.now.word)
-            × (0 < entries) }
-        requires counted { count tally.now.key self.old ≡ entries }
+        requires takes { TakesEntry tally.now.key entries self.old }
+        requires client { IsClientWord tally.now.key decision.now.word entries }
         requires unended { MayEnd (own decision.now.word self.old) decision.now }
         requires may { ∥ MayDecide evidence.now decision.now ∥₁ }
-        ensures later { IsPrefix self.old self.new }
+        ensures adds { AddsEntry result tally.now.key entries (Decided decision.now)
+            self.old self.new }
         ensures evidence { IsPrefix evidence.now self.new }
-        ensures added { MatchBool result
-            (IsAdded tally.now.key entries (Decided decision.now) self.old self.new)
-            (IsOvertaken tally.now.key entries self.new) }
     {
         self.add::<Decision, Add>(tally, entries, evidence, decision)
     }
@@ -204,15 +187,11 @@ impl<J: Naming> Front<J> {
     /// Enters that a put of a client was refused, and says whether it did. It did not where the client has other entries than were
     /// seen here.
     pub fn give_up(&mut self, tally: &Tally<J>, entries: u64, decision: &Decision) -> bool
-        requires room { entries < 2 ^ 62 }
-        requires client { (tally.now.key ≡ decision.now.word) × (max_parts < decision.now.word)
-            × (0 < entries) }
-        requires counted { count tally.now.key self.old ≡ entries }
+        requires takes { TakesEntry tally.now.key entries self.old }
+        requires client { IsClientWord tally.now.key decision.now.word entries }
         requires unended { MayEnd (own decision.now.word self.old) decision.now }
-        ensures later { IsPrefix self.old self.new }
-        ensures added { MatchBool result
-            (IsAdded tally.now.key entries (GivenUp decision.now) self.old self.new)
-            (IsOvertaken tally.now.key entries self.new) }
+        ensures { AddsEntry result tally.now.key entries (GivenUp decision.now)
+            self.old self.new }
     {
         let evidence = self.again();
         self.add::<Decision, GiveUp>(tally, entries, &evidence, decision)
@@ -227,15 +206,11 @@ impl<J: Naming> Front<J> {
         evidence: &Front<J>,
         word: &u64,
     ) -> bool
-        requires room { entries < 2 ^ 62 }
-        requires client { (tally.now.key ≡ word.now) × (max_parts < word.now) × (0 < entries) }
-        requires counted { count tally.now.key self.old ≡ entries }
-        ensures later { IsPrefix self.old self.new }
-        ensures evidence { IsPrefix evidence.now self.new }
-        ensures added { MatchBool result
-            (IsAdded tally.now.key entries (ReadBegan word.now) self.old self.new)
-            (IsOvertaken tally.now.key entries self.new) }
-        ensures behind { IsTrue result → IsPrefix evidence.now (but_last self.new) }
+        requires takes { TakesEntry tally.now.key entries self.old }
+        requires client { IsClientWord tally.now.key word.now entries }
+        ensures adds { AddsEntry result tally.now.key entries (ReadBegan word.now)
+            self.old self.new }
+        ensures sees { HasEvidence result evidence.now self.new }
     {
         self.add::<u64, Add>(tally, entries, evidence, word)
     }
@@ -243,15 +218,11 @@ impl<J: Naming> Front<J> {
     /// Draws the next counter of a tenant's clock, behind all that the evidence has seen, and says whether it did. It did not where the
     /// clock has other entries than were seen here.
     fn draw(&mut self, clock: &Tally<J>, entries: u64, evidence: &Front<J>, drawn: &Draw) -> bool
-        requires room { entries < 2 ^ 62 }
+        requires takes { TakesEntry clock.now.key entries self.old }
         requires clock { IsClockOf clock.now.key drawn.now.tenant }
-        requires counted { count clock.now.key self.old ≡ entries }
         requires counter { drawn.now.counter ≡ entries + 1 }
-        ensures later { IsPrefix self.old self.new }
+        ensures adds { AddsEntry result clock.now.key entries (Drew drawn.now) self.old self.new }
         ensures evidence { IsPrefix evidence.now self.new }
-        ensures added { MatchBool result
-            (IsAdded clock.now.key entries (Drew drawn.now) self.old self.new)
-            (IsOvertaken clock.now.key entries self.new) }
         ensures drawn { IsTrue result → IsDrawnBehind evidence.now self.new drawn.now }
     {
         self.add::<Draw, Add>(clock, entries, evidence, drawn)
@@ -342,9 +313,8 @@ impl<J: Naming> Front<J> {
     /// Lets a tenant's clock go on by one, behind all that the evidence has seen, and says whether it did. It did not where the clock
     /// has other entries than were seen here.
     fn pass(&mut self, clock: &Tally<J>, entries: u64, evidence: &Front<J>, tenant: &u32) -> bool
-        requires room { entries < 2 ^ 62 }
+        requires takes { TakesEntry clock.now.key entries self.old }
         requires clock { IsClockOf clock.now.key tenant.now }
-        requires counted { count clock.now.key self.old ≡ entries }
         ensures later { IsPrefix self.old self.new }
         ensures told { IsTrue result
             → IsToldAt evidence.now self.new tenant.now (entries + 1) }
@@ -363,19 +333,14 @@ impl<J: Naming> Front<J> {
         tenant: u32,
         client: stamps::Client,
     ) -> Option<Tally<J>>
-        requires room { joined < 2 ^ 62 }
+        requires takes { TakesEntry 0 joined self.old }
         requires register { register.now.key ≡ 0 }
-        requires counted { count 0 self.old ≡ joined }
         requires new { (other : WhoJoined) → Joined other ∈ self.old → other.tenant ≡ tenant
             → other.client ≡ client → ⊥ }
         ensures later { IsPrefix self.old self.new }
         ensures legal { IsLegal self.new }
-        ensures key { IfSome result (λ tally. tally.key ≡ joined + first_client) }
-        ensures joined { IfSome result
-            (λ tally.
-            Joined (record { word = tally.key; tenant = tenant; client = client }) ∈ self.new) }
-        ensures alone { IfSome result (λ tally. own tally.key self.new ≡ Arrived tally.key ∷ []) }
-        ensures counted { IfSome result (λ _. count 0 self.new ≡ joined + 1) }
+        ensures came { IfSome result
+            (λ tally. HasNewClient tally.key joined tenant client self.new) }
     {
         let key = joined + FIRST_CLIENT;
         let member = JoinedClient {

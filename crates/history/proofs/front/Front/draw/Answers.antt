@@ -6,8 +6,8 @@ use Rattle.history.proofs.front.Front.draw.Goals as goal
 pub add-requires-clause-may : goal.add-requires-clause-may
 add-requires-clause-may g c =
     let P : ℕ → Type 0 = λ n. c.args.drawn.now.counter ≡ n + 1 in
-    ∣ subst P (sym c.requires.counted ∙ ap (λ (k : ℕ). count k c.args.self.now) c.requires.clock.0) c.requires.counter ∣₁
+    ∣ subst P (sym c.requires.takes.counted ∙ ap (λ (k : ℕ). count k c.args.self.now) c.requires.clock.0) c.requires.counter ∣₁
 
 pub returns-clause-drawn : goal.returns-clause-drawn
 returns-clause-drawn g c did =
-    drawn_if c.args.clock.now.key c.args.entries c.args.evidence.now c.args.self.now c.add.new.self c.args.drawn.now c.add.result did c.add.ensures.added c.add.ensures.behind
+    drawn_if c.args.clock.now.key c.args.entries c.args.evidence.now c.args.self.now c.add.new.self c.args.drawn.now c.add.result did c.add.ensures.adds.added c.add.ensures.sees.behind

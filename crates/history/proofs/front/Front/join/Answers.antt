@@ -1,4 +1,4 @@
-use Rattle.std.proofs.Common.{◌≡◌, ◌+◌, ◌==◌, ℕ, true, sym, ◌∙◌, ap, subst, arith, MatchBool}
+use Rattle.std.proofs.Common.{◌≡◌, ◌+◌, ◌==◌, ℕ, [], ◌∷◌, refl, true, sym, ◌∙◌, ap, subst, arith, MatchBool}
 use Rattle.std.proofs.lemmas.Bool.Decides.{nat_tests}
 use Rattle.logbook.specs.Pages.{nib, may_make, may_write, inked}
 use Rattle.plain_store.specs.Words.{◌∈◌}
@@ -8,6 +8,7 @@ use Rattle.history.specs.declared.entry.HistoryEntry.TheVariants.{Joined}
 use Rattle.history.specs.declared.entry.JoinedClient.{JoinedClient}
 use Rattle.history.specs.Entries.{is_of, own, count}
 use Rattle.history.specs.Legal.{IsLegal, MayJoin, first_client}
+use Rattle.history.specs.Rules.{arrived}
 use Rattle.history.proofs.Lists.{prefix_has}
 use Rattle.history.proofs.Steps.{joins_moves, arrives_moves}
 use Rattle.history.proofs.front.Front.join.Goals as goal
@@ -19,7 +20,7 @@ compare_exchange-found-requires g c =
     let pen = c.no_pen-pen.ensures in
     let log = c.self.inside.seen.log in
     let book = c.self.invariant.0 ∙ sym (ap (λ w. w.book) word) in
-    let counted : count 0 log ≡ c.args.joined = rw c.self.view_is c.requires.counted in
+    let counted : count 0 log ≡ c.args.joined = rw c.self.view_is c.requires.takes.counted in
     let member : JoinedClient = record { word = c.args.joined + first_client; tenant = c.args.tenant; client = c.args.client } in
     let new : (other : JoinedClient) → Joined other ∈ log → other.tenant ≡ c.args.tenant → other.client ≡ c.args.client → ⊥ = rw c.self.view_is c.requires.new in
     let may : MayJoin (own 0 log) member = record {
@@ -54,8 +55,9 @@ compare_exchange-found-requires-2 g c =
       rw (ap (λ w. w.key) word, c.requires.register, nib_is, offer.1, offer.3) (arrives_moves log (c.args.joined + first_client) (c.args.joined + 1)),
     )
 
-pub returns-clause-joined : goal.returns-clause-joined
-returns-clause-joined g c =
+-- it has joined, and then come home
+pub returns-clause-came : goal.returns-clause-came
+returns-clause-came g c =
     let one = c.compare_exchange-found.ensures in
     let log = c.compare_exchange-found.new.seen.log in
     let is : (c.compare_exchange-found.result == c.args.joined) ≡ true = grind (arith, nat_tests, c.if-found-joined.false) in
@@ -63,4 +65,12 @@ returns-clause-joined g c =
     let told : P = subst (λ b. MatchBool b P (IsLegal log)) is one.7 in
     let member : JoinedClient = record { word = c.args.joined + first_client; tenant = c.args.tenant; client = c.args.client } in
     let has : Joined member ∈ log = subst (λ (e : HistoryEntry). e ∈ log) c.plain-offer.ensures.1 told.1 in
-    prefix_has log c.compare_exchange-found-2.new.seen.log (Joined member) c.compare_exchange-found-2.ensures.6 has
+    let now = c.compare_exchange-found-2.new.seen.log in
+    let home = c.compare_exchange-found-2.ensures.7 in
+    let P : HistoryEntry → Type 0 = λ e. own (arrived e) now ≡ e ∷ [] in
+    record {
+      key = refl;
+      joined = prefix_has log now (Joined member) c.compare_exchange-found-2.ensures.6 has;
+      alone = subst P c.plain-offer-2.ensures.1 home.0;
+      counted = home.1 ∙ c.if-found-joined-2.false;
+    }

@@ -6,9 +6,9 @@ add-requires-clause-may g c = ∣ tt ∣₁
 
 pub returns-clause-told : goal.returns-clause-told
 returns-clause-told g c did =
-    told_if c.args.clock.now.key c.args.tenant.now c.args.entries c.args.evidence.now c.args.self.now c.add.new.self c.add.result did c.requires.clock.0 c.add.ensures.added c.add.ensures.behind
+    told_if c.args.clock.now.key c.args.tenant.now c.args.entries c.args.evidence.now c.args.self.now c.add.new.self c.add.result did c.requires.clock.0 c.add.ensures.adds.added c.add.ensures.sees.behind
 
 -- the clock has others
 pub returns-clause-overtaken : goal.returns-clause-overtaken
 returns-clause-overtaken g c not =
-    overtaken_by c.args.clock.now.key c.args.entries _ c.args.self.now c.add.new.self c.add.result not c.requires.counted c.add.ensures.later c.add.ensures.added
+    overtaken_by c.args.clock.now.key c.args.entries _ c.args.self.now c.add.new.self c.add.result not c.requires.takes.counted c.add.ensures.adds.later c.add.ensures.adds.added

@@ -1,4 +1,4 @@
-use Rattle.std.proofs.Common.{ℕ, ◌+◌, ◌≤◌}
+use Rattle.std.proofs.Common.{◌+◌, ◌≤◌}
 use mathlib.Core.List.{IsPrefix}
 use Rattle.history.specs.Entries.{count}
 use Rattle.history.proofs.front.Front.tell.Given as goal

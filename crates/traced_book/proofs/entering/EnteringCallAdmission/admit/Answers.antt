@@ -9,4 +9,4 @@ pub returns : goal.returns
 returns g c =
     let its = c.args.self.now in
     entered_or_not c.serve-did.result its.tally.now.key its.entries its.asked its.mine.now c.again-front.result its.evidence.now c.serve-did.new.self c.if-self-ge-MOST.false c.again-front.ensures.same its.counted
-    c.serve-did.ensures.later c.serve-did.ensures.evidence c.serve-did.ensures.added c.serve-did.ensures.behind
+    c.serve-did.ensures.adds.later c.serve-did.ensures.sees.evidence c.serve-did.ensures.adds.added c.serve-did.ensures.sees.behind
