@@ -1,5 +1,5 @@
 -- The rows of the clients that came: for `ClientWords`.
-use Rattle.std.proofs.Common.{◌≡◌, ◌⊎◌, ◌+◌, ℕ, Bool, true, false, cond, List, [], ◌∷◌, ◌++◌, length, Option, Some, None, Result, Ok, Err, inl, inr, refl, ap, sym, subst, ◌∙◌, arith}
+use Rattle.std.proofs.Common.{◌≡◌, ◌⊎◌, ◌+◌, ℕ, Bool, true, false, cond, List, [], ◌∷◌, length, Option, Some, None, Result, Ok, Err, inl, inr, refl, ap, sym, subst, ◌∙◌, arith}
 use Rattle.std.specs.Prelude.{IsSome, OnOk, is_err, nat_eq}
 use mathlib.Core.List.{IsPrefix}
 use Rattle.indexmap.specs.IndexMap.{IndexMap, IsUnchanged, Updates, get}

@@ -6,7 +6,7 @@ use Rattle.stamps.specs.Stamp.{client_of}
 use Rattle.indexmap.specs.IndexMap.{IndexMap, get}
 use Rattle.plain_store.specs.declared.refusal.Refusal.{Refusal}
 use Rattle.plain_store.specs.declared.refusal.Refusal.TheVariants.{Busy, RowsUsed, OutOfMemory}
-use Rattle.plain_store.specs.Words.{◌∈◌}
+use Rattle.plain_store.specs.Words.{◌∈◌, Item}
 use Rattle.history.specs.declared.entry.HistoryEntry.{HistoryEntry}
 use Rattle.history.specs.declared.entry.HistoryEntry.TheVariants.{Joined, Began, Decided, GivenUp, ReadBegan}
 use Rattle.history.specs.declared.entry.Decision.{Decision}
@@ -24,6 +24,18 @@ pub record ClientTrace : Type 0 where
   pub client : ℕ
   pub last : ℕ
   pub seen : List HistoryEntry
+
+-- a client that has just come
+abbrev pub new_trace : ℕ → ℕ → ℕ → List HistoryEntry → ClientTrace
+new_trace word tenant client seen = record { word = word; tenant = tenant; client = client; last = 0; seen = seen }
+
+-- the client's put of this stamp and of these items
+abbrev pub write_of : ClientTrace → ℕ → List Item → Write
+write_of its stamp items = record { word = its.word; tenant = its.tenant; stamp = stamp; items = items }
+
+-- that the client's put of this stamp ends
+abbrev pub ending_of : ClientTrace → ℕ → Decision
+ending_of its stamp = record { word = its.word; tenant = its.tenant; stamp = stamp }
 
 -- The client joined under the word, and what was seen has each of its writes, none above this stamp. The last one is open if and only if it
 -- may end.
@@ -54,8 +66,12 @@ CannotBegin stamp its found = (client_of stamp ≢ its.client) ⊎ ((stamp ≤ i
 -- the write of the stamp does not end: it is not the client's last one, or has ended, or no entry is taken, by what was found of the history
 abbrev pub CannotEnd : ℕ → ClientTrace → List HistoryEntry → Type 0
 CannotEnd stamp its found =
-    (stamp ≢ its.last)
-    ⊎ ((MayEnd (own its.word its.seen) (record { word = its.word; tenant = its.tenant; stamp = stamp }) → ⊥) ⊎ TakesNoEntry its.word its.seen found)
+    (stamp ≢ its.last) ⊎ ((MayEnd (own its.word its.seen) (ending_of its stamp) → ⊥) ⊎ TakesNoEntry its.word its.seen found)
+
+-- It was refused for this reason, by what was found of the history, and nothing has changed.
+pub record IsRefusedFor (Reason : List HistoryEntry → Type 0) (old new : ClientTrace) (found : List HistoryEntry) : Type 0 where
+  pub refused : Reason found
+  pub unchanged : new ≡ old
 
 -- what has the mark has all of this, if it and what was seen are beginnings of one history
 abbrev pub HasWith : Mark → (seen evidence : List HistoryEntry) → Type 0
@@ -71,9 +87,10 @@ pub record HasReadEntry (mark : Mark) (seen evidence : List HistoryEntry) : Type
   pub behind : IsPrefix evidence before
   pub marked : HasWith mark seen before
 
--- The entry is the client's own, behind those that it had, and the one of its word since then.
-abbrev pub IsEntered : HistoryEntry → ClientTrace → ClientTrace → Type 0
-IsEntered entry old new = own old.word new.seen ≡ own old.word old.seen ++ entry ∷ []
+-- The entry is the client's own, behind those that it had, and the one of its word since then. The client's last write has this stamp.
+pub record EntersOwn (entry : HistoryEntry) (stamp : ℕ) (old new : ClientTrace) : Type 0 where
+  pub entered : own old.word new.seen ≡ own old.word old.seen ++ entry ∷ []
+  pub last : new.last ≡ stamp
 
 -- ---- the words of all clients
 

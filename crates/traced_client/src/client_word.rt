@@ -1,5 +1,5 @@
 //! A client's word beside what the client has seen of the history.
-ghost use Rattle.std.specs.Prelude.{◌≡◌, ◌<◌, ◌↔◌, [], ◌∷◌, IfErr, IfOk, IsTrue, OnErr, OnOk};
+ghost use Rattle.std.specs.Prelude.{◌≡◌, ◌<◌, ◌↔◌, [], ◌∷◌, IfErr, IfOk, IsTrue, OnOk};
 ghost use mathlib.Core.List.{IsPrefix};
 ghost use Rattle.stamps.specs.Limits.{max_parts};
 ghost use Rattle.plain_store.specs.Words.{◌∈◌};
@@ -7,7 +7,7 @@ ghost use Rattle.history.specs.declared.entry.HistoryEntry.TheVariants.{Joined, 
 ghost use Rattle.history.specs.Entries.{HasMark, own};
 ghost use Rattle.history.specs.Legal.{MayDecide, MayEnd};
 ghost use Rattle.history.specs.Rules.{TakesNoEntry};
-ghost use Rattle.traced_client.specs.Clients.{CannotBegin, CannotEnd, HasJoined, HasReadEntry, IsEntered, IsSameClient};
+ghost use Rattle.traced_client.specs.Clients.{CannotBegin, CannotEnd, EntersOwn, HasJoined, HasReadEntry, IsRefusedFor, IsSameClient, ending_of, new_trace, write_of};
 
 use history::{Decision, Front, Mark, Naming, Tally, WriteToBegin};
 use stamps::{Client, Item, Stamp};
@@ -49,8 +49,7 @@ impl<J: Naming> TracedClient<J> {
         requires joined { Joined
             (record { word = tally.key; tenant = tenant; client = client }) ∈ front }
         requires alone { own tally.key front ≡ Arrived tally.key ∷ [] }
-        ensures { result
-            ≡ record { word = tally.key; tenant = tenant; client = client; last = 0; seen = front } }
+        ensures { result ≡ new_trace tally.key tenant client front }
     {
         TracedClient {
             tenant,
@@ -81,17 +80,12 @@ impl<J: Naming> TracedClient<J> {
     /// the client's last write, and where the client has other entries than were seen here, or 2^62. Then nothing has changed, and what
     /// was found of the history is returned: it has those other entries.
     pub fn begin(&mut self, stamp: Stamp, items: &[Item]) -> Result<(), Front<J>>
-        ensures began { OnOk result
-            (Began
-            (record { word = self.old.word; tenant = self.old.tenant; stamp = stamp; items = items.now }) ∈ self.new.seen) }
+        ensures began { OnOk result (Began (write_of self.old stamp items.now) ∈ self.new.seen) }
         ensures entered { OnOk result
-            (IsEntered
-            (Began (record { word = self.old.word; tenant = self.old.tenant; stamp = stamp; items = items.now }))
-            self.old self.new) }
-        ensures last { OnOk result (self.new.last ≡ stamp) }
+            (EntersOwn (Began (write_of self.old stamp items.now)) stamp self.old self.new) }
         ensures whose { IsSameClient self.old self.new }
-        ensures refused { IfErr result (CannotBegin stamp self.old) }
-        ensures unchanged { OnErr result (self.new ≡ self.old) }
+        ensures refused { IfErr result
+            (IsRefusedFor (CannotBegin stamp self.old) self.old self.new) }
     {
         if stamp.client() != self.client.get() || stamp.number() <= self.last.number() {
             return Err(self.front.again());
@@ -123,11 +117,11 @@ impl<J: Naming> TracedClient<J> {
         ensures since { IfOk result (λ mark. HasReadEntry mark self.new.seen evidence.now) }
         ensures marked { IfOk result (λ mark. HasMark self.new.seen mark) }
         ensures joined { IfOk result (λ mark. HasJoined mark.word self.old) }
-        ensures entered { OnOk result (IsEntered (ReadBegan self.old.word) self.old self.new) }
-        ensures last { self.new.last ≡ self.old.last }
+        ensures entered { OnOk result
+            (EntersOwn (ReadBegan self.old.word) self.old.last self.old self.new) }
         ensures whose { IsSameClient self.old self.new }
-        ensures refused { IfErr result (TakesNoEntry self.old.word self.old.seen) }
-        ensures unchanged { OnErr result (self.new ≡ self.old) }
+        ensures refused { IfErr result
+            (IsRefusedFor (TakesNoEntry self.old.word self.old.seen) self.old self.new) }
     {
         if self.entries >= MOST {
             return Err(self.front.again());
@@ -147,10 +141,8 @@ impl<J: Naming> TracedClient<J> {
 
     /// Whether the write of this stamp may end: it is the client's last one, and was neither decided nor refused.
     fn may_end(&self, stamp: Stamp) -> bool
-        ensures { IsTrue result
-            ↔ ((stamp ≡ self.now.last)
-            × MayEnd (own self.now.word self.now.seen)
-            (record { word = self.now.word; tenant = self.now.tenant; stamp = stamp })) }
+        ensures { IsTrue result ↔ ((stamp ≡ self.now.last)
+            × MayEnd (own self.now.word self.now.seen) (ending_of self.now stamp)) }
     {
         self.is_open && stamp == self.last
     }
@@ -159,20 +151,14 @@ impl<J: Naming> TracedClient<J> {
     /// client has other entries than were seen here, or 2^62. Then nothing has changed, and what was found of the history is returned: it
     /// has those other entries. The evidence shows that all items of the write are prepared.
     pub fn decide(&mut self, stamp: Stamp, evidence: &Front<J>) -> Result<(), Front<J>>
-        requires { ∥ MayDecide evidence.now
-            (record { word = self.old.word; tenant = self.old.tenant; stamp = stamp }) ∥₁ }
-        ensures decided { OnOk result
-            (Decided
-            (record { word = self.old.word; tenant = self.old.tenant; stamp = stamp }) ∈ self.new.seen) }
+        requires { ∥ MayDecide evidence.now (ending_of self.old stamp) ∥₁ }
+        ensures decided { OnOk result (Decided (ending_of self.old stamp) ∈ self.new.seen) }
         ensures entered { OnOk result
-            (IsEntered
-            (Decided (record { word = self.old.word; tenant = self.old.tenant; stamp = stamp }))
-            self.old self.new) }
+            (EntersOwn (Decided (ending_of self.old stamp)) self.old.last self.old self.new) }
         ensures evidence { OnOk result (IsPrefix evidence.now self.new.seen) }
-        ensures last { self.new.last ≡ self.old.last }
         ensures whose { IsSameClient self.old self.new }
-        ensures refused { IfErr result (CannotEnd stamp self.old) }
-        ensures unchanged { OnErr result (self.new ≡ self.old) }
+        ensures refused { IfErr result
+            (IsRefusedFor (CannotEnd stamp self.old) self.old self.new) }
     {
         if self.entries >= MOST || !self.may_end(stamp) {
             return Err(self.front.again());
@@ -196,17 +182,12 @@ impl<J: Naming> TracedClient<J> {
     /// client has other entries than were seen here, or 2^62. Then nothing has changed, and what was found of the history is returned: it
     /// has those other entries.
     pub fn give_up(&mut self, stamp: Stamp) -> Result<(), Front<J>>
+        ensures given_up { OnOk result (GivenUp (ending_of self.old stamp) ∈ self.new.seen) }
         ensures entered { OnOk result
-            (IsEntered
-            (GivenUp (record { word = self.old.word; tenant = self.old.tenant; stamp = stamp }))
-            self.old self.new) }
-        ensures given_up { OnOk result
-            (GivenUp
-            (record { word = self.old.word; tenant = self.old.tenant; stamp = stamp }) ∈ self.new.seen) }
-        ensures last { self.new.last ≡ self.old.last }
+            (EntersOwn (GivenUp (ending_of self.old stamp)) self.old.last self.old self.new) }
         ensures whose { IsSameClient self.old self.new }
-        ensures refused { IfErr result (CannotEnd stamp self.old) }
-        ensures unchanged { OnErr result (self.new ≡ self.old) }
+        ensures refused { IfErr result
+            (IsRefusedFor (CannotEnd stamp self.old) self.old self.new) }
     {
         if self.entries >= MOST || !self.may_end(stamp) {
             return Err(self.front.again());

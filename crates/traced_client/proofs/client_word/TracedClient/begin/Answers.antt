@@ -1,4 +1,4 @@
-use Rattle.std.proofs.Common.{◌≡◌, ◌∙◌, ◌^◌, ◌<◌, ◌≤◌, ◌++◌, List, [], ◌∷◌, inl, inr, sym, subst, arith, refl}
+use Rattle.std.proofs.Common.{◌≡◌, ◌∙◌, ◌^◌, ◌<◌, ◌≤◌, ◌++◌, List, [], ◌∷◌, inr, sym, subst, arith, refl}
 use Rattle.stamps.specs.Stamp.{client_of}
 use Rattle.plain_store.specs.Words.{◌∈◌}
 use Rattle.history.specs.declared.entry.HistoryEntry.{HistoryEntry}
@@ -50,7 +50,7 @@ returns-clause-entered g c =
     let its = equal_test b.tally.key b.tally.key refl in
     let P : ClientTrace → Type 0 =
     λ t. own t.word c.begin.new.self ≡ own t.word t.seen ++ Began (record { word = t.word; tenant = t.tenant; stamp = c.args.stamp; items = c.args.items.now }) ∷ [] in
-    subst P c.self.view_is (own_added b.tally.key b.entries (Began write) b.front c.begin.new.self its c.self.invariant.1 added)
+    record { entered = subst P c.self.view_is (own_added b.tally.key b.entries (Began write) b.front c.begin.new.self its c.self.invariant.1 added); last = refl }
 
 -- the word has as many entries as it can have
 pub returns-then-self-ge-MOST-clause-refused : goal.returns-then-self-ge-MOST-clause-refused
@@ -58,7 +58,7 @@ returns-then-self-ge-MOST-clause-refused g c =
     let b = c.self.inside in
     let full : 2 ^ 62 ≤ count b.tally.key b.front = omega (arith, c.self.invariant.1, c.if-self-ge-MOST.true) in
     let P : ClientTrace → Type 0 = λ t. 2 ^ 62 ≤ count t.word t.seen in
-    full_begin _ c.args.self.now _ (subst P c.self.view_is full)
+    record { refused = full_begin _ c.args.self.now _ (subst P c.self.view_is full); unchanged = refl }
 
 -- what was found of the history has other entries of the word
 pub returns-then-not-begin-clause-refused : goal.returns-then-not-begin-clause-refused
@@ -68,4 +68,4 @@ returns-then-not-begin-clause-refused g c =
     let none : TakesNoEntry b.tally.key b.front found =
     none_taken b.tally.key b.entries b.front c.again-front.result found c.again-front.ensures.same c.self.invariant.1 c.begin.ensures.later c.if-not-begin.ensures.added in
     let P : ClientTrace → Type 0 = λ t. CannotBegin c.args.stamp t found in
-    subst P c.self.view_is (inr (inr none))
+    record { refused = subst P c.self.view_is (inr (inr none)); unchanged = refl }

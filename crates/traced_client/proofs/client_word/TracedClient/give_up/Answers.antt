@@ -1,4 +1,4 @@
-use Rattle.std.proofs.Common.{◌≡◌, ◌∙◌, ◌^◌, ◌≤◌, ◌++◌, List, [], ◌∷◌, ap, arith, inl, inr, refl, subst, sym}
+use Rattle.std.proofs.Common.{◌≡◌, ◌∙◌, ◌^◌, ◌≤◌, ◌++◌, List, [], ◌∷◌, ap, arith, inr, refl, subst, sym}
 use Rattle.plain_store.specs.Words.{◌∈◌}
 use Rattle.history.specs.declared.entry.Decision.{Decision}
 use Rattle.history.specs.declared.entry.HistoryEntry.{HistoryEntry}
@@ -49,7 +49,7 @@ returns-clause-entered g c =
     let its = equal_test b.tally.key b.tally.key refl in
     let P : ClientTrace → Type 0 =
     λ t. own t.word c.give_up.new.self ≡ own t.word t.seen ++ GivenUp (record { word = t.word; tenant = t.tenant; stamp = c.args.stamp }) ∷ [] in
-    subst P c.self.view_is (own_added b.tally.key b.entries (GivenUp decision) b.front c.give_up.new.self its c.self.invariant.1 added)
+    record { entered = subst P c.self.view_is (own_added b.tally.key b.entries (GivenUp decision) b.front c.give_up.new.self its c.self.invariant.1 added); last = ap (λ (t : ClientTrace). t.last) c.self.view_is }
 
 -- the word has as many entries as it can have, or the put may not end
 pub returns-then-self-ge-MOST-clause-refused : goal.returns-then-self-ge-MOST-clause-refused
@@ -59,8 +59,9 @@ returns-then-self-ge-MOST-clause-refused g c =
     elim c.then-self-ge-MOST.branch [
       | then-self-ge-MOST-via-then-self-ge-MOST w ↦
           let full : 2 ^ 62 ≤ count b.tally.key b.front = omega (arith, c.self.invariant.1, w.if-self-ge-MOST.true) in
-          full_end _ c.args.self.now _ (subst P c.self.view_is full)
-      | then-self-ge-MOST-via-else-self-ge-MOST+then-not-may_end w ↦ cannot_end c.args.stamp c.args.self.now _ w.may_end.result w.if-not-may_end.true w.may_end.ensures
+          record { refused = full_end _ c.args.self.now _ (subst P c.self.view_is full); unchanged = refl }
+      | then-self-ge-MOST-via-else-self-ge-MOST+then-not-may_end w ↦
+          record { refused = cannot_end c.args.stamp c.args.self.now _ w.may_end.result w.if-not-may_end.true w.may_end.ensures; unchanged = refl }
     ]
 
 -- what was found of the history has other entries of the word
@@ -71,4 +72,4 @@ returns-then-not-give_up-clause-refused g c =
     let none : TakesNoEntry b.tally.key b.front found =
     none_taken b.tally.key b.entries b.front c.again-front.result found c.again-front.ensures.same c.self.invariant.1 c.give_up.ensures.later c.if-not-give_up.ensures.added in
     let P : ClientTrace → Type 0 = λ t. CannotEnd c.args.stamp t found in
-    subst P c.self.view_is (inr (inr none))
+    record { refused = subst P c.self.view_is (inr (inr none)); unchanged = refl }

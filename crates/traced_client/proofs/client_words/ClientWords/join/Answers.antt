@@ -18,13 +18,13 @@ invariant_of-self-2 g c =
     let Q : List HistoryEntry → Type 0 = λ l. HaveRows l c.insert.new.self in
     let have : P seen = subst P (sym c.again-seen.ensures.same) b.have_rows in
     let before : count 0 seen ≡ b.joined = ap (count 0) c.again-seen.ensures.same ∙ b.counted in
-    let more : count 0 now ≡ count 0 seen + 1 = omega (arith, told.counted, before) in
+    let more : count 0 now ≡ count 0 seen + 1 = omega (arith, told.came.counted, before) in
     let updates = ok_holds c.insert.result _ (sym c.is_err-2.ensures.value ∙ c.if-is_err-2.false) c.insert.ensures.updates in
     record {
       register_is = b.register_is;
-      counted = ap (count 0) c.again.ensures.same ∙ told.counted;
+      counted = ap (count 0) c.again.ensures.same ∙ told.came.counted;
       have_rows = subst Q (sym c.again.ensures.same)
-          (joined_rows seen now c.reserve.new.self c.insert.new.self member c.args.row _ c.join.ensures.later more told.joined
+          (joined_rows seen now c.reserve.new.self c.insert.new.self member c.args.row _ c.join.ensures.later more told.came.joined
           (λ there. none_joined seen b.rows c.args.tenant c.args.client c.args.row c.requires.row c.requires.new have member there refl refl) c.requires.row updates
           (rows_same seen b.rows c.reserve.new.self c.reserve.ensures.entries have));
     }
