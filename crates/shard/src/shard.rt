@@ -359,8 +359,8 @@ impl<J: Naming> ShardState<J> {
         call: &mut SeatCall<J>,
         follow_up: &mut FollowUp,
     ) -> Result<u64, Fault>
-        ensures came { CameSo call.new.front call.new.mark call.new.partition call.new.tenant call.new.seat
-            call.new.number call.new.message.value result }
+        ensures came { CameSo call.new.front call.new.mark call.new.partition call.new.tenant
+            call.new.seat call.new.number call.new.message.value result }
         ensures asked { asked_of call.new ≡ asked_of call.old }
         ensures mark { call.new.mark ≡ call.old.mark }
         ensures takes { TakesCall self.old.book.journals self.old.book.accounts
@@ -368,7 +368,8 @@ impl<J: Naming> ShardState<J> {
             call.old.message.value.call (λ place. place)
             (λ _. call.new.message.value.reply) result }
         ensures refuses { call.old.partition ≡ self.old.partition → call.old.parts ≡ self.old.parts
-            → RefusesSo self.old.book.accounts call.old.tenant call.old.seat call.old.number result }
+            → RefusesSo self.old.book.accounts call.old.tenant call.old.seat
+            call.old.number result }
         ensures notes { NotesEvent config.now.every config.now.epoch self.new.book.accounts
             call.old.tenant self.old.events self.new.events follow_up.old follow_up.new result }
         ensures stays { StaysAt self.old self.new }
@@ -392,8 +393,8 @@ impl<J: Naming> ShardState<J> {
         requires home { (call.old.partition ≡ self.old.partition)
             × (call.old.parts ≡ self.old.parts) }
         requires inside { G.is_inside _gate.now self.old.partition call.old.arrival }
-        ensures came { CameSo call.new.front call.new.mark call.new.partition call.new.tenant call.new.seat
-            call.new.number call.new.message.value result }
+        ensures came { CameSo call.new.front call.new.mark call.new.partition call.new.tenant
+            call.new.seat call.new.number call.new.message.value result }
         ensures asked { (asked_of call.new ≡ asked_of call.old) × (call.new.mark ≡ call.old.mark) }
         ensures unwritten { OnErr result
             (call.new.message.value.reply ≡ call.old.message.value.reply) }

@@ -121,7 +121,8 @@ fn serve_job<J: Naming, G: Gate, S: Sink<J>, T: ReplyTo<SeatReply<J>>, R: Wait>(
 
 /// What came of a call.
 pub fn replied<J: Naming>(call: SeatCall<J>, outcome: Result<u64, Fault>) -> SeatReply<J>
-    requires { CameSo call.front call.mark call.partition call.tenant call.seat call.number call.message.value outcome }
+    requires { CameSo call.front call.mark call.partition call.tenant call.seat call.number
+        call.message.value outcome }
     ensures call { (result.number ≡ call.number) × (result.partition ≡ call.partition) }
     ensures seat { (result.tenant ≡ call.tenant) × (result.seat ≡ call.seat) }
     ensures outcome { (result.outcome ≡ outcome) × (result.message ≡ call.message)

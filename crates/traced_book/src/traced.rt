@@ -212,7 +212,13 @@ impl<J: Naming> TracedBook<J> {
             IsSomeAnd reply.new
             (λ told.
             StandsBehind evidence.old evidence.new
-            (record { partition = self.old.partition; tenant = tenant; seat = caller.seat; number = caller.number; call = call.now }) place told)) }
+            (record {
+              partition = self.old.partition;
+              tenant = tenant;
+              seat = caller.seat;
+              number = caller.number;
+              call = call.now;
+            }) place told)) }
         ensures partition { (self.new.partition ≡ self.old.partition)
             × (self.new.journals ≡ self.old.journals) }
         ensures later { IsPrefix self.old.seen self.new.seen }
