@@ -7,7 +7,7 @@ use Rattle.version_chain.specs.declared.stamp_list.Kept.{Kept}
 use Rattle.version_chain.specs.declared.version.Version.{Version}
 use Rattle.version_chain.specs.Heads.{Heads}
 use Rattle.version_chain.specs.Chain.{Cells, HoldsChains, HasShare, OtherChainsKept, IsInserted, at_stamp, chain_versions}
-use Rattle.version_chain.specs.Listed.{NoneMove, with_latest}
+use Rattle.version_chain.specs.Listed.{IsSweptAt, Lists, NoneMove, with_latest}
 use Rattle.version_chain.specs.Sharing.{ChangesOwn}
 
 -- ---- what they ask for
@@ -76,3 +76,10 @@ pub record IsRunOf (stamp : ℕ) (kept : List Kept) (first end : ℕ) : Type 0 w
   pub ordered : first ≤ end
   pub within : end ≤ length kept
   pub together : slice_range kept first end ≡ filter (λ (k : Kept). k.stamp == stamp) kept
+
+-- the list names each version of the tenant; those that it names of the stamp stand side by side, from the first place to
+-- before the other, and each of them is in its cell
+pub record HoldsRun (cells : Cells) (chains : Heads) (stamp first end : ℕ) : Type 0 where
+  pub list : Lists cells chains
+  pub swept : IsSweptAt stamp chains.tenant cells chains.kept
+  pub run : IsRunOf stamp chains.kept first end

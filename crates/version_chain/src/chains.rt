@@ -3,7 +3,7 @@ ghost use Rattle.std.specs.Prelude.{◌≡◌, ◌↔◌, ℕ, ◌+◌, ◌-◌,
 ghost use Rattle.version_arena.specs.Arena.{entry, next_beside};
 ghost use Rattle.version_chain.specs.declared.version.Version.{Version};
 ghost use Rattle.version_chain.specs.Chain.{IsPath, KeepsLatest, HoldsChains, HasShare, chain_versions, at_stamp, first_record, latest_record, lent_version, committed_records, stamp_of, marked_by, not_below, without_open};
-ghost use Rattle.version_chain.specs.Changes.{HasChain, HasRoomFor, ChangesChain, EachChainIs, GivesUp, HaveOneMore, InsertAnswers, IsRunOf, MarksOnly, Unchanged};
+ghost use Rattle.version_chain.specs.Changes.{HasChain, HasRoomFor, HoldsRun, ChangesChain, EachChainIs, GivesUp, HaveOneMore, InsertAnswers, IsRunOf, MarksOnly, Unchanged};
 ghost use Rattle.version_chain.specs.Discarded.{DropsOpen, FreesOnly};
 ghost use Rattle.version_chain.specs.Heads.{no_versions};
 ghost use Rattle.version_chain.specs.Listed.{is_named, chain_in, with_kept, Lists, IsSweptAt, IsPutAt, node_in, is_open_node};
@@ -613,9 +613,7 @@ impl Chains {
         visits: &mut Visits,
     ) -> u32
         requires stands { HoldsChains block.old self.old }
-        requires list { Lists block.old self.old }
-        requires swept { IsSweptAt stamp self.old.tenant block.old self.old.kept }
-        requires run { IsRunOf stamp self.old.kept first end }
+        requires run { HoldsRun block.old self.old stamp first end }
         requires few { self.old.used < 2 ^ 32 }
         requires before { visits.old ≤ 2 ^ 61 }
         ensures own { ChangesOwn block.old block.new self.old self.new }
@@ -761,9 +759,7 @@ impl Chains {
     #[inline(always)]
     pub fn sweep_at(&mut self, block: &Block, stamp: Stamp) -> (usize, usize)
         requires { Lists block.now self.old }
-        ensures list { Lists block.now self.new }
-        ensures swept { IsSweptAt stamp self.new.tenant block.now self.new.kept }
-        ensures run { IsRunOf stamp self.new.kept result.0 result.1 }
+        ensures run { HoldsRun block.now self.new stamp result.0 result.1 }
         ensures rest { self.new ≡ with_kept self.old self.new.kept }
         ensures unswept { IsSweptAt stamp self.old.tenant block.now self.old.kept
             → self.new ≡ self.old }
@@ -780,9 +776,7 @@ impl Chains {
     #[inline(never)]
     fn sweep_again(&mut self, block: &Block, stamp: Stamp) -> (usize, usize)
         requires { Lists block.now self.old }
-        ensures list { Lists block.now self.new }
-        ensures swept { IsSweptAt stamp self.new.tenant block.now self.new.kept }
-        ensures run { IsRunOf stamp self.new.kept result.0 result.1 }
+        ensures run { HoldsRun block.now self.new stamp result.0 result.1 }
         ensures rest { self.new ≡ with_kept self.old self.new.kept }
     {
         self.kept.sweep(block, self.tenant);

@@ -27,9 +27,7 @@ discard_at-requires c =
     let done = c.sweep_at-first.ensures in
     record {
       stands = done.lies.stands;
-      list = done.lies.listed;
-      swept = done.swept;
-      run = done.run;
+      run = record { list = done.lies.listed; swept = done.swept; run = done.run };
       few = omega (arith, c.requires.few, ap (λ (h : Heads). h.used) done.rest);
       before = c.requires.before;
     }

@@ -8,8 +8,8 @@ pub returns : goal.returns
 returns c =
     let done = c.sweep_at.ensures in
     record {
-      lies = record { stands = still_stands c.args.block.now c.args.self.now.chains c.sweep_at.new.self done.rest c.requires.stands; listed = done.list };
-      swept = done.swept;
-      run = done.run;
+      lies = record { stands = still_stands c.args.block.now c.args.self.now.chains c.sweep_at.new.self done.rest c.requires.stands; listed = done.run.list };
+      swept = done.run.swept;
+      run = done.run.run;
       rest = done.rest;
     }
