@@ -1,5 +1,5 @@
 -- What the calls on a cell and on its chains ask for, and what they leave.
-use Rattle.std.specs.Prelude.{◌≡◌, ◌==◌, ℕ, ◌+◌, ◌<◌, ◌≤◌, Bool, List, All, length, map, count_by}
+use Rattle.std.specs.Prelude.{◌≡◌, ◌==◌, ℕ, ◌+◌, ◌<◌, ◌≤◌, ◌^◌, Bool, List, All, Option, length, map, count_by}
 use Rattle.lists.specs.Listing.{Listing}
 use Rattle.plain_store.specs.declared.calls.Call.{Call}
 use Rattle.plain_store.specs.declared.calls.Reply.{Reply}
@@ -14,7 +14,7 @@ use Rattle.prepare_commit.specs.Begun.{IsKeptSince}
 use Rattle.prepare_commit.specs.Content.{KnowsItems, IsMoved}
 use Rattle.prepare_commit.specs.InBlock.{Parts, AreIn, LiesIn, content_in}
 use Rattle.prepare_commit.specs.Layout.{Chained, held_in, chain_lists, chain_at, together, item_chains, entries_of, HaveAll, raised_item, kept_chain}
-use Rattle.prepare_commit.specs.Remembered.{AreNotedWhere, raised_where, kept_where}
+use Rattle.prepare_commit.specs.Remembered.{AreNotedWhere, Remembers, in_either, raised_where, kept_where}
 use Rattle.prepare_commit.specs.Serving.{Serves}
 use Rattle.prepare_commit.specs.Spots.{begun_by}
 
@@ -68,6 +68,23 @@ HasAt stamp held count =
 pub record HoldItems (block : Cells) (versions : Versions) (items : List ChainedItem) : Type 0 where
   pub lies : AreIn block versions.chains
   pub have : HaveAll items (held_in block versions.chains)
+
+-- each chain was noted that another collection like the last one may change, or like the one that kept the least
+pub record RemembersBoth
+    (last : Option ℕ) (changed : List Bool) (fewest : Option ℕ) (left : List Bool)
+    (items : List ChainedItem) (chains : List (List Version)) : Type 0 where
+  pub remembers : Remembers last changed items chains
+  pub least : Remembers fewest (in_either left changed) items chains
+
+-- what a collection finds: items with their versions, and what earlier collections noted
+pub record CanCollect
+    (block : Cells) (versions : Versions) (items : List ChainedItem)
+    (last : Option ℕ) (changed : List Bool) (fewest : Option ℕ) (left : List Bool) : Type 0 where
+  pub held : HoldItems block versions items
+  pub few : versions.chains.used < 2 ^ 32
+  pub long : length changed ≡ length (lists_of block versions)
+  pub as_long : length left ≡ length changed
+  pub noted : RemembersBoth last changed fewest left items (lists_of block versions)
 
 -- so many versions were freed; nothing of another tenant changed
 pub record GivesUpOf

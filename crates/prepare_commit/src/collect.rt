@@ -2,9 +2,9 @@
 ghost use Rattle.std.specs.Prelude.{◌≡◌, ◌<◌, ◌≤◌, ◌^◌, ◌↔◌, ℕ, false, All, [], None, Some, IfSome, IsSomeAnd, IsTrue, length, slice_set, slice_index_or};
 ghost use Rattle.version_chain.specs.Changes.{HasChain};
 ghost use Rattle.prepare_commit.specs.declared.items.ChainedItem.{ChainedItem};
-ghost use Rattle.prepare_commit.specs.Calls.{lists_of, versions_at, GivesUpOf, HoldItems, IsCollected, IsCollectedAt};
+ghost use Rattle.prepare_commit.specs.Calls.{lists_of, versions_at, CanCollect, GivesUpOf, HoldItems, IsCollected, IsCollectedAt, RemembersBoth};
 ghost use Rattle.prepare_commit.specs.Layout.{IsPlaceOf, raised_item, kept_chain};
-ghost use Rattle.prepare_commit.specs.Remembered.{AreSettledBeside, IsPassedOver, IsRemembered, Remembers, StayNoted, in_either};
+ghost use Rattle.prepare_commit.specs.Remembered.{AreSettledBeside, IsPassedOver, IsRemembered, StayNoted, in_either};
 
 use crate::changed::ChangedChains;
 use crate::items::{self, ChainedItem, ItemList, KnownItem};
@@ -25,22 +25,14 @@ pub(crate) fn collect(
     least: &mut Option<Keep>,
     keep: Keep,
 ) -> u32
-    requires held { HoldItems block.old versions.old items.old.items }
-    requires few { versions.old.chains.used < 2 ^ 32 }
-    requires long { length changed.old ≡ length (lists_of block.old versions.old) }
-    requires as_long { length left.old ≡ length changed.old }
-    requires remembers { Remembers last.old changed.old items.old.items
-        (lists_of block.old versions.old) }
-    requires least { Remembers least.old (in_either left.old changed.old) items.old.items
-        (lists_of block.old versions.old) }
+    requires { CanCollect block.old versions.old items.old.items
+        last.old changed.old least.old left.old }
     ensures collected { IsCollected keep result
         block.old versions.old items.old block.new versions.new items.new }
     ensures long { length changed.new ≡ length changed.old }
     ensures as_long { length left.new ≡ length left.old }
-    ensures remembers { Remembers last.new changed.new items.new.items
-        (lists_of block.new versions.new) }
-    ensures least { Remembers least.new (in_either left.new changed.new) items.new.items
-        (lists_of block.new versions.new) }
+    ensures noted { RemembersBoth last.new changed.new least.new left.new
+        items.new.items (lists_of block.new versions.new) }
 {
     let freed = cut(block, items, versions, changed, left, *last, *least, keep);
     remember(changed, left, last, least, keep);
@@ -58,14 +50,8 @@ fn cut(
     least: Option<Keep>,
     keep: Keep,
 ) -> u32
-    requires held { HoldItems block.old versions.old items.old.items }
-    requires few { versions.old.chains.used < 2 ^ 32 }
-    requires long { length changed.now ≡ length (lists_of block.old versions.old) }
-    requires as_long { length left.old ≡ length changed.now }
-    requires remembers { Remembers last changed.now items.old.items
-        (lists_of block.old versions.old) }
-    requires least { Remembers least (in_either left.old changed.now) items.old.items
-        (lists_of block.old versions.old) }
+    requires { CanCollect block.old versions.old items.old.items
+        last changed.now least left.old }
     ensures collected { IsCollected keep result
         block.old versions.old items.old block.new versions.new items.new }
     ensures as_long { length left.new ≡ length left.old }

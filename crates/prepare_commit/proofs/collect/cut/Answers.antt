@@ -11,7 +11,7 @@ cut_each-requires c =
     let numbers = c.numbers.result.now in
     let items = c.args.items.now.items in
     let within = each_within changed numbers c.numbers.ensures in
-    let settled = remembered c.args.last c.args.keep changed items (chain_lists c.args.block.now c.args.versions.now.chains) (c.kept_no_more.ensures.0 c.if-kept_no_more.true) c.requires.remembers in
+    let settled = remembered c.args.last c.args.keep changed items (chain_lists c.args.block.now c.args.versions.now.chains) (c.kept_no_more.ensures.0 c.if-kept_no_more.true) c.requires.noted.remembers in
     record {
       held = c.requires.held;
       few = c.requires.few;
@@ -31,7 +31,7 @@ cut_each-requires-then-kept_no_more-2-clause-settled c k d less none =
     let all = c.note_those.new.self in
     let items = c.args.items.now.items in
     let free = not_among all c.numbers-then-kept_no_more-2.result.now (get_or items k d).chain c.numbers-then-kept_no_more-2.ensures none in
-    remembered c.args.least c.args.keep (in_either left changed) items (chain_lists c.args.block.now c.args.versions.now.chains) (c.kept_no_more-2.ensures.0 c.if-kept_no_more-2.true) c.requires.least k d less
+    remembered c.args.least c.args.keep (in_either left changed) items (chain_lists c.args.block.now c.args.versions.now.chains) (c.kept_no_more-2.ensures.0 c.if-kept_no_more-2.true) c.requires.noted.least k d less
     (gathered left changed all c.note_those.ensures.noted (get_or items k d).chain free)
 
 pub returns-then-kept_no_more-2-clause-left : goal.returns-then-kept_no_more-2-clause-left

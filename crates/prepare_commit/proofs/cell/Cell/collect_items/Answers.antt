@@ -19,8 +19,7 @@ collect-requires c =
       few = omega (arith, lies.holds.fits, c.self.invariant.2);
       long = omega (arith, c.self.invariant.7, lies.holds.chains);
       as_long = c.self.invariant.10 ∙ sym c.self.invariant.7;
-      remembers = lies.remembers;
-      least = lies.remembers_least;
+      noted = record { remembers = lies.remembers; least = lies.remembers_least };
     }
 
 pub returns : goal.returns
@@ -35,8 +34,8 @@ returns c =
     record {
       lies = record {
         versions = left.held.lies;
-        remembers = c.collect.ensures.remembers;
-        remembers_least = c.collect.ensures.least;
+        remembers = c.collect.ensures.noted.remembers;
+        remembers_least = c.collect.ensures.noted.least;
         since =
             let begun = begun_by c.self.inside.last_base in
             rw done.raised (kept_collected begun c.args.keep c.self.inside.last c.self.inside.changed c.self.inside.least (in_either c.self.inside.left c.self.inside.changed) c.self.inside.last_base.since c.note_collected.new.since items start lists lies.remembers lies.remembers_least (λ chain within. (c.note_collected.ensures.noted chain within).0)
