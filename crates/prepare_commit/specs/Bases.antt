@@ -14,7 +14,7 @@ use Rattle.version_chain.specs.Chain.{Cells, is_of_tenant}
 use Rattle.version_chain.specs.declared.version.Version.{Version}
 use Rattle.secondary_index.specs.Ordered.{IsInOrder}
 use Rattle.prepare_commit.specs.declared.items.KnownItem.{KnownItem}
-use Rattle.prepare_commit.specs.InBlock.{Parts, AreIn, content_in}
+use Rattle.prepare_commit.specs.InBlock.{Parts, AreIn, LiesIn, content_in}
 use Rattle.prepare_commit.specs.Lists.{SameMembers}
 use Rattle.prepare_commit.specs.Marks.{mark_row, marks_of, if_marked}
 use Rattle.prepare_commit.specs.declared.fill.StampedPlace.{StampedPlace}
@@ -111,6 +111,14 @@ pub record IsNew (room : Room) (cell : Parts) : Type 0 where
   pub no_marks : cell.marks ≡ []
   pub not_collected : cell.last ≡ None
   pub none_collected : cell.least ≡ None
+
+-- the cell, in the block, holds what the base does, has its room, and stands for every log that the base stands for
+pub record IsOpenedAt (base : Frozen) (block : Cells) (cell : Parts) : Type 0 where
+  pub room : cell.room ≡ base.room
+  pub used : cell.chains.used ≡ length base.versions
+  pub lies : LiesIn block cell
+  pub holds : base_of block cell ≡ base
+  pub stands : (log : Log) → Leaves base log → StandsFor (content_in block cell) log
 
 -- the tag is that of the item's latest committed version, empty where none is committed
 abbrev pub IsTagOf : Key → List Version → Tag → Type 0

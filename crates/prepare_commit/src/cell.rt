@@ -17,7 +17,7 @@ ghost use Rattle.prepare_commit.specs.Calls.{versions_at, HoldsTheSame, IsAnswer
 ghost use Rattle.prepare_commit.specs.Layout.{chain_lists};
 ghost use Rattle.prepare_commit.specs.Content.{HasVersion, IsBelowFloor};
 ghost use Rattle.prepare_commit.specs.Serving.{Serves, StandsFor};
-ghost use Rattle.prepare_commit.specs.Bases.{base_of, Leaves, IsNew, NameEach};
+ghost use Rattle.prepare_commit.specs.Bases.{base_of, IsNew, IsOpenedAt, NameEach};
 ghost use Rattle.plain_store.specs.Log.{Log};
 ghost use Rattle.plain_store.specs.Replies.{IsSound};
 
@@ -200,18 +200,13 @@ impl Cell {
     ) -> Result<Cell, AllocError>
         requires none { count_by (is_of_tenant tenant) block.old ≡ 0 }
         requires share { base.now.room.slots + live_count block.old ≤ length block.old }
-        ensures room { IfOk result (λ cell. cell.room ≡ base.now.room) }
+        ensures opened { IfOk result (λ cell. IsOpenedAt base.now block.new cell) }
         ensures chains { IfOk result (λ cell. (cell.chains.tenant ≡ tenant)
-            × (cell.chains.share ≡ base.now.room.slots)
-            × (cell.chains.used ≡ length base.now.versions)) }
-        ensures lies { IfOk result (λ cell. LiesIn block.new cell) }
+            × (cell.chains.share ≡ base.now.room.slots)) }
         ensures share { IfOk result (λ cell. HasShare block.new cell.chains) }
         ensures others { OthersKept block.old block.new tenant }
         ensures live { IfOk result (λ _.
             live_count block.new ≡ live_count block.old + length base.now.versions) }
-        ensures holds { IfOk result (λ cell. base_of block.new cell ≡ base.now) }
-        ensures stands { IfOk result (λ cell. (log : Log)
-            → Leaves base.now log → StandsFor (content_in block.new cell) log) }
         ensures refused { OnErr result (block.new ≡ block.old) }
     {
         let slots = base.slots;
@@ -235,13 +230,8 @@ impl Cell {
         requires none { count_by (is_of_tenant self.old.chains.tenant) block.old ≡ 0 }
         requires share { HasShare block.old self.old.chains }
         requires each { NameEach places.now base.now.versions }
-        ensures room { self.new.room ≡ base.now.room }
         ensures own { ChangesOwn block.old block.new self.old.chains self.new.chains }
-        ensures used { self.new.chains.used ≡ length base.now.versions }
-        ensures lies { LiesIn block.new self.new }
-        ensures holds { base_of block.new self.new ≡ base.now }
-        ensures stands { (log : Log) → Leaves base.now log
-            → StandsFor (content_in block.new self.new) log }
+        ensures opened { IsOpenedAt base.now block.new self.new }
     {
         fill::add_items(&mut self.entries, &base.held);
         fill::add_versions(block, &self.entries, &mut self.versions, versions, places);

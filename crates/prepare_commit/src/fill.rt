@@ -1,16 +1,14 @@
 //! What a base has, put into the parts of a cell that holds nothing.
-ghost use Rattle.std.specs.Prelude.{◌≡◌, ◌+◌, ◌<◌, ◌≤◌, ◌^◌, ℕ, List, [], ◌∷◌, All, None, length, vec_capacity, IfOk, IsTrue};
+ghost use Rattle.std.specs.Prelude.{◌≡◌, ◌+◌, ◌<◌, ◌≤◌, ◌^◌, ℕ, List, [], ◌∷◌, All, None, length, vec_capacity, IfOk};
 ghost use Rattle.std.specs.FinMap as map;
-ghost use Rattle.secondary_index.specs.Index.{tag_of};
 ghost use Rattle.version_chain.specs.Chain.{HoldsChains};
 ghost use Rattle.version_chain.specs.Changes.{HasChain};
-ghost use Rattle.prepare_commit.specs.Bases.{AreOrdered, IsBefore, AreNumbered, NameEach, IsTagOf, HasEntry};
+ghost use Rattle.prepare_commit.specs.Bases.{AreNumbered, NameEach, IsTagOf, HasEntry};
 ghost use Rattle.prepare_commit.specs.Begun.{entries_in};
-ghost use Rattle.prepare_commit.specs.Calls.{lists_of, versions_at, ChangesVersions, HaveShare};
-ghost use Rattle.prepare_commit.specs.Content.{KnowsItems, version_at};
+ghost use Rattle.prepare_commit.specs.Calls.{lists_of, versions_at};
+ghost use Rattle.prepare_commit.specs.Content.{version_at};
+ghost use Rattle.prepare_commit.specs.Filled.{HaveChains, CanBePut, HavePut, IndexesLatest};
 ghost use Rattle.prepare_commit.specs.Layout.{together, item_chains, entries_of, IsVersionOf, IsLaid};
-ghost use Rattle.prepare_commit.specs.Lists.{SameMembers};
-ghost use Rattle.prepare_commit.specs.declared.items.KnownItem.{KnownItem};
 
 use crate::held::Held;
 use crate::items::{self, ChainedItem, ItemList};
@@ -76,21 +74,12 @@ pub(crate) fn add_versions(
     versions: &VersionList,
     places: &[StampedPlace],
 )
-    requires share { HaveShare block.old held.old }
-    requires laid { IsLaid items.now.items (lists_of block.old held.old) }
-    requires within { length items.now.items ≤ length (lists_of block.old held.old) }
+    requires chains { HaveChains items.now.items block.old held.old }
     requires empty { together (item_chains items.now.items (lists_of block.old held.old)) ≡ [] }
     requires none { held.old.chains.used ≡ 0 }
-    requires fits { length versions.now ≤ held.old.chains.share }
-    requires ordered { AreOrdered IsBefore versions.now }
-    requires each { NameEach places.now versions.now }
-    requires known { All (λ v. HasEntry (entries_of items.now.items) v.prepared.key) versions.now }
-    ensures changed { ChangesVersions block.old held.old block.new held.new }
-    ensures laid { IsLaid items.now.items (lists_of block.new held.new) }
-    ensures members { SameMembers
-        (together (item_chains items.now.items (lists_of block.new held.new)))
-        versions.now }
-    ensures used { held.new.chains.used ≡ length versions.now }
+    requires versions { CanBePut items.now.items held.old versions.now places.now }
+    ensures { HavePut items.now.items block.old held.old block.new held.new
+        versions.now (length versions.now) }
 {
     for stamped in places {
         let place = stamped.place as usize;
@@ -100,19 +89,14 @@ pub(crate) fn add_versions(
 
 /// Puts a version with its mark into the chain of its item, which has none of its stamp.
 fn add_version(block: &mut Block, items: &ItemList, held: &mut Versions, version: &Version)
-    requires share { HaveShare block.old held.old }
-    requires laid { IsLaid items.now.items (lists_of block.old held.old) }
-    requires within { length items.now.items ≤ length (lists_of block.old held.old) }
+    requires chains { HaveChains items.now.items block.old held.old }
     requires room { held.old.chains.used < held.old.chains.share }
     requires known { HasEntry (entries_of items.now.items) version.now.prepared.key }
     requires missing { version_at version.now.prepared.key version.now.prepared.stamp
         (together (item_chains items.now.items (lists_of block.old held.old))) ≡ None }
-    ensures changed { ChangesVersions block.old held.old block.new held.new }
-    ensures laid { IsLaid items.now.items (lists_of block.new held.new) }
-    ensures members { SameMembers
-        (together (item_chains items.now.items (lists_of block.new held.new)))
-        (version.now ∷ together (item_chains items.now.items (lists_of block.old held.old))) }
-    ensures used { held.new.chains.used ≡ held.old.chains.used + 1 }
+    ensures { let all = together (item_chains items.now.items (lists_of block.old held.old)) in
+        HavePut items.now.items block.old held.old block.new held.new
+        (version.now ∷ all) (held.old.chains.used + 1) }
 {
     let Ok(place) = items::search(items, &version.prepared.key) else {
         unreachable!()
@@ -127,14 +111,7 @@ pub(crate) fn index_latest(block: &Block, items: &ItemList, held: &Versions, ind
     requires within { length items.now.items ≤ length (lists_of block.now held.now) }
     requires room { length items.now.items ≤ index.old.room }
     requires empty { index.old.tags ≡ map.empty }
-    ensures room { index.new.room ≡ index.old.room }
-    ensures knows { KnowsItems index.new.tags (entries_of items.now.items) }
-    ensures known { (key : List ℕ) → IsTrue (map.contains_key index.new.tags key)
-        → HasEntry (entries_of items.now.items) key }
-    ensures right { let all = together
-        (item_chains items.now.items (lists_of block.now held.now)) in
-        All (λ (e : KnownItem). IsTagOf e.key all (tag_of index.new.tags e.key))
-        (entries_of items.now.items) }
+    ensures { IndexesLatest items.now.items block.now held.now index.old index.new }
 {
     for place in 0..items.len() {
         let item = items.get(place);

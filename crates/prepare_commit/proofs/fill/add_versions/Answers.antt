@@ -12,10 +12,10 @@ use Rattle.prepare_commit.proofs.fill.add_versions.Goals.{After-stamped-item, Af
 
 pub loop-stamped-init : goal.loop-stamped-init
 loop-stamped-init c =
-    (c.requires.share.lies, own_none c.args.block.now c.args.held.now.chains, c.requires.laid, λ d test. ap (count_by test) c.requires.empty, c.requires.none)
+    (c.requires.chains.share.lies, own_none c.args.block.now c.args.held.now.chains, c.requires.chains.laid, λ d test. ap (count_by test) c.requires.empty, c.requires.none)
 
 below : (c : After-stamped-item) → c.stamped-item.result.place < length c.args.versions.now
-below c = let less = c.requires.each.within c.loop-stamped.stamped-index c.stamped-item.result c.loop-stamped-test.true in subst (λ p. p.place < length c.args.versions.now) (sym c.stamped-item.is) less
+below c = let less = c.requires.versions.each.within c.loop-stamped.stamped-index c.stamped-item.result c.loop-stamped-test.true in subst (λ p. p.place < length c.args.versions.now) (sym c.stamped-item.is) less
 
 pub version-requires : goal.version-requires
 version-requires c = below (goal.at.version-requires c).After-stamped-item
@@ -25,7 +25,7 @@ found c = sym (get_or_from_slice_get c.args.versions.now c.stamped-item.result.p
 
 next : (d : Version) (c : After-version) → c.version.result ≡ get_or (named d c.args.versions.now c.args.places.now) c.loop-stamped.stamped-index c.version.result
 next d c =
-    let less = c.requires.each.within c.loop-stamped.stamped-index c.stamped-item.result c.loop-stamped-test.true in
+    let less = c.requires.versions.each.within c.loop-stamped.stamped-index c.stamped-item.result c.loop-stamped-test.true in
     named_next d c.args.versions.now c.args.places.now c.loop-stamped.stamped-index c.stamped-item.result c.version.result c.loop-stamped-test.true c.stamped-item.is (subst (λ p. p.place < length c.args.versions.now) (sym c.stamped-item.is) less) (found c)
 
 within : (d : Version) (c : After-version) → c.loop-stamped.stamped-index < length (named d c.args.versions.now c.args.places.now)
@@ -37,14 +37,16 @@ add_version-requires c =
     let so_far = c.loop-stamped.invariant in
     let v = c.version.result in
     record {
-      share = record { lies = so_far.0; share = share_kept _ _ _ _ so_far.1 c.requires.share.share };
-      laid = so_far.2;
-      within = omega (arith, c.requires.within, lists_long _ _ _ _ so_far.1);
-      room = omega (arith, so_far.4, c.loop-stamped-test.true, names_many c.args.versions.now c.args.places.now c.requires.each, c.requires.fits, so_far.1.shape.share);
-      known = subst (λ (v : Version). HasEntry (entries_of c.args.items.now.items) v.prepared.key) (sym (found at)) (c.requires.known c.stamped-item.result.place v (below (goal.at.add_version-requires c).After-stamped-item));
+      chains = record {
+        share = record { lies = so_far.0; share = share_kept _ _ _ _ so_far.1 c.requires.chains.share.share };
+        laid = so_far.2;
+        within = omega (arith, c.requires.chains.within, lists_long _ _ _ _ so_far.1);
+      };
+      room = omega (arith, so_far.4, c.loop-stamped-test.true, names_many c.args.versions.now c.args.places.now c.requires.versions.each, c.requires.versions.fits, so_far.1.shape.share);
+      known = subst (λ (v : Version). HasEntry (entries_of c.args.items.now.items) v.prepared.key) (sym (found at)) (c.requires.versions.known c.stamped-item.result.place v (below (goal.at.add_version-requires c).After-stamped-item));
       missing =
           next_is_missing (named v c.args.versions.now c.args.places.now) (together (item_chains c.args.items.now.items (chain_lists c.loop-stamped.block c.loop-stamped.held.chains))) c.loop-stamped.stamped-index
-          (members_apart (named v c.args.versions.now c.args.places.now) c.args.versions.now (c.requires.each.each v) (ordered_apart c.args.versions.now c.requires.ordered)) (within v at) (so_far.3 v) v (next v at);
+          (members_apart (named v c.args.versions.now c.args.places.now) c.args.versions.now (c.requires.versions.each.each v) (ordered_apart c.args.versions.now c.requires.versions.ordered)) (within v at) (so_far.3 v) v (next v at);
     }
 
 pub loop-stamped-preserved : goal.loop-stamped-preserved
@@ -58,15 +60,18 @@ loop-stamped-preserved c =
       omega (arith, done.used, c.loop-stamped.invariant.4),
     )
 
-pub returns-clause-changed : goal.returns-clause-changed
-returns-clause-changed c = record { lies = c.loop-stamped.invariant.0; own = c.loop-stamped.invariant.1 }
-
-pub returns-clause-members : goal.returns-clause-members
-returns-clause-members c test =
-    c.loop-stamped.invariant.3 no_version test
-    ∙ ap (count_by test) (take_all c.loop-stamped.stamped-index (named no_version c.args.versions.now c.args.places.now) (omega (arith, c.loop-stamped-test.false, named_long no_version c.args.versions.now c.args.places.now)))
-    ∙ c.requires.each.each no_version test
-
-pub returns-clause-used : goal.returns-clause-used
-returns-clause-used c =
-    omega (arith, c.loop-stamped.invariant.4, c.loop-stamped-test.false, c.loop-stamped.auto.stamped-index-end, names_many c.args.versions.now c.args.places.now c.requires.each)
+pub returns : goal.returns
+returns c =
+    let so_far = c.loop-stamped.invariant in
+    let versions = c.args.versions.now in
+    let places = c.args.places.now in
+    let each = c.requires.versions.each in
+    record {
+      changed = record { lies = so_far.0; own = so_far.1 };
+      laid = so_far.2;
+      members = λ test.
+          so_far.3 no_version test
+          ∙ ap (count_by test) (take_all c.loop-stamped.stamped-index (named no_version versions places) (omega (arith, c.loop-stamped-test.false, named_long no_version versions places)))
+          ∙ each.each no_version test;
+      used = omega (arith, so_far.4, c.loop-stamped-test.false, c.loop-stamped.auto.stamped-index-end, names_many versions places each);
+    }

@@ -53,9 +53,15 @@ loop-place-preserved c =
       right_more items chains c.requires.laid k i within is tag tags c.loop-place.invariant.3 (c.latest_tag.ensures i.entry.key (own_chain items chains c.requires.laid k i within is)),
     )
 
-pub returns-clause-right : goal.returns-clause-right
-returns-clause-right c =
+pub returns : goal.returns
+returns c =
     let items = c.args.items.now.items in
     let all = together (item_chains items (chain_lists c.args.block.now c.args.held.now.chains)) in
-    All-map (λ (e : KnownItem). IsTagOf e.key all (tag_of c.loop-place.index.tags e.key)) (λ (i : ChainedItem). i.entry) items
-    (subst (AreRight all c.loop-place.index.tags) (take_all c.loop-place.place items (omega (arith, c.loop-place-test.false, c.len-place-end.ensures))) c.loop-place.invariant.3)
+    let so_far = c.loop-place.invariant in
+    record {
+      room = so_far.0;
+      knows = so_far.1;
+      known = so_far.2;
+      right = All-map (λ (e : KnownItem). IsTagOf e.key all (tag_of c.loop-place.index.tags e.key)) (λ (i : ChainedItem). i.entry) items
+          (subst (AreRight all c.loop-place.index.tags) (take_all c.loop-place.place items (omega (arith, c.loop-place-test.false, c.len-place-end.ensures))) so_far.3);
+    }

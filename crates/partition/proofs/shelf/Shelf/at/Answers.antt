@@ -14,9 +14,9 @@ invariant_of-result c =
     let cell = c.in_ok-cell.cell in
     let told = c.in_ok-cell.ensures in
     let enough : c.args.base.now.room.slots ≤ c.max.result = omega (arith, c.max.ensures, c.slots-slots.ensures.slots) in
-    let used = told.chains.2 in (
+    let used = told.opened.used in (
       subst (λ (cells : List Parts). AreInBlock c.at.new.block cells) (sym (one (goal.at.invariant_of-result c).After-push_reserved))
-          (in_block_alone c.in_ok-block.block c.at.new.block c.max.result c.args.base.now.room.slots cell c.in_ok-block.ensures enough told.others told.lies told.chains.0 told.chains.1 (omega (arith, told.live, used))),
+          (in_block_alone c.in_ok-block.block c.at.new.block c.max.result c.args.base.now.room.slots cell c.in_ok-block.ensures enough told.others told.opened.lies told.chains.0 told.chains.1 (omega (arith, told.live, used))),
       omega (arith, c.push_reserved.ensures.len, c.in_ok-cells.ensures.len),
     )
 
@@ -26,8 +26,8 @@ returns-clause-tenants c = ap (λ (xs : List Parts). length xs) (one (goal.at.re
 
 pub returns-clause-room : goal.returns-clause-room
 unfolding room_of
-returns-clause-room c = rw (one (goal.at.returns-clause-room c).After-push_reserved) c.in_ok-cell.ensures.room
+returns-clause-room c = rw (one (goal.at.returns-clause-room c).After-push_reserved) c.in_ok-cell.ensures.opened.room
 
 pub returns-clause-stands : goal.returns-clause-stands
 unfolding StandsFor
-returns-clause-stands c = rw (one (goal.at.returns-clause-stands c).After-push_reserved) c.in_ok-cell.ensures.stands
+returns-clause-stands c = rw (one (goal.at.returns-clause-stands c).After-push_reserved) c.in_ok-cell.ensures.opened.stands

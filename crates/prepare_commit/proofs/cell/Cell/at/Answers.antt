@@ -26,9 +26,9 @@ fill-requires c =
 pub returns-clause-chains : goal.returns-clause-chains
 returns-clause-chains c =
     let at = (goal.at.returns-clause-chains c).In_ok-cell in
-    (c.fill.ensures.own.shape.tenant ∙ c.in_ok-cell.ensures.tenant, c.fill.ensures.own.shape.share ∙ (new at).share, c.fill.ensures.used)
+    (c.fill.ensures.own.shape.tenant ∙ c.in_ok-cell.ensures.tenant, c.fill.ensures.own.shape.share ∙ (new at).share)
 
 pub returns-clause-live : goal.returns-clause-live
 returns-clause-live c =
     let at = (goal.at.returns-clause-live c).In_ok-cell in
-    omega (arith, c.fill.ensures.own.live, c.fill.ensures.used, (new at).used)
+    omega (arith, c.fill.ensures.own.live, c.fill.ensures.opened.used, (new at).used)

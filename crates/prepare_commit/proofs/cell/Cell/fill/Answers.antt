@@ -89,18 +89,22 @@ pub add_versions-requires : goal.add_versions-requires
 add_versions-requires c =
     let at = (goal.at.add_versions-requires c).After-add_items in
     record {
-      share = record {
-        lies = (new at).lies c.args.block.now (subst (λ (p : Parts). count_by (is_of_tenant p.chains.tenant) c.args.block.now ≡ 0) (sym c.self.view_is) c.requires.none);
-        share = subst (λ (p : Parts). HasShare c.args.block.now p.chains) (sym c.self.view_is) c.requires.share;
+      chains = record {
+        share = record {
+          lies = (new at).lies c.args.block.now (subst (λ (p : Parts). count_by (is_of_tenant p.chains.tenant) c.args.block.now ≡ 0) (sym c.self.view_is) c.requires.none);
+          share = subst (λ (p : Parts). HasShare c.args.block.now p.chains) (sym c.self.view_is) c.requires.share;
+        };
+        laid = numbered_laid (items at) (lists at) (none at) (subst (AreOrdered IsEntryBefore) (sym (entries_are at)) c.base.invariant.1.entries_ordered) c.add_items.ensures.chains;
+        within = few at;
       };
-      laid = numbered_laid (items at) (lists at) (none at) (subst (AreOrdered IsEntryBefore) (sym (entries_are at)) c.base.invariant.1.entries_ordered) c.add_items.ensures.chains;
-      within = few at;
       empty = nothing_together (items at) (lists at) (none at);
       none = (new at).used;
-      fits = omega (arith, c.base.invariant.1.slots, (new at).share, ap length (versions_are at));
-      ordered = rw (versions_are at) c.base.invariant.1.versions_ordered;
-      each = rw c.requires.versions c.requires.each;
-      known = rw (versions_are at, entries_are at) (versions_known (held at) c.base.invariant.1.has_log);
+      versions = record {
+        fits = omega (arith, c.base.invariant.1.slots, (new at).share, ap length (versions_are at));
+        ordered = rw (versions_are at) c.base.invariant.1.versions_ordered;
+        each = rw c.requires.versions c.requires.each;
+        known = rw (versions_are at, entries_are at) (versions_known (held at) c.base.invariant.1.has_log);
+      };
     }
 
 pub index_latest-requires : goal.index_latest-requires
@@ -141,23 +145,25 @@ returns c =
     let versions = filled_versions block heads (items at) base put.laid within members put.changed.lies.stands c.base.invariant.1.versions_ordered in
     let marks = c.add_marks.ensures.added ∙ c.deref.ensures.value in
     record {
-      room = room ∙ ap (λ (b : Frozen). b.room) c.base.view_is;
       own = subst (λ (p : Parts). ChangesOwn c.args.block.now block p.chains heads) c.self.view_is put.changed.own;
-      used = used ∙ ap (λ (b : Frozen). length b.versions) c.base.view_is;
-      lies = record {
-        versions = put.changed.lies;
-        remembers = λ keep e. not_yet keep (sym (new at).not_collected ∙ e);
-        remembers_least = λ keep e. not_yet keep (sym (new at).none_collected ∙ e);
-        since = kept_noted_all (begun_by c.self.inside.last_base) c.note_all.new.self (items at) (chain_lists block heads)
-            (λ chain less. c.note_all.ensures.noted chain (omega (arith, less, c.note_all.ensures.long)))
-            (λ k d w. (let given = put.laid.given k d w in omega (arith, given, few at, long at, c.note_all.ensures.long, c.self.invariant.8, ap (λ (r : Room). r.items) room)));
-        holds =
-            filled_holds block heads (items at) base put.laid within members c.self.inside.slots c.self.inside.items index used (omega (arith, c.base.invariant.1.slots, ap (λ (r : Room). r.slots) room))
-            (put.changed.own.shape.share ∙ (new at).share ∙ sym (ap (λ (r : Room). r.slots) room)) (lists_long _ _ _ _ put.changed.own ∙ long at ∙ sym (ap (λ (r : Room). r.items) room)) c.index_latest.ensures.knows
-            (c.index_latest.ensures.room ∙ ap (λ (i : Index). i.room) (new at).index ∙ sym (ap (λ (r : Room). r.items) room));
+      opened = record {
+        room = room ∙ ap (λ (b : Frozen). b.room) c.base.view_is;
+        used = used ∙ ap (λ (b : Frozen). length b.versions) c.base.view_is;
+        lies = record {
+          versions = put.changed.lies;
+          remembers = λ keep e. not_yet keep (sym (new at).not_collected ∙ e);
+          remembers_least = λ keep e. not_yet keep (sym (new at).none_collected ∙ e);
+          since = kept_noted_all (begun_by c.self.inside.last_base) c.note_all.new.self (items at) (chain_lists block heads)
+              (λ chain less. c.note_all.ensures.noted chain (omega (arith, less, c.note_all.ensures.long)))
+              (λ k d w. (let given = put.laid.given k d w in omega (arith, given, few at, long at, c.note_all.ensures.long, c.self.invariant.8, ap (λ (r : Room). r.items) room)));
+          holds =
+              filled_holds block heads (items at) base put.laid within members c.self.inside.slots c.self.inside.items index used (omega (arith, c.base.invariant.1.slots, ap (λ (r : Room). r.slots) room))
+              (put.changed.own.shape.share ∙ (new at).share ∙ sym (ap (λ (r : Room). r.slots) room)) (lists_long _ _ _ _ put.changed.own ∙ long at ∙ sym (ap (λ (r : Room). r.items) room)) c.index_latest.ensures.knows
+              (c.index_latest.ensures.room ∙ ap (λ (i : Index). i.room) (new at).index ∙ sym (ap (λ (r : Room). r.items) room));
+        };
+        holds = (λ i. record { room = room i; versions = versions i; entries = entries_are at i; marks = marks i }) ∙ c.base.view_is;
+        stands = λ log leaves.
+            filled_stands _ (held at) versions (entries_are at) (ap marks_of marks) (all_written (items at) (chain_lists block heads) put.laid) c.index_latest.ensures.known c.index_latest.ensures.right log
+            (subst (λ (b : Frozen). Leaves b log) (sym c.base.view_is) leaves);
       };
-      holds = (λ i. record { room = room i; versions = versions i; entries = entries_are at i; marks = marks i }) ∙ c.base.view_is;
-      stands = λ log leaves.
-          filled_stands _ (held at) versions (entries_are at) (ap marks_of marks) (all_written (items at) (chain_lists block heads) put.laid) c.index_latest.ensures.known c.index_latest.ensures.right log
-          (subst (λ (b : Frozen). Leaves b log) (sym c.base.view_is) leaves);
     }
