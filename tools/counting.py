@@ -14,6 +14,7 @@ MODEL = "oracle"
 REQUIRED = {"StandsFor"}
 """What several crates are to define, each of itself."""
 
+MOST_CLAUSES = 10
 FUNCTION = re.compile(r"\s*(?:pub(?:\([a-z ]+\))? )?(?:const )?(?:unsafe )?fn \w+")
 CLAUSE = re.compile(r"\s*(?:requires|ensures)\b")
 TYPE = re.compile(r"(?:pub(?:\([a-z ]+\))? )?(?:struct|enum|union|trait|type) (\w+)")
@@ -109,6 +110,16 @@ def clauses_over(sources, columns):
     return [f"{where}: {widest} columns" for where, widest in clauses(sources) if widest > columns]
 
 
+def crowded(sources):
+    """Each function with more clauses than a reader keeps in mind."""
+    for path, text in sources.code.items():
+        starts = [number for number, line in enumerate(text) if FUNCTION.match(line)]
+        for start, end in zip(starts, [*starts[1:], len(text)]):
+            count = sum(1 for line in text[start:end] if CLAUSE.match(line))
+            if count > MOST_CLAUSES:
+                yield place(path, start + 1, f"{count} clauses")
+
+
 def names(sources):
     """Each name of a type that stands for several things: it is declared in several places of the code, or of crates whose code has none of
     that name. The definition of a crate that has the name of a type in its code is of that type."""
@@ -176,6 +187,7 @@ def edits(_):
 COUNTS = {
     "functions": ("functions", functions),
     "clauses": ("clauses of contracts", lambda it: [where for where, _ in clauses(it)]),
+    "crowded": (f"functions with over {MOST_CLAUSES} clauses", lambda it: list(crowded(it))),
     "clauses_over_100": ("clauses with a line of over 100 columns", lambda it: clauses_over(it, 100)),
     "clauses_over_160": ("clauses with a line of over 160 columns", lambda it: clauses_over(it, 160)),
     "names": ("names of types with several meanings", names),
