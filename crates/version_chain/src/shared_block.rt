@@ -76,7 +76,7 @@ impl Block {
         requires { live_count self.old < length self.old }
         ensures was_free { (result < length self.old) × (entry self.old result ≡ None) }
         ensures put { let version : Version
-                = record { prepared = prepared.now; committed = committed } in
+            = record { prepared = prepared.now; committed = committed } in
             let node : Node = record { version = version; tenant = tenant; chain = chain } in
             self.new ≡ slice_set self.old result (Some (node, next)) }
     {
