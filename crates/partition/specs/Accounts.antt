@@ -137,6 +137,15 @@ AreSound accounts =
 
 -- ---- the end of an epoch
 
+-- the epoch has what the account had, and the next one begins, without an event, at the content to which it led
+pub record EndsEpoch (old new : Account) (epoch : Epoch) : Type 0 where
+  pub number : epoch.number ≡ old.start.number
+  pub base : epoch.base ≡ old.start.base
+  pub events : epoch.events.items ≡ old.events
+  pub sound : IsSoundFrom epoch.base epoch.events.items
+  pub blank : new.events ≡ []
+  pub begun : (end : Frozen) × IsEnd old.start.base old.events end × (new ≡ next_account old end)
+
 -- the epoch has what the tenant's account had, and the next one begins at the content to which it led
 pub record IsCut (old new : List Account) (tenant : ℕ) (epoch : Epoch) : Type 0 where
   pub given : (account : Account) → slice_get old tenant ≡ Some account

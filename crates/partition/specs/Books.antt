@@ -35,6 +35,12 @@ ArePaired cells tenant account table = ⊥
 abbrev pub IsCounted : Account → Type 0
 IsCounted account = (account.start.before ≤ 2 ^ 62) × (account.start.number ≤ 2 ^ 62 + 1)
 
+-- a tenant's cell, its journal and its table are so kept, and the journal has no more places and epochs than it may have
+pub record IsKeptCounted {S : Type 0} (cells : ShelfCells) (tenant : ℕ) (account : Account) (lasts : IndexMap ℕ ℕ S)
+    : Type 0 where
+  pub kept : IsKept cells tenant account lasts
+  pub counted : IsCounted account
+
 -- a book: its cells, its accounts and its tables agree tenant by tenant, and its counts are those of the events
 pub record IsBook {S : Type 0} (cells : ShelfCells) (accounts : List Account) (tables : List (IndexMap ℕ ℕ S))
     (of_seats of_collector : ℕ) : Type 0 where

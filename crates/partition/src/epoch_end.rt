@@ -1,9 +1,7 @@
 //! The end of one epoch of a tenant, and the beginning of the next.
-ghost use Rattle.std.specs.Prelude.{◌≡◌, ◌+◌, ◌≤◌, ◌^◌, ◌↔◌, ◌⊎◌, ◌<◌, [], length, IfOk, IfErr, OnErr, IsErrOf};
-ghost use Rattle.prepare_commit.specs.Bases.{Frozen};
-ghost use Rattle.partition.specs.Journals.{IsSoundFrom, IsEnd};
-ghost use Rattle.partition.specs.Accounts.{account_of, next_account, IsPast};
-ghost use Rattle.partition.specs.Books.{IsKept, IsCounted};
+ghost use Rattle.std.specs.Prelude.{◌≡◌, ◌^◌, ◌↔◌, ◌⊎◌, ◌<◌, length, IfOk, IfErr, OnErr, IsErrOf};
+ghost use Rattle.partition.specs.Accounts.{account_of, EndsEpoch, IsPast};
+ghost use Rattle.partition.specs.Books.{IsKeptCounted};
 ghost use Rattle.partition.specs.Shelf.{contents};
 
 use crate::enter::LastNumbers;
@@ -23,22 +21,14 @@ pub(crate) fn end_epoch(
     lasts: &mut LastNumbers,
     tenant: u32,
 ) -> Result<Epoch, Refusal>
-    requires kept { IsKept shelf.old tenant (account_of journal.old) lasts.old }
-    requires counted { IsCounted (account_of journal.old) }
+    requires { IsKeptCounted shelf.old tenant (account_of journal.old) lasts.old }
 
-    ensures kept { IsKept shelf.new tenant (account_of journal.new) lasts.new }
+    ensures whole { IsKeptCounted shelf.new tenant (account_of journal.new) lasts.new }
     ensures same { contents shelf.new ≡ contents shelf.old }
     ensures limits { journal.new.limits ≡ journal.old.limits }
     ensures short { length journal.new.events.items < 2 ^ 63 }
-    ensures counted { IsCounted (account_of journal.new) }
-    ensures number { IfOk result (λ e. e.number ≡ journal.old.number) }
-    ensures base { IfOk result (λ e. e.base ≡ journal.old.base) }
-    ensures events { IfOk result (λ e. e.events.items ≡ journal.old.events.items) }
-    ensures sound { IfOk result (λ e. IsSoundFrom e.base e.events.items) }
-    ensures blank { IfOk result (λ _. journal.new.events.items ≡ []) }
-    ensures begun { IfOk result (λ _. (base : Frozen)
-        × IsEnd journal.old.base journal.old.events.items base
-        × (account_of journal.new ≡ next_account (account_of journal.old) base)) }
+    ensures ended { IfOk result
+        (λ epoch. EndsEpoch (account_of journal.old) (account_of journal.new) epoch) }
 
     ensures past { IsErrOf result Refusal.RowsUsed ↔ IsPast (account_of journal.old) }
     ensures refusals { IfErr result (λ e. (e ≡ Refusal.RowsUsed) ⊎ (e ≡ Refusal.OutOfMemory)) }

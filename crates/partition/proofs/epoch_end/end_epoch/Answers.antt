@@ -1,4 +1,4 @@
-use Rattle.std.proofs.Common.{rules, ◌≡◌, ◌+◌, ℕ, [], None, nat_eq, length, sym, subst}
+use Rattle.std.proofs.Common.{rules, ◌≡◌, ◌+◌, ℕ, [], None, nat_eq, length, refl, sym, subst}
 use Rattle.indexmap.specs.IndexMap.{get}
 use Rattle.partition.specs.Accounts.{Account, account_of, next_account}
 use Rattle.partition.specs.Books.{IsKept}
@@ -17,18 +17,31 @@ next_is c =
     let blank : [] ≡ c.take_on-events.new.self.items = sym c.take_on-events.ensures.empty in
     λ i. record { limits = c.args.journal.now.limits; start = record { number = c.args.journal.now.number + 1; before = c.args.journal.now.before + long i; base = begun i }; events = blank i }
 
-pub returns-clause-kept : goal.returns-clause-kept
-returns-clause-kept c =
-    let at = (goal.at.returns-clause-kept c).After-drop-lasts-4 in
+pub returns-clause-whole : goal.returns-clause-whole
+returns-clause-whole c =
+    let at = (goal.at.returns-clause-whole c).After-drop-lasts-4 in
     let none : (seat : ℕ) → get nat_eq c.new.result seat ≡ None = search rules in
-    subst (λ (a : Account). IsKept c.base.new.self c.args.tenant a c.new.result) (next_is at)
-    (same_kept c.args.shelf.now c.base.new.self c.args.tenant _ c.new.result c.base.ensures.same
-    (next_kept c.args.shelf.now c.args.tenant (account_of c.args.journal.now) c.args.lasts.now c.requires.kept c.in-Ok.base c.in-Ok.ensures.base c.new.result c.new.ensures.unique none))
+    record {
+      kept = subst (λ (a : Account). IsKept c.base.new.self c.args.tenant a c.new.result) (next_is at)
+          (same_kept c.args.shelf.now c.base.new.self c.args.tenant _ c.new.result c.base.ensures.same
+          (next_kept c.args.shelf.now c.args.tenant (account_of c.args.journal.now) c.args.lasts.now c.requires.kept c.in-Ok.base c.in-Ok.ensures.base c.new.result c.new.ensures.unique none));
+      counted = search rules;
+    }
 
-pub returns-in_default-clause-kept : goal.returns-in_default-clause-kept
-returns-in_default-clause-kept c = same_kept c.args.shelf.now c.base.new.self c.args.tenant (account_of c.args.journal.now) c.args.lasts.now c.base.ensures.same c.requires.kept
+pub returns-clause-ended : goal.returns-clause-ended
+returns-clause-ended c =
+    let at = (goal.at.returns-clause-ended c).After-drop-lasts-4 in
+    record {
+      number = refl;
+      base = search rules;
+      events = search rules;
+      sound = search rules;
+      blank = c.take_on-events.ensures.empty;
+      begun = (c.in-Ok.base, ended c.args.shelf.now c.args.tenant (account_of c.args.journal.now) c.args.lasts.now c.requires.kept c.in-Ok.base c.in-Ok.ensures.base, sym (next_is at));
+    }
 
-pub returns-clause-begun : goal.returns-clause-begun
-returns-clause-begun c =
-    let at = (goal.at.returns-clause-begun c).After-drop-lasts-4 in
-    (c.in-Ok.base, ended c.args.shelf.now c.args.tenant (account_of c.args.journal.now) c.args.lasts.now c.requires.kept c.in-Ok.base c.in-Ok.ensures.base, sym (next_is at))
+pub returns-in_default-clause-whole : goal.returns-in_default-clause-whole
+returns-in_default-clause-whole c = record {
+  kept = same_kept c.args.shelf.now c.base.new.self c.args.tenant (account_of c.args.journal.now) c.args.lasts.now c.base.ensures.same c.requires.kept;
+  counted = c.requires.counted;
+}

@@ -19,18 +19,14 @@ index_mut-lasts-requires c =
     let within = table_within b.shelf b.journals.items b.lasts.items b.of_seats b.of_collector c.args.tenant c.self.invariant c.index_mut-journal.result.now (there at) c.index_mut-journal.ensures.value in
     omega (arith, within, b.lasts.ok.0)
 
-pub end_epoch-requires-clause-kept : goal.end_epoch-requires-clause-kept
-end_epoch-requires-clause-kept c =
+pub end_epoch-requires : goal.end_epoch-requires
+end_epoch-requires c =
     let b = c.self.inside in
-    let at = (goal.at.end_epoch-requires-clause-kept c).After-index_mut-journal in
-    kept_read b.shelf b.journals.items b.lasts.items b.of_seats b.of_collector c.args.tenant c.self.invariant c.index_mut-journal.result.now (there at) c.index_mut-journal.ensures.value
-    c.index_mut-lasts.result.now c.index_mut-lasts.ensures.value
-
-pub end_epoch-requires-clause-counted : goal.end_epoch-requires-clause-counted
-end_epoch-requires-clause-counted c =
-    let b = c.self.inside in
-    let at = (goal.at.end_epoch-requires-clause-counted c).After-index_mut-journal in
-    counted_read b.shelf b.journals.items b.lasts.items b.of_seats b.of_collector c.args.tenant c.self.invariant c.index_mut-journal.result.now (there at) c.index_mut-journal.ensures.value
+    let at = (goal.at.end_epoch-requires c).After-index_mut-journal in
+    record {
+      kept = kept_read b.shelf b.journals.items b.lasts.items b.of_seats b.of_collector c.args.tenant c.self.invariant c.index_mut-journal.result.now (there at) c.index_mut-journal.ensures.value c.index_mut-lasts.result.now c.index_mut-lasts.ensures.value;
+      counted = counted_read b.shelf b.journals.items b.lasts.items b.of_seats b.of_collector c.args.tenant c.self.invariant c.index_mut-journal.result.now (there at) c.index_mut-journal.ensures.value;
+    }
 
 changes : (c : After-end_epoch) → Changes c.self.inside.shelf c.end_epoch.new.shelf c.self.inside.journals.items c.self.inside.lasts.items c.args.tenant c.index_mut-journal.result.now c.end_epoch.new.journal c.end_epoch.new.lasts
 changes c =
@@ -43,9 +39,9 @@ changes c =
       limits = c.end_epoch.ensures.limits;
       others = same_others b.shelf c.end_epoch.new.shelf c.args.tenant c.end_epoch.ensures.same;
       tenants = same_tenants b.shelf c.end_epoch.new.shelf c.end_epoch.ensures.same;
-      kept = c.end_epoch.ensures.kept;
+      kept = c.end_epoch.ensures.whole.kept;
       short = c.end_epoch.ensures.short;
-      counted = c.end_epoch.ensures.counted;
+      counted = c.end_epoch.ensures.whole.counted;
     }
 
 -- what the tenant's account says of its counts
@@ -80,8 +76,8 @@ overflow_sub-self c =
     let b = c.self.inside in
     let at = (goal.at.overflow_sub-self c).After-end_epoch in
     let j = c.index_mut-journal.result.now in
-    let less = count_less b.shelf c.end_epoch.new.shelf b.journals.items b.lasts.items c.args.tenant j c.end_epoch.new.journal c.end_epoch.new.lasts (changes at) c.in_ok-epoch.ensures.blank is_of_seat in
-    let counted : c.of_seats.result ≡ count_by is_of_seat j.events.items = c.of_seats.ensures ∙ ap (count_by is_of_seat) c.in_ok-epoch.ensures.events in
+    let less = count_less b.shelf c.end_epoch.new.shelf b.journals.items b.lasts.items c.args.tenant j c.end_epoch.new.journal c.end_epoch.new.lasts (changes at) c.in_ok-epoch.ensures.ended.blank is_of_seat in
+    let counted : c.of_seats.result ≡ count_by is_of_seat j.events.items = c.of_seats.ensures ∙ ap (count_by is_of_seat) c.in_ok-epoch.ensures.ended.events in
     omega (arith, less, counted, c.self.invariant.seats)
 
 pub overflow_sub-self-2 : goal.overflow_sub-self-2
@@ -89,8 +85,8 @@ overflow_sub-self-2 c =
     let b = c.self.inside in
     let at = (goal.at.overflow_sub-self-2 c).After-end_epoch in
     let j = c.index_mut-journal.result.now in
-    let less = count_less b.shelf c.end_epoch.new.shelf b.journals.items b.lasts.items c.args.tenant j c.end_epoch.new.journal c.end_epoch.new.lasts (changes at) c.in_ok-epoch.ensures.blank is_of_collector in
-    let counted : c.of_collector.result ≡ count_by is_of_collector j.events.items = c.of_collector.ensures ∙ ap (count_by is_of_collector) c.in_ok-epoch.ensures.events in
+    let less = count_less b.shelf c.end_epoch.new.shelf b.journals.items b.lasts.items c.args.tenant j c.end_epoch.new.journal c.end_epoch.new.lasts (changes at) c.in_ok-epoch.ensures.ended.blank is_of_collector in
+    let counted : c.of_collector.result ≡ count_by is_of_collector j.events.items = c.of_collector.ensures ∙ ap (count_by is_of_collector) c.in_ok-epoch.ensures.ended.events in
     omega (arith, less, counted, c.self.invariant.collector)
 
 pub invariant_of-self-2 : goal.invariant_of-self-2
@@ -98,9 +94,9 @@ invariant_of-self-2 c =
     let b = c.self.inside in
     let at = (goal.at.invariant_of-self-2 c).After-end_epoch in
     let j = c.index_mut-journal.result.now in
-    let seats : c.of_seats.result ≡ count_by is_of_seat j.events.items = c.of_seats.ensures ∙ ap (count_by is_of_seat) c.in_ok-epoch.ensures.events in
-    let collector : c.of_collector.result ≡ count_by is_of_collector j.events.items = c.of_collector.ensures ∙ ap (count_by is_of_collector) c.in_ok-epoch.ensures.events in
-    book_cut b.shelf c.end_epoch.new.shelf b.journals.items b.lasts.items c.args.tenant j c.end_epoch.new.journal c.end_epoch.new.lasts (changes at) c.in_ok-epoch.ensures.blank b.of_seats b.of_collector _ _ c.self.invariant
+    let seats : c.of_seats.result ≡ count_by is_of_seat j.events.items = c.of_seats.ensures ∙ ap (count_by is_of_seat) c.in_ok-epoch.ensures.ended.events in
+    let collector : c.of_collector.result ≡ count_by is_of_collector j.events.items = c.of_collector.ensures ∙ ap (count_by is_of_collector) c.in_ok-epoch.ensures.ended.events in
+    book_cut b.shelf c.end_epoch.new.shelf b.journals.items b.lasts.items c.args.tenant j c.end_epoch.new.journal c.end_epoch.new.lasts (changes at) c.in_ok-epoch.ensures.ended.blank b.of_seats b.of_collector _ _ c.self.invariant
     (ap (λ n. b.of_seats - n) seats) (ap (λ n. b.of_collector - n) collector)
 
 some_is : {x y : Account} → Some x ≡ Some y → x ≡ y
@@ -112,17 +108,17 @@ returns-clause-cut c =
     let at = (goal.at.returns-clause-cut c).After-end_epoch in
     let j = c.index_mut-journal.result.now in
     let was = was_account b.shelf c.end_epoch.new.shelf b.journals.items b.lasts.items c.args.tenant j c.end_epoch.new.journal c.end_epoch.new.lasts (changes at) in
-    let begun = c.in_ok-epoch.ensures.begun in
+    let begun = c.in_ok-epoch.ensures.ended.begun in
     rw (← c.self.view_is) (record {
       given = λ account is.
           let same = some_is (sym was ∙ is) in
-          (c.in_ok-epoch.ensures.number ∙ ap (λ (a : Account). a.start.number) same, c.in_ok-epoch.ensures.base ∙ ap (λ (a : Account). a.start.base) same, c.in_ok-epoch.ensures.events ∙ ap (λ (a : Account). a.events) same);
+          (c.in_ok-epoch.ensures.ended.number ∙ ap (λ (a : Account). a.start.number) same, c.in_ok-epoch.ensures.ended.base ∙ ap (λ (a : Account). a.start.base) same, c.in_ok-epoch.ensures.ended.events ∙ ap (λ (a : Account). a.events) same);
       begun = λ account is.
           subst (λ (a : Account). (base : Frozen) × IsEnd a.start.base a.events base × (slice_get (map account_of (set b.journals.items c.args.tenant c.end_epoch.new.journal)) c.args.tenant ≡ Some (next_account a base))) (some_is (sym was ∙ is))
           (begun.0, begun.1, same_account b.shelf c.end_epoch.new.shelf b.journals.items b.lasts.items c.args.tenant j c.end_epoch.new.journal c.end_epoch.new.lasts (changes at) ∙ ap Some begun.2);
       others = other_account b.shelf c.end_epoch.new.shelf b.journals.items b.lasts.items c.args.tenant j c.end_epoch.new.journal c.end_epoch.new.lasts (changes at);
       tenants = as_long b.shelf c.end_epoch.new.shelf b.journals.items b.lasts.items c.args.tenant j c.end_epoch.new.journal c.end_epoch.new.lasts (changes at);
-      sound = c.in_ok-epoch.ensures.sound;
+      sound = c.in_ok-epoch.ensures.ended.sound;
     })
 
 pub returns-clause-past : goal.returns-clause-past
